@@ -16,7 +16,7 @@ KINDS = "BadLine|BadNumber|BadId|BadCpu|TypedItems|DoubleId|TooManyThreads|TooMa
 FAULTS = re.compile(rf"l4run: (line \d+: (?:{KINDS})|schedule item \d+|(?:turns|depth|states) out of range|expectation line \d+: (?:BadLine|Unknown|BadWord|Deleted|Number)|trace line \d+|threads item \d+|refused at step \d+)\n")
 # A line for each fault of a text, or for each doubt, and one for each thread that waits, each circle and each thread's counts.
 LINT = re.compile(rf"line (\d+) column \d+: ({KINDS})(?:: `[ -~]*`)?: [ -~]+".encode())
-DOUBT = re.compile(rb"line \d+ column \d+: perhaps: `[ -~]*`: [ -~]+")
+DOUBT = re.compile(rb"line \d+ column \d+: (?:always|perhaps): `[ -~]*`: [ -~]+")
 BEHIND = rb"(?:waits \S+ \S+ (?:send|receive)\n)*(?:(?:circle|deadlock)(?: \S+)+\n)*(?:counts \S+ turns \d+ sends \d+ delivered \d+ received \d+ refused(?: [2-7]:\d+){6}\n)*"
 PASSED = re.compile(rb"passed \d+ (?:quiet|spent)\n" + BEHIND)
 ENDINGS = re.compile(rb"(^|\n)states \d+ depth \d+ (whole|cut)\n$")

@@ -6,11 +6,11 @@ use Rattle.std.proofs.lemmas.Bool.{eqb-true}
 use Rattle.std.proofs.lemmas.Option.{slice_get_within, get_or_from_slice_get}
 use Rattle.std.proofs.lemmas.Slice.Eq.{bytes_eq-Decides}
 use Rattle.l4_model.specs.Words.{GlobalId, same_id}
-use Rattle.l4_model.specs.Machine.{Machine, Declaration, What, CancelSend, CancelReceive, CancelBoth, Delete, place_of}
-use Rattle.l4_model.specs.World.{Name, Owed, Asked, World, same_name}
+use Rattle.l4_model.specs.Machine.{Machine, Declaration, OrderKind, CancelSend, CancelReceive, CancelBoth, Delete, place_of}
+use Rattle.l4_model.specs.World.{Name, Owed, PendingOrder, World, same_name}
 use Rattle.l4_model.specs.Rules.{received_tag, is_cross}
 use Rattle.l4_model.specs.Conditions.{◌>>=◌, ◌>>◌, Found, Pending, found, undecided, receiver_of, act_of}
-use Rattle.l4_model.specs.Steps.{Step, Local, Begin, Queue, Deliver, Wait, SendTimeout, ReceiveTimeout, SendNobody, ReceiveNobody, SendCancel, ReceiveCancel, Drop, Order, Obey, Tick, Retarget, order_of, next, what_code}
+use Rattle.l4_model.specs.Steps.{Step, Local, Begin, Queue, Deliver, Wait, SendTimeout, ReceiveTimeout, SendNobody, ReceiveNobody, SendCancel, ReceiveCancel, Drop, Order, Obey, Tick, Retarget, order_of, next, order_kind_code}
 use Rattle.l4_model.specs.Reached.{AreNamedOnce}
 use Rattle.l4_model.specs.Still.{is_tick}
 use Rattle.l4_model.proofs.Chains.{bind_then, guard_then, some_is, get-map}
@@ -108,7 +108,7 @@ last_is m w s p is number =
     ap (λ id. name_of id p.sender.now.context.begun) (id_of m w s.thread p.sender (sender_found m w s p is)).0
     ∙ ap (name_of s.thread) (known_send m w s p is).last ∙ named_some s.thread s.k number
 
-what_is : (a b : What) → (what_code a == what_code b) ≡ true → a ≡ b
+what_is : (a b : OrderKind) → (order_kind_code a == order_kind_code b) ≡ true → a ≡ b
 what_is CancelSend CancelSend h = refl
 what_is CancelSend CancelReceive h = cc
 what_is CancelSend CancelBoth h = cc
@@ -153,10 +153,10 @@ delivery_listed m w v s receiver shown actual tag words h number =
     let possible_so : is_some (next m w told) ≡ true = ap (λ x. is_some (next m w x)) (sym same) ∙ ap is_some h in
     subst (λ x. IsListed x (possible m w)) (sym same) (listed_in m w s.thread k.p.sender told (sender_found m w s k.p k.is_undecided) (3, at) possible_so)
 
-order_listed : (m : Machine) (w v : World) (caller target : GlobalId) (what : What) → next m w (Order caller target what) ≡ Some v → IsListed (Order caller target what) (possible m w)
+order_listed : (m : Machine) (w v : World) (caller target : GlobalId) (what : OrderKind) → next m w (Order caller target what) ≡ Some v → IsListed (Order caller target what) (possible m w)
 order_listed m w v caller target what h =
     let k = order_taken m w v caller target what h in
-    let both = and_true (same_id target k.order.target) (what_code what == what_code k.order.what) k.same_order in
+    let both = and_true (same_id target k.order.target) (order_kind_code what == order_kind_code k.order.what) k.same_order in
     let told : Step = Order caller k.order.target k.order.what in
     let same : Order caller target what ≡ told =
     ap (λ x. Order caller x what) (same_id_is target k.order.target both.0) ∙ ap (Order caller k.order.target) (what_is what k.order.what both.1) in
@@ -329,7 +329,7 @@ module _ (os : List Owed) (id : GlobalId) where
       let named = name_is k s is in
       subst (Fits os id 3) (some_is _ step rest) (record { no_tick = refl; number = named.1; owned = λ once. ap Some named.0; ranked = λ once. refl })
 
-  fits_order : (asked : Option Asked) (step : Step) → order id asked ≡ Some step → Fits os id 12 step
+  fits_order : (asked : Option PendingOrder) (step : Step) → order id asked ≡ Some step → Fits os id 12 step
   fits_order None step e = cc
   fits_order (Some o) step e = subst (Fits os id 12) (some_is _ step e) (record { no_tick = refl; number = refl; owned = λ once. refl; ranked = λ once. refl })
 

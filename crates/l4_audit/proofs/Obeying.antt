@@ -2,7 +2,7 @@
 use Rattle.std.proofs.Common.{◌≡◌, ℕ, ◌<◌, ◌≤◌, ◌+◌, ◌^◌, zero, suc, length, map, true, Some, List, [], ◌∷◌, refl, ap, ◌∙◌, arith}
 use Rattle.std.specs.Prelude.{slice_get, IsSomeAnd, is_some}
 use Rattle.l4_model.specs.Words.{GlobalId}
-use Rattle.l4_model.specs.Machine.{Machine, What, CancelSend, CancelReceive, CancelBoth, Delete, place_of}
+use Rattle.l4_model.specs.Machine.{Machine, OrderKind, CancelSend, CancelReceive, CancelBoth, Delete, place_of}
 use Rattle.l4_model.specs.World.{Thread, Context, World, changed}
 use Rattle.l4_model.specs.Effects.{asked}
 use Rattle.l4_model.specs.Conditions.{Found, found}
@@ -10,7 +10,7 @@ use Rattle.l4_model.proofs.Chains.{map-changed_same, get-map, some_is}
 use Rattle.l4_model.proofs.Places.{known, place_id}
 use Rattle.l4_audit.specs.Audited.{Audited, IsAsked, IsPlaced}
 
-asked_context : (what : What) (t : Thread) → (asked what t).context ≡ t.context
+asked_context : (what : OrderKind) (t : Thread) → (asked what t).context ≡ t.context
 asked_context CancelSend t = refl
 asked_context CancelReceive t = refl
 asked_context CancelBoth t = refl
@@ -21,7 +21,7 @@ of_part g P [] i y h p = cc
 of_part g P (x ∷ xs) zero y h p = rw (some_is (g x) y h) p
 of_part g P (x ∷ xs) (suc i) y h p = of_part g P xs i y h p
 
-pub room_to_obey : (a : Audited) (id : GlobalId) (t : Found) (target : ℕ) (what : What) → IsPlaced a → found a.machine a.world id ≡ Some t → IsAsked a.machine t target what →
+pub room_to_obey : (a : Audited) (id : GlobalId) (t : Found) (target : ℕ) (what : OrderKind) → IsPlaced a → found a.machine a.world id ≡ Some t → IsAsked a.machine t target what →
     IsSomeAnd (slice_get (changed (asked what) a.world.threads target) t.at) (λ x. x.context.place + 1 < 2 ^ 64)
 room_to_obey a id t target what placed is asks =
     let w : World = a.world in
@@ -33,6 +33,6 @@ room_to_obey a id t target what placed is asks =
     ap (λ cs. slice_get cs t.at) (map-changed_same (λ (x : Thread). x.context) (asked what) (asked_context what) w.threads target) ∙ get-map (λ (x : Thread). x.context) w.threads t.at t.now now in
     of_part (λ (x : Thread). x.context) (λ (y : Context). y.place + 1 < 2 ^ 64) (changed (asked what) w.threads target) t.at t.now.context e (omega (arith, lt, limit))
 
-pub target_within : (m : Machine) (t : Found) (target : ℕ) (what : What) → IsAsked m t target what → target < length m.threads
+pub target_within : (m : Machine) (t : Found) (target : ℕ) (what : OrderKind) → IsAsked m t target what → target < length m.threads
 target_within m t target what asks =
     (place_id m asks.order.target target asks.place (record { id = asks.order.target; cpu = 0; space = 0; script = [] })).0

@@ -3,8 +3,8 @@ use Rattle.std.proofs.Common.{◌≡◌, ℕ, ◌<◌, zero, suc, Bool, true, fa
 use Rattle.std.specs.Prelude.{slice_get, is_some, unwrap_or}
 use Rattle.std.proofs.lemmas.Option.{slice_get_within}
 use Rattle.l4_model.specs.Words.{GlobalId}
-use Rattle.l4_model.specs.Machine.{Machine, Declaration, Instr, End, What, CancelSend, CancelReceive, CancelBoth, Delete}
-use Rattle.l4_model.specs.World.{Thread, Asked, Send, Receive, Owed, Phase, Ready, Sending, Receiving, Ordering, Ended, Deleted, World, change, changed, opening, opening_thread, unqueued, others_owed, is_ready}
+use Rattle.l4_model.specs.Machine.{Machine, Declaration, Instr, End, OrderKind, CancelSend, CancelReceive, CancelBoth, Delete}
+use Rattle.l4_model.specs.World.{Thread, PendingOrder, Send, Receive, Owed, Phase, Ready, Sending, Receiving, Ordering, Ended, Deleted, World, change, changed, opening, opening_thread, unqueued, others_owed, is_ready}
 use Rattle.l4_model.specs.Rules.{act}
 use Rattle.l4_model.specs.Effects.{runs, begins, waits, fails, decided, refused, receives, delivered, goes_on, asked, orders, obeyed, turns}
 use Rattle.l4_model.specs.Conditions.{Found, found, instruction}
@@ -63,7 +63,7 @@ delivered_part send now t = by t.phase
     by Ended = goes_part send.receive now (record t { phase = Ended })
     by Deleted = refl
 
-asked_part : (what : What) (t : Thread) → part (asked what t) ≡ part t
+asked_part : (what : OrderKind) (t : Thread) → part (asked what t) ≡ part t
 asked_part CancelSend t = refl
 asked_part CancelReceive t = refl
 asked_part CancelBoth t = refl
@@ -92,7 +92,7 @@ turned_part o t = by t.phase
     by Deleted = refl
 
 -- Who is ready has asked for nothing.
-ready_asks : (p : Phase) (send : Option Send) (order : Option Asked) → is_ready p ≡ true → Suits p send order → is_some order ≡ false
+ready_asks : (p : Phase) (send : Option Send) (order : Option PendingOrder) → is_ready p ≡ true → Suits p send order → is_some order ≡ false
 ready_asks Ready send order h s = ap is_some s.1
 ready_asks Sending send order h s = cc
 ready_asks (Receiving receive since) send order h s = cc
@@ -162,7 +162,7 @@ ready_placed m w id t f facts is ready same placed =
     found_placed m w id t f is placed (λ has. not_both ((part (f t.now)).asks) has (same ∙ none))
 
 -- An order is given at an instruction.
-order_within : (m : Machine) (t : Found) (order : Asked) → steps.order_of (act m t.declared.id t.clock t.now.context (instruction t)) ≡ Some order → t.now.context.place < length t.declared.script
+order_within : (m : Machine) (t : Found) (order : PendingOrder) → steps.order_of (act m t.declared.id t.clock t.now.context (instruction t)) ≡ Some order → t.now.context.place < length t.declared.script
 order_within m t order h = by (slice_get t.declared.script t.now.context.place) refl h
   where
     by : (o : Option Instr) → slice_get t.declared.script t.now.context.place ≡ o → steps.order_of (act m t.declared.id t.clock t.now.context (unwrap_or o End)) ≡ Some order →

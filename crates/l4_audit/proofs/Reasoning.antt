@@ -7,7 +7,7 @@ use Rattle.l4_model.specs.Machine.{Machine, place_of}
 use Rattle.l4_model.specs.World.{World, owed_of, must_wait, is_ready, is_alive, is_deleted, receive_now}
 use Rattle.l4_model.specs.Rules.{received_tag, is_cross}
 use Rattle.l4_model.specs.Conditions.{◌>>=◌, ◌>>◌, found, found_by, undecided, receiver_of, act_of, is_waiting, first_accepted, is_nobody, is_no_destination, is_timed_out}
-use Rattle.l4_model.specs.Steps.{Step, Local, Begin, Queue, Deliver, Wait, SendTimeout, ReceiveTimeout, SendNobody, ReceiveNobody, SendCancel, ReceiveCancel, Drop, Order, Obey, Tick, Retarget, what_code, runs_alone, send_of, receive_of, order_of, receive_passed, next}
+use Rattle.l4_model.specs.Steps.{Step, Local, Begin, Queue, Deliver, Wait, SendTimeout, ReceiveTimeout, SendNobody, ReceiveNobody, SendCancel, ReceiveCancel, Drop, Order, Obey, Tick, Retarget, order_kind_code, runs_alone, send_of, receive_of, order_of, receive_passed, next}
 use Rattle.l4_model.proofs.Chains.{some_is}
 use Rattle.l4_audit.specs.declared.reasons.Reason.{Reason}
 use Rattle.l4_audit.specs.Reasons.{Condition, test, with_value, none_accepted, conditions, first_false, reason, IsFirstFalse, TellsWhy}
@@ -94,7 +94,7 @@ agrees m w (Order caller target what) =
     needs (found m w caller) _ _ _ λ t.
     tests (is_ready t.now.phase) _ _ _
     (needs (order_of (act_of m t)) _ _ _ λ order.
-    tests (same_id target order.target && what_code what == what_code order.what) _ [] _ (passes _))
+    tests (same_id target order.target && order_kind_code what == order_kind_code order.what) _ [] _ (passes _))
 agrees m w (Obey caller) =
     needs (found m w caller) _ _ _ λ t.
     needs t.now.order _ _ _ λ order.

@@ -6,10 +6,10 @@ use Rattle.std.specs.Option.{option_map}
 use Rattle.l4_model.proofs.Chains.{some_is}
 use Rattle.l4_model.specs.Words.{GlobalId}
 use Rattle.l4_model.specs.Machine.{Machine, place_of, is_place}
-use Rattle.l4_model.specs.World.{Send, Receive, Asked, Owed, World, Name, is_ready, is_deleted, is_alive, receive_now}
+use Rattle.l4_model.specs.World.{Send, Receive, PendingOrder, Owed, World, Name, is_ready, is_deleted, is_alive, receive_now}
 use Rattle.l4_model.specs.Rules.{Act, RunsAlone, Sends, Receives, Orders, received_tag, is_cross}
 use Rattle.l4_model.specs.Conditions.{Found, found, found_by, Pending, undecided, receiver_of, act_of, is_waiting, first_accepted, is_nobody, is_no_destination, is_timed_out, ◌>>=◌, ◌>>◌}
-use Rattle.l4_model.specs.Steps.{Step, next, what_code, runs_alone, send_of, receive_of, order_of, receive_passed, after_local, after_begin, after_wait, after_obey, after_receive_timeout, after_receive_nobody, after_receive_cancel, after_queue, after_send_timeout, after_send_nobody, after_send_cancel, after_drop}
+use Rattle.l4_model.specs.Steps.{Step, next, order_kind_code, runs_alone, send_of, receive_of, order_of, receive_passed, after_local, after_begin, after_wait, after_obey, after_receive_timeout, after_receive_nobody, after_receive_cancel, after_queue, after_send_timeout, after_send_nobody, after_send_cancel, after_drop}
 use Rattle.l4_model.specs.Still.{late, candidates, deliveries, orders, is_still_thread}
 use Rattle.l4_model.proofs.Places.{id_of, eqb_same}
 use Rattle.l4_core_model.proofs.Changed.{same_ids, same_bytes}
@@ -52,7 +52,7 @@ bind_bind : {A B C : Type 0} (o : Option B) (g : B → Option C) (f : B → C �
 bind_bind None g f = refl
 bind_bind (Some y) g f = bound (g y) (f y)
 
-obeys_as : (m : Machine) (o : Option Asked) → is_some (o >>= λ order. place_of m order.target) ≡ may_obey m o
+obeys_as : (m : Machine) (o : Option PendingOrder) → is_some (o >>= λ order. place_of m order.target) ≡ may_obey m o
 obeys_as m None = refl
 obeys_as m (Some order) = refl
 
@@ -84,11 +84,11 @@ orders_is m w t is = by (order_of (act_of m t)) refl
     both true v = refl
     both false v = refl
 
-    by : (o : Option Asked) → order_of (act_of m t) ≡ o → list_all (λ step. is_none (next m w step)) (orders t.declared.id o) ≡ not (is_ready t.now.phase && is_some o)
+    by : (o : Option PendingOrder) → order_of (act_of m t) ≡ o → list_all (λ step. is_none (next m w step)) (orders t.declared.id o) ≡ not (is_ready t.now.phase && is_some o)
     by None e = and_false (is_ready t.now.phase)
     by (Some order) e =
         let id = same_ids order.target in
-        let what = eqb_same (what_code order.what) in
+        let what = eqb_same (order_kind_code order.what) in
         rw (is, e, id, what) (both (is_ready t.now.phase) _)
 
 -- the receive phase

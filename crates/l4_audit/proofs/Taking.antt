@@ -3,8 +3,8 @@ use Rattle.std.proofs.Common.{◌≡◌, ℕ, ◌<◌, length, Some, None, ap, s
 use Rattle.std.specs.Prelude.{slice_set}
 use Rattle.std.proofs.lemmas.Option.{slice_get_within}
 use Rattle.l4_model.specs.Words.{GlobalId}
-use Rattle.l4_model.specs.Machine.{Machine, What, Instr, place_of}
-use Rattle.l4_model.specs.World.{Name, Thread, Asked, Owed, World, change, queued, unqueued, owed_of, others_owed}
+use Rattle.l4_model.specs.Machine.{Machine, OrderKind, Instr, place_of}
+use Rattle.l4_model.specs.World.{Name, Thread, PendingOrder, Owed, World, change, queued, unqueued, owed_of, others_owed}
 use Rattle.l4_model.specs.Effects.{runs, fails, decided, refused, orders, asked, obeyed, turns}
 use Rattle.l4_model.specs.Conditions.{Found, Pending, found, undecided, receiver_of, instruction, act_of}
 use Rattle.l4_model.specs.Steps.{Step, Local, Begin, Queue, Wait, SendTimeout, ReceiveTimeout, SendNobody, ReceiveNobody, SendCancel, ReceiveCancel, Drop, Order, Obey, Tick, Retarget, next, order_of, without_send}
@@ -98,7 +98,7 @@ receive_is_cancelled a b id t is none e =
     lands a b (ReceiveCancel id) none λ v h.
     let k = receive_cancel_taken a.machine a.world v id h in found_lands a b t k.t (λ x. fails 7) v (some_is k.t t (sym k.found ∙ is)) k.leads_to e
 
-pub orders_on : (a b : Audited) (caller target : GlobalId) (what : What) (t : Found) (order : Asked) → found a.machine a.world caller ≡ Some t → order_of (act_of a.machine t) ≡ Some order →
+pub orders_on : (a b : Audited) (caller target : GlobalId) (what : OrderKind) (t : Found) (order : PendingOrder) → found a.machine a.world caller ≡ Some t → order_of (act_of a.machine t) ≡ Some order →
     reason a.machine a.world (Order caller target what) ≡ None → b ≡ with_world a (change a.world t.at (orders order)) → IsTaken a (Order caller target what) b
 orders_on a b caller target what t order is asks none e =
     lands a b (Order caller target what) none λ v h.
@@ -107,15 +107,15 @@ orders_on a b caller target what t order is asks none e =
     let given : k.order ≡ order = some_is k.order order (sym k.ordered ∙ ap (λ x. order_of (act_of a.machine x)) same ∙ asks) in
     found_lands a b t k.t (λ x. orders k.order) v same k.leads_to (e ∙ ap (λ x. with_world a (change a.world t.at (orders x))) (sym given))
 
-pub obeys_on : (a u b : Audited) (caller : GlobalId) (t : Found) (target : ℕ) (what : What) → found a.machine a.world caller ≡ Some t → IsAsked a.machine t target what → reason a.machine a.world (Obey caller) ≡ None →
+pub obeys_on : (a u b : Audited) (caller : GlobalId) (t : Found) (target : ℕ) (what : OrderKind) → found a.machine a.world caller ≡ Some t → IsAsked a.machine t target what → reason a.machine a.world (Obey caller) ≡ None →
     u ≡ with_world a (change a.world target (asked what)) → b ≡ with_world u (change u.world t.at obeyed) → IsTaken a (Obey caller) b
 obeys_on a u b caller t target what is asks none done e =
     lands a b (Obey caller) none λ v h.
     let k = obey_taken a.machine a.world v caller h in
     let same : k.t ≡ t = some_is k.t t (sym k.found ∙ is) in
     let order : k.order ≡ asks.order = some_is k.order asks.order (sym k.ordered ∙ ap (λ (x : Found). x.now.order) same ∙ asks.asked) in
-    let place : k.target ≡ target = some_is k.target target (sym k.target_is ∙ ap (λ (x : Asked). place_of a.machine x.target) order ∙ asks.place) in
-    let what_is : k.order.what ≡ what = ap (λ (x : Asked). x.what) order ∙ asks.what_is in
+    let place : k.target ≡ target = some_is k.target target (sym k.target_is ∙ ap (λ (x : PendingOrder). place_of a.machine x.target) order ∙ asks.place) in
+    let what_is : k.order.what ≡ what = ap (λ (x : PendingOrder). x.what) order ∙ asks.what_is in
     e ∙ ap (λ (x : Audited). with_world x (change x.world t.at obeyed)) done
     ∙ ap (with_world a)
     (ap (λ (x : Found). change (change a.world target (asked what)) x.at obeyed) (sym same)

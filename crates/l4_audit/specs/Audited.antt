@@ -1,7 +1,7 @@
 -- What an auditor knows: a machine, and its world.
 use Rattle.std.specs.Prelude.{ℕ, ◌≡◌, ◌<◌, ◌≤◌, is_some, true, Some, List, map, length, slice_get}
-use Rattle.l4_model.specs.Machine.{Machine, Declaration, What, place_of, most_instructions}
-use Rattle.l4_model.specs.World.{World, Thread, Asked}
+use Rattle.l4_model.specs.Machine.{Machine, Declaration, OrderKind, place_of, most_instructions}
+use Rattle.l4_model.specs.World.{World, Thread, PendingOrder}
 use Rattle.l4_model.specs.Conditions.{Found}
 use Rattle.l4_core_model.specs.Plain.{Waiting}
 use Rattle.l4_thread.specs.Parts.{Block}
@@ -31,8 +31,8 @@ IsPlaced a =
 
 -- A thread has an undone order that asks this of the thread at a place. Its script is within the
 -- limit.
-pub record IsAsked (m : Machine) (t : Found) (target : ℕ) (what : What) : Type 0 where
-  pub order : Asked
+pub record IsAsked (m : Machine) (t : Found) (target : ℕ) (what : OrderKind) : Type 0 where
+  pub order : PendingOrder
   pub asked : t.now.order ≡ Some order
   pub place : place_of m order.target ≡ Some target
   pub what_is : order.what ≡ what

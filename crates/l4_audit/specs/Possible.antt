@@ -5,7 +5,7 @@ use Rattle.std.specs.Prelude.{Option, Some, None, is_some, List, [], ◌∷◌, 
 use Rattle.std.specs.Prelude.{flat_map, option_map, option_to_list, slice_get}
 use Rattle.l4_model.specs.Words.{GlobalId, same_id}
 use Rattle.l4_model.specs.Machine.{Machine}
-use Rattle.l4_model.specs.World.{Name, Message, Asked, Owed, World}
+use Rattle.l4_model.specs.World.{Name, Message, PendingOrder, Owed, World}
 use Rattle.l4_model.specs.Rules.{received_tag, is_cross}
 use Rattle.l4_model.specs.Conditions.{◌>>=◌, ◌>>◌, Found, found, undecided, receiver_of, act_of}
 use Rattle.l4_model.specs.Steps.{Step, Local, Begin, Queue, Deliver, Wait, SendTimeout}
@@ -39,7 +39,7 @@ delivery m w send = do
   r ← receiver_of m w p
   Some (told s r.declared.id p.send.message (is_cross m r.declared.id p.send.message))
 
-abbrev pub order : GlobalId → Option Asked → Option Step
+abbrev pub order : GlobalId → Option PendingOrder → Option Step
 order caller asked = option_map (λ o. Order caller o.target o.what) asked
 
 -- The retarget by which a thread is to turn.

@@ -3,12 +3,12 @@ use Rattle.std.specs.Prelude.{ℕ, ◌≡◌, ◌+◌, ◌↔◌, Bool, true, fa
 use Rattle.std.specs.List.{list_all}
 use Rattle.std.specs.Str.{bytes_eq}
 use Rattle.l4_model.specs.Words.{GlobalId, same_id, clock_limit}
-use Rattle.l4_model.specs.Machine.{Machine, What, place_of}
+use Rattle.l4_model.specs.Machine.{Machine, OrderKind, place_of}
 use Rattle.l4_model.specs.World as world
 use Rattle.l4_model.specs.World.{Name, World, owed_of, must_wait, is_ready, is_deleted, is_alive, receive_now}
 use Rattle.l4_model.specs.Rules.{received_tag, is_cross}
 use Rattle.l4_model.specs.Conditions.{Found, Pending, found, found_by, undecided, receiver_of, act_of, is_waiting, first_accepted, is_nobody, is_no_destination, is_timed_out}
-use Rattle.l4_model.specs.Steps.{Step, Local, Begin, Queue, Deliver, Wait, SendTimeout, ReceiveTimeout, SendNobody, ReceiveNobody, SendCancel, ReceiveCancel, Drop, Order, Obey, Tick, Retarget, what_code, runs_alone, send_of, receive_of, order_of, receive_passed, next}
+use Rattle.l4_model.specs.Steps.{Step, Local, Begin, Queue, Deliver, Wait, SendTimeout, ReceiveTimeout, SendNobody, ReceiveNobody, SendCancel, ReceiveCancel, Drop, Order, Obey, Tick, Retarget, order_kind_code, runs_alone, send_of, receive_of, order_of, receive_passed, next}
 use Rattle.l4_types.specs.declared.reports.State.{State}
 use Rattle.l4_types.specs.declared.reports.State.TheVariants.{Ready, Sending, Receiving, Ordering, Ended, Deleted}
 use Rattle.l4_audit.specs.declared.reasons.Reason.{Reason}
@@ -162,12 +162,13 @@ of_receive_cancel m w id = do
   test t.now.cancel_receive ReceiveNotCancelled
   []
 
-abbrev pub of_order : Machine → World → (caller target : GlobalId) → What → List Condition
+abbrev pub of_order : Machine → World → (caller target : GlobalId) → OrderKind → List Condition
 of_order m w caller target what = do
   t ← need (found m w caller) Undeclared
   test (is_ready t.now.phase) (NotReady (state_in t.now.phase))
   order ← need (order_of (act_of m t)) NoOrder
-  test (same_id target order.target && what_code what == what_code order.what) (OtherOrder order)
+  test (same_id target order.target && order_kind_code what == order_kind_code order.what)
+      (OtherOrder order)
   []
 
 abbrev pub of_obey : Machine → World → GlobalId → List Condition

@@ -2,13 +2,13 @@
 use Rattle.std.specs.Prelude.{ℕ, Bool, false, not, ◌==◌, ◌&&◌, ◌||◌, Option, Some, None, is_some, is_none, length}
 use Rattle.std.specs.List.{list_all}
 use Rattle.l4_model.specs.Machine.{Machine, place_of, is_place}
-use Rattle.l4_model.specs.World.{Receive, Send, Asked, World, is_ready, is_deleted, is_alive, receive_now}
+use Rattle.l4_model.specs.World.{Receive, Send, PendingOrder, World, is_ready, is_deleted, is_alive, receive_now}
 use Rattle.l4_model.specs.Conditions.{Found, found_by, Pending, receiver_of, is_waiting, first_accepted, is_nobody, is_no_destination, is_timed_out}
 use Rattle.l4_model.specs.Steps.{receive_passed}
 use Rattle.l4_model.specs.Still.{is_still_thread}
 
 -- The order of a thread can be done.
-abbrev pub may_obey : Machine → Option Asked → Bool
+abbrev pub may_obey : Machine → Option PendingOrder → Bool
 may_obey m None = false
 may_obey m (Some order) = is_some (place_of m order.target)
 

@@ -6,7 +6,7 @@ ghost use Rattle.l4_model.specs.World.{is_ready, is_deleted, receive_now};
 ghost use Rattle.l4_model.specs.Conditions.{instruction, act_of, may_still_accept, call_accepts, is_elsewhere};
 ghost use Rattle.l4_model.specs.Rules.{accepts, destination, ask_act};
 ghost use Rattle.l4_model.specs.Steps.{runs_alone, send_of, receive_of, order_of, receive_passed};
-ghost use Rattle.l4_types.specs.StepView.{what_of};
+ghost use Rattle.l4_types.specs.StepView.{order_kind_of};
 ghost use Rattle.l4_audit.specs.Delivering.{IsFound};
 ghost use Rattle.l4_audit.specs.Phases.{has_phase};
 ghost use Rattle.l4_audit.specs.Reasons.{state_in};
@@ -17,12 +17,12 @@ ghost use Rattle.l4_thread.specs.Requests.{is_end};
 use crate::periods::has_passed;
 use l4_script::instructions::{Instr, Ipc, To};
 use l4_script::machine::{Declaration, MOST_INSTRUCTIONS, Machine};
-use l4_thread::orders::Asked;
+use l4_thread::orders::PendingOrder;
 use l4_thread::sends::{Receive, SendRef};
 use l4_thread::tcb::Tcb;
 use l4_types::ids::{GlobalId, Kind, ThreadId};
 use l4_types::reports::State;
-use l4_types::steps::What;
+use l4_types::steps::OrderKind;
 use std::marker::Model;
 
 /// A thread: its place in the order of declaration, what the machine declares of it, what it is
@@ -122,6 +122,7 @@ impl<'a> Found<'a> {
     {
         self.declared
             .instruction(self.tcb.thread().place())
+            .copied()
             .unwrap_or(Instr::End)
     }
 
@@ -191,7 +192,7 @@ impl<'a> Found<'a> {
     }
 
     /// The order that its instruction gives.
-    pub fn order(&self, machine: &Machine) -> Option<Asked>
+    pub fn order(&self, machine: &Machine) -> Option<PendingOrder>
         ensures { result ≡ order_of (act_of machine.now self.now) }
     {
         match self.instruction() {
@@ -229,7 +230,7 @@ impl<'a> Found<'a> {
     }
 
     /// Its order, while that is not done.
-    pub fn asked(&self) -> Option<Asked>
+    pub fn asked(&self) -> Option<PendingOrder>
         ensures value { result ≡ self.now.now.order }
         ensures limit { length self.now.declared.script ≤ most_instructions }
     {
@@ -284,13 +285,13 @@ impl<'a> Found<'a> {
     }
 
     // The order that it may give.
-    fn admitted(&self, machine: &Machine, target: ThreadId, what: What) -> Option<Asked>
+    fn admitted(&self, machine: &Machine, target: ThreadId, what: OrderKind) -> Option<PendingOrder>
         ensures { result ≡
-            order_of (ask_act machine.now self.now.declared.id target (what_of what)) }
+            order_of (ask_act machine.now self.now.declared.id target (order_kind_of what)) }
     {
         let target = target.as_global()?;
         let is_admitted = machine.admits(self.id(), target, what);
-        is_admitted.then_some(Asked::new(target, what))
+        is_admitted.then_some(PendingOrder::new(target, what))
     }
 }
 

@@ -5,7 +5,7 @@ ghost use Rattle.l4_model.specs.World.{World};
 ghost use Rattle.l4_model.specs.Steps.{Step};
 ghost use Rattle.l4_audit.specs.Reasons.{TellsWhy};
 
-use l4_thread::orders::Asked;
+use l4_thread::orders::PendingOrder;
 use l4_types::errors::NoMemory;
 use l4_types::ids::{GlobalId, ThreadId};
 use l4_types::reports::State;
@@ -28,7 +28,7 @@ pub enum Reason {
     /// The thread's instruction gives no order.
     NoOrder,
     /// The thread's instruction gives this order.
-    OtherOrder(Asked),
+    OtherOrder(PendingOrder),
     /// No send of this name is undecided.
     NotUndecided,
     /// The destination of the send names no declared thread.

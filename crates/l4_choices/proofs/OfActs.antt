@@ -5,8 +5,8 @@ use Rattle.std.specs.Option.{option_map}
 use Rattle.l4_model.specs.Options.{if_some}
 use Rattle.l4_model.specs.Conditions.{◌>>=◌, ◌>>◌}
 use Rattle.l4_model.specs.Words.{GlobalId}
-use Rattle.l4_model.specs.Machine.{Machine, What, CancelSend, CancelReceive, CancelBoth, Delete, place_of, is_place}
-use Rattle.l4_model.specs.World.{Message, Send, Asked, Owed, is_deleted}
+use Rattle.l4_model.specs.Machine.{Machine, OrderKind, CancelSend, CancelReceive, CancelBoth, Delete, place_of, is_place}
+use Rattle.l4_model.specs.World.{Message, Send, PendingOrder, Owed, is_deleted}
 use Rattle.l4_model.specs.Rules.{Act, RunsAlone, Sends, Receives, Orders, owed_by}
 use Rattle.l4_model.specs.Steps.{Step, Begin, Queue, Order, Obey, Deliver}
 use Rattle.l4_model.specs.Effects.{begins, decided, receives, orders, obeyed}
@@ -137,7 +137,7 @@ retargets_bare o (Some j) x = refl
 
 -- orders
 
-asks_bare : (what : What) (i : ℕ) → IsBare (does (asks what i))
+asks_bare : (what : OrderKind) (i : ℕ) → IsBare (does (asks what i))
 asks_bare CancelSend i x = refl
 asks_bare CancelReceive i x = refl
 asks_bare CancelBoth i x = refl
@@ -148,7 +148,7 @@ withdraws_for_bare : (m : Machine) (cpu j : ℕ) (cause : Option Cause) →
 withdraws_for_bare m cpu j None x = refl
 withdraws_for_bare m cpu j (Some cause) x = withdraws_bare m cause j (split_place m cpu x.local j) x
 
-pub obeys_bare : (m : Machine) (cpu : ℕ) (caller : GlobalId) (what : What) (j : ℕ) →
+pub obeys_bare : (m : Machine) (cpu : ℕ) (caller : GlobalId) (what : OrderKind) (j : ℕ) →
     IsBare (obeys m cpu caller what j)
 obeys_bare m cpu caller what j x =
     cond_bare (is_deleted (thread x.local j).phase) _ _ _ _
@@ -156,7 +156,7 @@ obeys_bare m cpu caller what j x =
     (withdraws_for_bare m cpu j (cause_of what) (x ▷ tells (Obey caller) ▷ does (asks what j))
     ∙ ap (withdraws_for m cpu j (cause_of what)) (asks_bare what j (x ▷ tells (Obey caller))))
 
-order_goes_to_bare : (m : Machine) (cpu i : ℕ) (order : Asked) (to : Option ℕ) →
+order_goes_to_bare : (m : Machine) (cpu i : ℕ) (order : PendingOrder) (to : Option ℕ) →
     IsBare (order_goes_to m cpu i order to)
 order_goes_to_bare m cpu i order None x = refl
 order_goes_to_bare m cpu i order (Some j) x =
@@ -164,7 +164,7 @@ order_goes_to_bare m cpu i order (Some j) x =
     (ap (does (comes_to i obeyed)) (obeys_bare m cpu (declared m i).id order.what j x))
     (posts_bare _ _ x)
 
-gives_order_bare : (m : Machine) (cpu i : ℕ) (order : Asked) → IsBare (gives_order m cpu i order)
+gives_order_bare : (m : Machine) (cpu i : ℕ) (order : PendingOrder) → IsBare (gives_order m cpu i order)
 gives_order_bare m cpu i order x =
     order_goes_to_bare m cpu i order (place_of m order.target)
     (x ▷ does (comes_to i (orders order)) ▷ tells (Order (declared m i).id order.target order.what))

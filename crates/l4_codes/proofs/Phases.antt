@@ -19,7 +19,7 @@ receiving_code Ordering r is rest = cc
 receiving_code Ended r is rest = cc
 receiving_code Deleted r is rest = cc
 
--- which number stands for what a report says
+-- The number of a state in a report
 number_of : (s : code.State) (p : Phase) → receive_now p ≡ None → state_of_view s ≡ state_of p → (rest : List ℕ) → state_number s ∷ rest ≡ phase_code p rest
 number_of codes.Ready Ready is of rest = refl
 number_of codes.Sending Sending is of rest = refl

@@ -7,17 +7,17 @@ use Rattle.l4_states.specs.Bytes.{bytes_from, put_by, put_number, longest_run, t
 use Rattle.l4_states.specs.Codes.{chained, each, length_code, number_code, sized}
 use Rattle.l4_codes.specs.Written.{Written, with_numbers, Writes, zero_bytes, zeros_told, room, IsLeft}
 
--- One value, and then another.
+-- A value, and then another
 pub then : (f g : List ℕ → List ℕ) (a b c : Written) → Writes f a b → Writes g b c → Writes (λ rest. f (g rest)) a c
 then f g a b c u v rest = v rest ∙ u (g rest)
 
--- And then a last one, by a call that may have failed.
+-- And then a last one, by a call that may have failed
 pub last : {E : Type 0} (r : Result (Unit {0}) E) (f g : List ℕ → List ℕ) (a b c : Written) → Writes f a b → OnOk r (Writes g b c) →
     OnOk r (Writes (λ rest. f (g rest)) a c)
 last (Ok x) f g a b c u v = λ rest. v rest ∙ u (g rest)
 last (Err e) f g a b c u v = tt
 
--- The same value, told otherwise.
+-- The same value, by another code of it
 pub same_last : {E : Type 0} (r : Result (Unit {0}) E) (f g : List ℕ → List ℕ) (a b : Written) → ((rest : List ℕ) → f rest ≡ g rest) →
     OnOk r (Writes f a b) → OnOk r (Writes g a b)
 same_last (Ok x) f g a b same u = λ rest. u rest ∙ ap (with_numbers a) (same rest)
@@ -77,7 +77,7 @@ another w bytes (suc n) some same rest =
     same (bytes_from 0 rest) ∙ append_assoc w.bytes (zero_bytes w.zeros) (put_number (suc n) (bytes_from 0 rest))
     ∙ ap (λ bs. w.bytes ++ bs) (sym (zeros_in_front w.zeros n rest))
 
--- One zero more.
+-- One more zero
 pub full_run : (w : Written) → w.zeros ≡ 255 → Writes (number_code 0) w (record { bytes = (zeros_told w).bytes; zeros = 1 })
 full_run w full rest = by w.zeros full
   where
@@ -129,7 +129,7 @@ chained_on code before xs x a b c d same one value is left rest =
     ∙ ap (λ ys. with_numbers a (chained code ys rest))
     (sym (append_assoc before (x ∷ []) left) ∙ ap (λ ys. ys ++ left) (sym is))
 
--- Of what is left of it the first was written.
+-- The first of those that were left was written.
 pub first_told : {A : Type 0} (code : A → List ℕ → List ℕ) (xs ys : List A) (x : A)
     (all : List A) (a b c d : Written) →
     ((rest : List ℕ) → with_numbers b (chained code xs rest) ≡ with_numbers a (chained code all rest)) →
@@ -150,7 +150,7 @@ all_told (Ok t) code before all a b c same end is = λ rest.
     ∙ ap (λ ys. with_numbers a (chained code ys rest)) (append-nil before ∙ is)
 all_told (Err e) code before all a b c same end is = tt
 
--- The length of a list that has always so many.
+-- The length of a list that has the usual one
 
 pub usual_length : (usual n : ℕ) → n ≡ usual → length_code usual n ≡ 0
 usual_length usual n e = ap (λ b. cond b 0 (n + 1)) (eq-eqb n usual e)

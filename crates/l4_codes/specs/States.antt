@@ -1,4 +1,4 @@
--- The number by which a code tells the phase of a thread.
+-- The number that stands for the phase of a thread in a code.
 use Rattle.std.specs.Prelude.{ℕ}
 use Rattle.l4_types.specs.declared.reports.State.{State}
 use Rattle.l4_types.specs.declared.reports.State.TheVariants.{Ready, Sending, Receiving, Ordering, Ended, Deleted}

@@ -2,12 +2,12 @@
 use Rattle.std.specs.Prelude.{ℕ, zero, suc, ◌*◌, ◌<◌, ◌≡◌, List, [], ◌∷◌, ◌++◌}
 use Rattle.l4_states.specs.Bytes.{bytes_from, put_by, put_number}
 
--- Its bytes so far, and how many zeros there are behind them that no byte tells yet.
+-- Its bytes so far, and the number of zeros behind them that are not in the bytes yet.
 pub record Written : Type 0 where
   pub bytes : List ℕ
   pub zeros : ℕ
 
--- The bytes that it comes to with these numbers behind it.
+-- The bytes of the code once these numbers follow.
 abbrev pub with_numbers : Written → List ℕ → List ℕ
 with_numbers w numbers = w.bytes ++ bytes_from w.zeros numbers
 
@@ -23,7 +23,7 @@ zero_bytes (suc more) = 0 ∷ suc more ∷ []
 abbrev pub zeros_told : Written → Written
 zeros_told w = record { bytes = w.bytes ++ zero_bytes w.zeros; zeros = 0 }
 
--- So many bytes more have room for a number below this, of which the last one has one bit.
+-- The bound of numbers for which so many more bytes have room. The last of these has one bit.
 abbrev pub room : (more : ℕ) → ℕ
 room zero = 2
 room (suc more) = 128 * room more

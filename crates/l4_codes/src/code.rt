@@ -12,7 +12,7 @@ use std::marker::Model;
 #[derive(Drop)]
 pub struct Code {
     bytes: Vec<u8>,
-    // How many zeros there are behind the bytes that none of them tells yet.
+    // The number of zeros behind these that are not in the bytes yet.
     zeros: u8,
 }
 
@@ -25,7 +25,7 @@ impl Model for Code {
 }
 
 impl Code {
-    /// The code of no numbers.
+    /// An empty code.
     pub fn new(alloc: Global) -> Code
         ensures { result ≡ record { bytes = []; zeros = 0 } }
     {
@@ -35,7 +35,7 @@ impl Code {
         }
     }
 
-    /// One number more.
+    /// Appends a number.
     ///
     /// `AllocError`: memory was refused.
     pub fn put(&mut self, number: u64) -> Result<(), AllocError>
@@ -48,7 +48,7 @@ impl Code {
         push_number(&mut self.bytes, number)
     }
 
-    /// Whether something is so.
+    /// Appends 1 where something is so, else 0.
     ///
     /// `AllocError`: memory was refused.
     pub fn put_flag(&mut self, flag: bool) -> Result<(), AllocError>
@@ -57,7 +57,7 @@ impl Code {
         self.put(if flag { 1 } else { 0 })
     }
 
-    /// How many there are in a list that has always so many.
+    /// Appends the length of a list: 0 where it is the usual one, else the length plus 1.
     ///
     /// `AllocError`: memory was refused.
     pub fn put_length(&mut self, usual: usize, length: usize) -> Result<(), AllocError>
@@ -70,7 +70,7 @@ impl Code {
         self.put(length as u64 + 1)
     }
 
-    /// Numbers one after the other.
+    /// Appends numbers, one after the other.
     ///
     /// `AllocError`: memory was refused.
     pub fn put_all(&mut self, numbers: &[u64]) -> Result<(), AllocError>
@@ -82,7 +82,7 @@ impl Code {
         Ok(())
     }
 
-    /// The bytes.
+    /// The bytes of the code.
     ///
     /// `AllocError`: memory was refused.
     pub fn into_bytes(self) -> Result<Vec<u8>, AllocError>
@@ -94,7 +94,7 @@ impl Code {
         Ok(code.bytes)
     }
 
-    // One zero more.
+    // Appends a zero.
     fn put_zero(&mut self) -> Result<(), AllocError>
         ensures { OnOk result (Writes (number_code 0) self.old self.new) }
     {
@@ -105,7 +105,7 @@ impl Code {
         Ok(())
     }
 
-    // The zeros behind the bytes are told by bytes.
+    // Writes the zeros that are not in the bytes yet.
     fn end_zeros(&mut self) -> Result<(), AllocError>
         ensures { OnOk result (self.new ≡ zeros_told self.old) }
     {
@@ -118,7 +118,7 @@ impl Code {
     }
 }
 
-// A number at the end, seven bits in a byte, the low ones first.
+// Appends a number, seven bits in a byte, the low ones first.
 fn push_number(bytes: &mut Vec<u8>, number: u64) -> Result<(), AllocError>
     ensures { OnOk result ((rest : List ℕ) →
         bytes.new.items ++ rest ≡ bytes.old.items ++ put_number number rest) }

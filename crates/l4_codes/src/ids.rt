@@ -8,7 +8,7 @@ use l4_types::ids::{GlobalId, Kind, ThreadId};
 use l4_types::steps::Name;
 use std::alloc::AllocError;
 
-/// A global id.
+/// Appends a global id.
 ///
 /// `AllocError`: memory was refused.
 pub fn put_global(code: &mut Code, id: GlobalId) -> Result<(), AllocError>
@@ -18,7 +18,7 @@ pub fn put_global(code: &mut Code, id: GlobalId) -> Result<(), AllocError>
     code.put(u64::from(id.version()))
 }
 
-/// Any id.
+/// Appends any id.
 ///
 /// `AllocError`: memory was refused.
 pub fn put_id(code: &mut Code, id: ThreadId) -> Result<(), AllocError>
@@ -40,7 +40,7 @@ pub fn put_id(code: &mut Code, id: ThreadId) -> Result<(), AllocError>
     }
 }
 
-/// Whose a send is, without its number.
+/// Appends whose a send is, without its number.
 ///
 /// `AllocError`: memory was refused.
 pub fn put_name(code: &mut Code, name: Name) -> Result<(), AllocError>

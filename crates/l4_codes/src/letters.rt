@@ -11,14 +11,14 @@ ghost use Rattle.l4_codes.specs.Written.{Writes};
 use crate::code::Code;
 use crate::ids::{put_global, put_name};
 use crate::messages::put_message;
-use crate::threads::put_what;
+use crate::threads::put_order_kind;
 use l4_types::letters::{Cause, Content, Decision, Letter, Refusal};
 use l4_types::message_ref::MessageRef;
 use l4_types::owed::Owed;
 use std::alloc::AllocError;
 use std::collections::VecDeque;
 
-/// What letters tell, in order.
+/// Appends the contents of letters, in order.
 ///
 /// `AllocError`: memory was refused.
 pub fn put_letters(code: &mut Code, letters: &VecDeque<Letter>) -> Result<(), AllocError>
@@ -33,7 +33,7 @@ pub fn put_letters(code: &mut Code, letters: &VecDeque<Letter>) -> Result<(), Al
     code.put(0)
 }
 
-/// An owed retarget.
+/// Appends an owed retarget.
 ///
 /// `AllocError`: memory was refused.
 pub fn put_owed(code: &mut Code, owed: &Owed) -> Result<(), AllocError>
@@ -45,7 +45,7 @@ pub fn put_owed(code: &mut Code, owed: &Owed) -> Result<(), AllocError>
     put_global(code, owed.new_partner)
 }
 
-// How a send is refused.
+// Appends how a send is refused.
 fn put_refusal(code: &mut Code, refusal: Refusal) -> Result<(), AllocError>
     ensures { OnOk result (Writes (refusal_code (refusal_of_send refusal)) code.old code.new) }
 {
@@ -57,7 +57,7 @@ fn put_refusal(code: &mut Code, refusal: Refusal) -> Result<(), AllocError>
     }
 }
 
-// How a send is decided.
+// Appends how a send is decided.
 fn put_decision(code: &mut Code, decision: Decision) -> Result<(), AllocError>
     ensures { OnOk result (Writes (result_code (decision_of decision)) code.old code.new) }
 {
@@ -70,7 +70,7 @@ fn put_decision(code: &mut Code, decision: Decision) -> Result<(), AllocError>
     }
 }
 
-// Why a send is withdrawn.
+// Appends why a send is withdrawn.
 fn put_cause(code: &mut Code, cause: Cause) -> Result<(), AllocError>
     ensures { OnOk result (Writes (cause_code (cause_of_withdrawal cause)) code.old code.new) }
 {
@@ -81,7 +81,7 @@ fn put_cause(code: &mut Code, cause: Cause) -> Result<(), AllocError>
     }
 }
 
-/// What a letter tells.
+/// Appends the content of a letter.
 ///
 /// `AllocError`: memory was refused.
 pub fn put_content(code: &mut Code, content: &Content) -> Result<(), AllocError>
@@ -127,7 +127,7 @@ pub fn put_content(code: &mut Code, content: &Content) -> Result<(), AllocError>
             code.put(4)?;
             put_global(code, *caller)?;
             put_global(code, *target)?;
-            put_what(code, *what)
+            put_order_kind(code, *what)
         }
         Content::OrderDone(caller) => {
             code.put(5)?;

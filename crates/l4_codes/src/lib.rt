@@ -1,7 +1,7 @@
 //! The code of a state of a core run, written from its processors and their letters.
 //!
-//! Every function here writes one value, at the end of a code, as `l4_states` says. Where memory is
-//! refused, the code is of no use any more.
+//! Each function here appends one value to a code, as `l4_states` defines it. After refused memory
+//! the code is of no more use.
 //!
 //! ```rust
 //! let mut code = Code::new(alloc);

@@ -12,7 +12,7 @@ use l4_types::message_ref::MessageRef;
 use l4_types::times::Period;
 use std::alloc::AllocError;
 
-/// How long a phase may wait.
+/// Appends how long a phase may wait.
 ///
 /// `AllocError`: memory was refused.
 pub fn put_period(code: &mut Code, period: Period) -> Result<(), AllocError>
@@ -31,7 +31,7 @@ pub fn put_period(code: &mut Code, period: Period) -> Result<(), AllocError>
     }
 }
 
-/// A receive phase.
+/// Appends a receive phase.
 ///
 /// `AllocError`: memory was refused.
 pub fn put_receive(code: &mut Code, receive: Receive) -> Result<(), AllocError>
@@ -41,7 +41,7 @@ pub fn put_receive(code: &mut Code, receive: Receive) -> Result<(), AllocError>
     put_period(code, receive.period())
 }
 
-// The receive phase of a call, where there is one.
+// Appends the receive phase of a call, where there is one.
 fn put_receive_of(code: &mut Code, receive: Option<Receive>) -> Result<(), AllocError>
     ensures { OnOk result (Writes (optional receive_code receive) code.old code.new) }
 {
@@ -54,7 +54,7 @@ fn put_receive_of(code: &mut Code, receive: Option<Receive>) -> Result<(), Alloc
     }
 }
 
-// The words of a message.
+// Appends the words of a message.
 fn put_words(code: &mut Code, words: &[u64]) -> Result<(), AllocError>
     ensures { OnOk result (Writes (listed number_code words.now) code.old code.new) }
 {
@@ -62,7 +62,7 @@ fn put_words(code: &mut Code, words: &[u64]) -> Result<(), AllocError>
     code.put_all(words)
 }
 
-/// A message.
+/// Appends a message.
 ///
 /// `AllocError`: memory was refused.
 pub fn put_message(code: &mut Code, message: &MessageRef<'_>) -> Result<(), AllocError>
@@ -75,7 +75,7 @@ pub fn put_message(code: &mut Code, message: &MessageRef<'_>) -> Result<(), Allo
     put_global(code, message.actual())
 }
 
-/// An undecided send, but for when it began.
+/// Appends an undecided send, but not when it began.
 ///
 /// `AllocError`: memory was refused.
 pub fn put_send(code: &mut Code, send: &SendRef<'_>) -> Result<(), AllocError>

@@ -17,7 +17,7 @@ use l4_types::owed::Owed;
 use std::alloc::AllocError;
 use tcb_arena::{Arena, Waiting};
 
-/// All that a processor knows, but for its last stamp and how late it is.
+/// Appends all that a processor knows but its last stamp and how late it is.
 ///
 /// `AllocError`: memory was refused.
 pub fn put_core(code: &mut Code, core: &Core<'_>) -> Result<(), AllocError>
@@ -30,7 +30,7 @@ pub fn put_core(code: &mut Code, core: &Core<'_>) -> Result<(), AllocError>
     put_all_owed(code, core)
 }
 
-// The threads, in order of declaration.
+// Appends the threads, in order of declaration.
 fn put_threads(code: &mut Code, core: &Core<'_>) -> Result<(), AllocError>
     ensures { OnOk result (Writes
         (sized (length core.now.machine.threads) thread_code core.now.local.threads)
@@ -44,7 +44,7 @@ fn put_threads(code: &mut Code, core: &Core<'_>) -> Result<(), AllocError>
     Ok(())
 }
 
-// For each thread the first processor that may not yet know of its deletion.
+// Appends, for each thread, the first processor that may not yet know of its deletion.
 fn put_told(code: &mut Code, core: &Core<'_>) -> Result<(), AllocError>
     ensures { OnOk result (Writes
         (sized (length core.now.machine.threads) number_code core.now.local.told)
@@ -58,7 +58,7 @@ fn put_told(code: &mut Code, core: &Core<'_>) -> Result<(), AllocError>
     Ok(())
 }
 
-// Beside each thread the retarget that is owed.
+// Appends, for each thread, the retarget that is owed, where there is one.
 fn put_all_owed(code: &mut Code, core: &Core<'_>) -> Result<(), AllocError>
     ensures { OnOk result (Writes
         (sized (length core.now.machine.threads) (optional owed_code) core.now.local.owed)
@@ -72,7 +72,7 @@ fn put_all_owed(code: &mut Code, core: &Core<'_>) -> Result<(), AllocError>
     Ok(())
 }
 
-// A retarget, where one is owed.
+// Appends a retarget, where one is owed.
 fn put_owed_beside(code: &mut Code, owed: Option<Owed>) -> Result<(), AllocError>
     ensures { OnOk result (Writes (optional owed_code (option_map owed_of owed))
         code.old code.new) }
@@ -86,7 +86,7 @@ fn put_owed_beside(code: &mut Code, owed: Option<Owed>) -> Result<(), AllocError
     }
 }
 
-// Who waits, who is ready, who is armed.
+// Appends who waits, who is ready and who is armed.
 fn put_lists(code: &mut Code, core: &Core<'_>) -> Result<(), AllocError>
     ensures { OnOk result (Writes
         (lists_code (length core.now.machine.threads) core.now.local.clock core.now.local.lists)
@@ -97,7 +97,7 @@ fn put_lists(code: &mut Code, core: &Core<'_>) -> Result<(), AllocError>
     put_armed(code, core.lists(), core.clock())
 }
 
-// The sends that wait at each thread.
+// Appends the sends that wait at each thread.
 fn put_waiting(code: &mut Code, core: &Core<'_>) -> Result<(), AllocError>
     ensures { OnOk result (Writes
         (sized (length core.now.machine.threads) (chained waiting_code)
@@ -112,7 +112,7 @@ fn put_waiting(code: &mut Code, core: &Core<'_>) -> Result<(), AllocError>
     Ok(())
 }
 
-// The sends that wait at one of them.
+// Appends the sends that wait at one thread.
 fn put_sends(code: &mut Code, lists: &Arena, receiver: usize) -> Result<(), AllocError>
     requires { receiver < length lists.now.waiting }
     ensures { OnOk result (Writes (chained waiting_code (list_of lists.now receiver))
@@ -125,7 +125,7 @@ fn put_sends(code: &mut Code, lists: &Arena, receiver: usize) -> Result<(), Allo
     code.put(0)
 }
 
-// One of them.
+// Appends one waiting send.
 fn put_send(code: &mut Code, send: Waiting) -> Result<(), AllocError>
     ensures { OnOk result (Writes (waiting_code send) code.old code.new) }
 {
@@ -134,7 +134,7 @@ fn put_send(code: &mut Code, send: Waiting) -> Result<(), AllocError>
     code.put_flag(send.local)
 }
 
-// The ready threads.
+// Appends the ready threads.
 fn put_ready(code: &mut Code, lists: &Arena) -> Result<(), AllocError>
     ensures { OnOk result (Writes (chained number_code lists.now.ready) code.old code.new) }
 {
@@ -145,7 +145,7 @@ fn put_ready(code: &mut Code, lists: &Arena) -> Result<(), AllocError>
     code.put(0)
 }
 
-// The armed threads, with how far ahead of the clock their deadlines are.
+// Appends the armed threads, with how far ahead of the clock their deadlines are.
 fn put_armed(code: &mut Code, lists: &Arena, clock: u64) -> Result<(), AllocError>
     ensures { OnOk result (Writes (chained (armed_code clock) lists.now.armed) code.old code.new) }
 {

@@ -2,8 +2,8 @@
 ghost use Rattle.std.specs.Prelude.{OnOk};
 ghost use Rattle.l4_states.specs.Codes.{asked_code, context_code, optional, phase_code, send_code};
 ghost use Rattle.l4_states.specs.Codes.{thread_code};
-ghost use Rattle.l4_types.specs.StepView.{what_of};
-ghost use Rattle.l4_model.specs.Steps.{what_code};
+ghost use Rattle.l4_types.specs.StepView.{order_kind_of};
+ghost use Rattle.l4_model.specs.Steps.{order_kind_code};
 ghost use Rattle.l4_states.specs.Codes.{number_code};
 ghost use Rattle.l4_codes.specs.States.{state_number};
 ghost use Rattle.l4_codes.specs.Written.{Writes};
@@ -11,30 +11,31 @@ ghost use Rattle.l4_codes.specs.Written.{Writes};
 use crate::code::Code;
 use crate::ids::{put_global, put_id};
 use crate::messages::{put_receive, put_send};
-use l4_thread::orders::Asked;
+use l4_thread::orders::PendingOrder;
 use l4_thread::sends::SendRef;
 use l4_thread::tcb::Tcb;
 use l4_thread::thread::Thread;
 use l4_types::registers::MESSAGE_REGISTERS;
 use l4_types::reports::State;
-use l4_types::steps::What;
+use l4_types::steps::OrderKind;
 use std::alloc::AllocError;
 
-/// A cancellation or a deletion.
+/// Appends a cancellation or a deletion.
 ///
 /// `AllocError`: memory was refused.
-pub fn put_what(code: &mut Code, what: What) -> Result<(), AllocError>
-    ensures { OnOk result (Writes (number_code (what_code (what_of what))) code.old code.new) }
+pub fn put_order_kind(code: &mut Code, what: OrderKind) -> Result<(), AllocError>
+    ensures { OnOk result (Writes (number_code (order_kind_code (order_kind_of what)))
+        code.old code.new) }
 {
     match what {
-        What::CancelSend => code.put(0),
-        What::CancelReceive => code.put(1),
-        What::CancelBoth => code.put(2),
-        What::Delete => code.put(3),
+        OrderKind::CancelSend => code.put(0),
+        OrderKind::CancelReceive => code.put(1),
+        OrderKind::CancelBoth => code.put(2),
+        OrderKind::Delete => code.put(3),
     }
 }
 
-// The send of a thread, where there is one.
+// Appends the send of a thread, where there is one.
 fn put_send_of(code: &mut Code, send: Option<SendRef<'_>>) -> Result<(), AllocError>
     ensures { OnOk result (Writes (optional send_code send.entry) code.old code.new) }
 {
@@ -47,8 +48,8 @@ fn put_send_of(code: &mut Code, send: Option<SendRef<'_>>) -> Result<(), AllocEr
     }
 }
 
-// What a thread has asked of another, where there is something.
-fn put_order_of(code: &mut Code, order: Option<Asked>) -> Result<(), AllocError>
+// Appends what a thread has asked of another, where there is something.
+fn put_order_of(code: &mut Code, order: Option<PendingOrder>) -> Result<(), AllocError>
     ensures { OnOk result (Writes (optional asked_code order) code.old code.new) }
 {
     match order {
@@ -56,12 +57,12 @@ fn put_order_of(code: &mut Code, order: Option<Asked>) -> Result<(), AllocError>
         Some(order) => {
             code.put(1)?;
             put_global(code, order.target())?;
-            put_what(code, order.what())
+            put_order_kind(code, order.what())
         }
     }
 }
 
-// The phase of a thread, but for when it began.
+// Appends the phase of a thread, but not when it began.
 fn put_phase(code: &mut Code, block: &Tcb) -> Result<(), AllocError>
     ensures { OnOk result (Writes (phase_code block.now.thread.phase) code.old code.new) }
 {
@@ -72,7 +73,7 @@ fn put_phase(code: &mut Code, block: &Tcb) -> Result<(), AllocError>
     put_receive(code, *receive)
 }
 
-// Which phase a thread is in.
+// Appends which phase a thread is in.
 fn put_state(code: &mut Code, state: State) -> Result<(), AllocError>
     ensures { OnOk result (Writes (number_code (state_number state)) code.old code.new) }
 {
@@ -86,7 +87,7 @@ fn put_state(code: &mut Code, state: State) -> Result<(), AllocError>
     }
 }
 
-// Registers and place in the script.
+// Appends the registers, and the place in the script.
 fn put_context(code: &mut Code, thread: &Thread) -> Result<(), AllocError>
     ensures { OnOk result (Writes (context_code thread.now.context) code.old code.new) }
 {
@@ -100,7 +101,7 @@ fn put_context(code: &mut Code, thread: &Thread) -> Result<(), AllocError>
     code.put(thread.place() as u64)
 }
 
-/// A thread.
+/// Appends a thread.
 ///
 /// `AllocError`: memory was refused.
 pub fn put_thread(code: &mut Code, block: &Tcb) -> Result<(), AllocError>

@@ -1,4 +1,4 @@
--- A command that gains an argument, or a subcommand.
+-- Adding an argument or a subcommand to a command keeps what is known of it.
 use Rattle.std.proofs.Common.{◌≡◌, false, ap, ap₂, ◌∙◌, refl}
 use Rattle.clap.specs.Words.{AddsArg, AddsSubcommand, App, Rule, app_of, rule_of, with_rule, with_subcommand}
 use Rattle.clap.specs.declared.builder.arg.Arg.{Arg}

@@ -1,4 +1,4 @@
--- Clap tells exactly what it makes of the program's words.
+-- The commands of the program are of the form for which clap's contracts are exact.
 use Rattle.std.proofs.Common.{◌≡◌, true, codes, refl}
 use Rattle.clap.specs.Words.{App, Text, is_simple, is_simple_and_free}
 use Rattle.l4_commands.specs.Commands.{file_rule, trace_rule, turns_rule, rest_turns_rule, schedule_rule, number_rule, text_rule, flag_rule, with_extras, with_printed, run_app, replay_app, audit_app, steps_app, part_app, forms_app, chart_app, searched_app, lines_app, endings_app, lint_app, top_app, l4run_app}

@@ -1,4 +1,4 @@
--- From the getters of the matches to the job that they have.
+-- From single values of the matches to the job that they ask for.
 use Rattle.std.proofs.Common.{◌≡◌, ℕ, Bool, true, false, Option, Some, None, [], ◌∷◌, ◌++◌, codes, refl, sym, ap, ap₂, subst, inl, inr, ◌∙◌}
 use Rattle.std.specs.Prelude.{◌⊎◌, ◌||◌, if◌then◌else◌, is_some, IfSome, MatchBool, option_map, option_and_then}
 use Rattle.std.specs.Str.Parse.{ParsesBool}
@@ -20,7 +20,7 @@ use Rattle.l4_commands.specs.declared.job.Printed.{Printed}
 use Rattle.l4_commands.specs.declared.words.WordsFault.{WordsFault}
 use Rattle.l4_commands.specs.declared.words.WordsFault.TheVariants.{Help, Usage, NoMemory}
 
--- A value that was read is that of a text.
+-- A value that was read is the value of some text.
 pub read : {T : Type 0} (IsRead : Text → Type 0) (o : Option Text) (v : T) →
     (o ≡ None → Some v ≡ None) → ((t : Text) → o ≡ Some t → IsRead t) → (t : Text) × (o ≡ Some t) × IsRead t
 read IsRead None v none value = absurd (let e = none refl in cc)
@@ -30,7 +30,7 @@ flag_is : (t : Text) (b : Bool) → MatchBool b (t ≡ codes "true") (t ≡ code
 flag_is t true e = ap flag_of e
 flag_is t false e = ap flag_of e
 
--- A flag that was read is that of the rows, and so is a number.
+-- The value of a flag or of a number, read from the matches, is that of the rows.
 pub flag_read : (E : Type 0) (f : Found) (name : Text) (o : Option Bool) → (one_text f name ≡ None → o ≡ None) →
     ((t : Text) → one_text f name ≡ Some t → ReadsOne {E = E} ParsesBool t o) → IfSome o (λ given. flag_in name (rows_of f) ≡ Some given)
 flag_read E f name None none value = tt
@@ -42,7 +42,7 @@ pub number_is : (f : Found) (name : Text) (n : ℕ) → (t : Text) × (one_text 
 number_is f name n (t, given, is) =
     ap (option_map number_of) (sym (one_text-rows f name) ∙ given) ∙ ap (λ (m : ℕ). Some m) (sym is)
 
--- So is the text of an argument.
+-- The text of an argument is that of the rows.
 text_is : (f : Found) (name : Text) (o : Option Text) → first_value f name ≡ o → first_of name (rows_of f) ≡ o
 text_is f name o given = sym (first_value-rows f name) ∙ given
 
@@ -66,7 +66,7 @@ run_is f file turns printed record_to expected p q r right to wants =
         (o >>= λ f. n >>= λ t. print >>= λ p. if wrong then None else Some (ToRun f t p name wanted)) ≡ Some (ToRun file turns printed record_to expected)
     unless wrong right a b c d e = rw (a, b, c, d, e, right) refl
 
--- Whether a run has a schedule, and whether it is recorded and something is expected of it
+-- Whether a run has a schedule, or both `--record` and `--expect`.
 pub given_is : (f : Found) (name : Text) (o : Option Text) → first_value f name ≡ o → is_some o ≡ is_some (first_of name (rows_of f))
 given_is f name o p = ap is_some (sym (text_is f name _ p))
 
@@ -152,7 +152,7 @@ pub wrong_second : (f : Found) (line never : Option Text) (is : Bool) → first_
 wrong_second f line never is p q right same =
     same ∙ sym (ap₂ (λ a b. a || b) (ap is_wrong_line (text_is f (codes "with") _ p) ∙ right) (ap is_wrong_line (text_is f (codes "never") _ q)))
 
--- What may be wrong with words is among more that may be.
+-- A fault stays among the faults if more are appended.
 among_more : (kind : ErrorKind) (kinds more : Kinds) → IsAmong kind kinds → IsAmong kind (kinds ++ more)
 among_more kind [] more among = elim among [ ]
 among_more kind (k ∷ kinds) more (inl e) = inl e
@@ -163,7 +163,7 @@ refusal_more kinds more (Help text) (kind, among, help) = (kind, among_more kind
 refusal_more kinds more (Usage text) (kind, among, no_help, no_version) = (kind, among_more kind kinds more among, no_help, no_version)
 refusal_more kinds more NoMemory is = tt
 
--- What is answered of an error is answered of the words that it comes from.
+-- A refusal by the error that clap found is a refusal by the faults that the words may have.
 pub refusal_of : (kinds : Kinds) (kind : ErrorKind) (fault : WordsFault) → (kind ≡ OutOfMemory → fault ≡ NoMemory) → IsRefusal (kind ∷ []) fault →
     (kind ≡ OutOfMemory) ⊎ IsAmong kind kinds → IsRefusal kinds fault
 refusal_of kinds kind NoMemory memory refusal among = tt

@@ -1,4 +1,4 @@
--- The name of a file that a schedule gives.
+-- The name of the file that has the schedule.
 use Rattle.std.proofs.Common.{◌≡◌, ℕ, Bool, true, false, Option, Some, None, List, [], ◌∷◌, Bor, refl, sym, ap, eqb-true, MatchOption}
 use Rattle.std.specs.Prelude.{◌==◌, ◌≢◌, if◌then◌else◌, option_map}
 use Rattle.l4_commands.specs.Files.{list_name}

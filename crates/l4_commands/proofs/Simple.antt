@@ -1,4 +1,5 @@
--- Which commands clap reads exactly, told rule by rule: nothing is computed of a whole command.
+-- Which commands clap reads exactly, proved rule by rule, so that no whole command has to be
+-- computed.
 use Rattle.std.proofs.Common.{◌≡◌, ℕ, Bool, true, false, not, ◌&&◌, ◌||◌, List, [], ◌∷◌, ◌++◌, map, refl, if◌then◌else◌}
 use Rattle.std.specs.List.{list_all, list_any}
 use Rattle.clap.specs.Walk.{Rule, Text, is_early_multiple, is_multiple}
@@ -26,7 +27,7 @@ none_of_each : {X : Type 0} (P : X → Type 0) (test : X → Bool) → ((x : X) 
 none_of_each P test step [] a = refl
 none_of_each P test step (x ∷ xs) (p, a) = rw (step x p, none_of_each P test step xs a) refl
 
--- An argument with plain settings and no rule on another, which has at most one value.
+-- An argument of plain settings that depends on no other and takes at most one value.
 pub record IsSingle (r : Rule) : Type 0 where
   pub simple : r.is_simple ≡ true
   pub free : r.is_free ≡ true
@@ -42,7 +43,7 @@ pub record IsOrdinaryLeaf (s : Shape) : Type 0 where
   pub leaf : s.is_leaf ≡ true
   pub ordinary : IsOrdinary s
 
--- A command with no subcommands, and one whose subcommands have none.
+-- A command without subcommands, and one whose subcommands have none.
 pub record IsCommand (a : App) : Type 0 where
   pub is : IsOrdinaryLeaf a.top
 
@@ -50,7 +51,7 @@ pub record IsProgram (a : App) : Type 0 where
   pub top : IsOrdinary a.top
   pub subs : Each IsOrdinaryLeaf a.subs
 
--- One argument more, and one subcommand.
+-- Adding an argument or a subcommand keeps this.
 pub named : (name : Text) → IsCommand (new_app name)
 named name = record { is = record { leaf = refl; ordinary = record { plain = refl; fresh = refl; rules = tt } } }
 
@@ -72,7 +73,7 @@ below {a} {b} program command = record {
   subs = each_append IsOrdinaryLeaf a.subs (b.top ∷ []) program.subs (command.is, tt);
 }
 
--- What building adds is as single.
+-- The help argument that clap adds is of this form too.
 help_is_single : IsSingle help_rule
 help_is_single = record { simple = refl; free = refl; single = refl }
 
@@ -88,7 +89,7 @@ helped s each =
     flagged (s.disable_version_flag || (not s.has_version && not s.has_long_version)) version_rule _ version_is_single
     (flagged s.disable_help_flag help_rule s.rules help_is_single each)
 
--- Arguments with what they left out.
+-- An argument once its omitted settings have their defaults.
 pub record IsFilled (r : Rule) : Type 0 where
   pub simple : r.is_simple ≡ true
   pub free : r.is_free ≡ true
@@ -136,7 +137,7 @@ read_leaf above s o =
     let read : IsRead (with_filled_rules under) = read_when_filled under o.ordinary.plain each in
     rw o.ordinary.fresh (o.leaf, read)
 
--- The subcommands once they are built, with `help` among them or not.
+-- A subcommand that is built, with or without `help`.
 abbrev IsReadLeaf : Shape → Type 0
 IsReadLeaf s = (s.is_leaf ≡ true) × IsRead s
 
@@ -167,7 +168,7 @@ all_true true true true false e f p q r s t u = absurd (let bad = s in cc)
 all_true true true true true false f p q r s t u = absurd (let bad = t in cc)
 all_true true true true true true false p q r s t u = absurd (let bad = u in cc)
 
--- Such a program is one whose words clap reads exactly.
+-- Clap reads the words of such a program exactly.
 pub reads_exactly : {a : App} → IsProgram a → is_simple_and_free a ≡ true
 reads_exactly {a} program =
     let above = on_top with_leaf_noted (on_top marked_built a) in
@@ -180,7 +181,7 @@ reads_exactly {a} program =
     (all_of_each IsReadLeaf is_ready_leaf leaf_is_ready _ is.1) is.0.free
     (all_of_each IsReadLeaf has_free_rules (λ s r. r.1.free) _ is.1))
 
--- So it is simple, too.
+-- Such a program is simple too.
 pub simple_of_free : (a : App) → is_simple_and_free a ≡ true → is_simple a ≡ true
 simple_of_free a e = by (is_simple a) _ e
   where

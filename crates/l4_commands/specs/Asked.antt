@@ -22,19 +22,20 @@ use Rattle.l4_commands.specs.declared.job.Printed.{Printed}
 use Rattle.l4_commands.specs.declared.words.WordsFault.{WordsFault}
 use Rattle.l4_commands.specs.declared.words.WordsFault.TheVariants.{Help, Usage, NoMemory}
 
--- A job by its texts.
-pub data Asked : Type 0 where
-  ToRun : (file : Text) (turns : ℕ) (printed : Printed) (record_to expected : Option Text) → Asked
+-- A job, with texts in place of borrowed strings.
+pub data JobTexts : Type 0 where
+  ToRun : (file : Text) (turns : ℕ) (printed : Printed)
+      (record_to expected : Option Text) → JobTexts
   ToReplay : (file schedule : Text) (rest : Option ℕ) (printed : Printed)
-      (expected : Option Text) → Asked
-  ToAudit : (file trace : Text) (judged : Judged) → Asked
+      (expected : Option Text) → JobTexts
+  ToAudit : (file trace : Text) (judged : Judged) → JobTexts
   ToChart : (file trace : Text) (first last : ℕ) (threads : Option Text) (form : ChartForm)
-      (width : ℕ) → Asked
+      (width : ℕ) → JobTexts
   ToSearch : (file : Text) (depth states : ℕ) (stuck : Bool) (with_line never : Option Text)
-      (none waits : Bool) (expected : Option Text) → Asked
-  ToLint : (file : Text) (schedule : Option Text) → Asked
+      (none waits : Bool) (expected : Option Text) → JobTexts
+  ToLint : (file : Text) (schedule : Option Text) → JobTexts
 
-abbrev pub asked_by : Job → Asked
+abbrev pub asked_by : Job → JobTexts
 asked_by (Run file turns printed record_to expected) =
     ToRun file.now turns printed (option_copied record_to) (option_copied expected)
 asked_by (Replay file schedule rest printed expected) =
@@ -47,7 +48,7 @@ asked_by (Endings e) =
     e.none e.waits (option_copied e.expected)
 asked_by (Lint file schedule) = ToLint file.now (option_copied schedule)
 
--- The number of a text of digits, and the flag of a text.
+-- The values that the text of an argument stands for.
 abbrev pub number_of : Text → ℕ
 number_of text = digits_value 10 (without_leading_plus text)
 
@@ -55,15 +56,14 @@ abbrev pub flag_of : Text → Option Bool
 flag_of text = if bytes_eq text (codes "true") then Some true else if bytes_eq text (codes "false")
     then Some false else None
 
--- The number of an argument, and whether a flag was given, by the matches of a subcommand's
--- arguments.
+-- The value of a number or of a flag, in the matches of a subcommand.
 abbrev pub number_in : (name : Text) → List Row → Option ℕ
 number_in name rows = option_map number_of (one_of name rows)
 
 abbrev pub flag_in : (name : Text) → List Row → Option Bool
 flag_in name rows = option_and_then flag_of (one_of name rows)
 
--- What is printed of a run or a replay, and what is printed last.
+-- What is printed of a run or a replay, and of what is printed last.
 abbrev pub extras_in : List Row → Option Extras
 extras_in rows = do
   waits ← flag_in (codes "waits") rows
@@ -76,7 +76,7 @@ printed_in rows = do
   extras ← extras_in rows
   Some (record { report = report; extras = extras })
 
--- And of an audit.
+-- What is printed of an audit.
 abbrev pub judged_in : List Row → Option Judged
 judged_in rows = do
   report ← flag_in (codes "report") rows
@@ -84,7 +84,7 @@ judged_in rows = do
   extras ← extras_in rows
   Some (record { report = report; explain = explain; extras = extras })
 
--- A schedule would be kept in the file of the machine text.
+-- Whether the schedule would overwrite the machine text.
 abbrev pub is_same : (file name : Option Text) → Bool
 is_same (Some file) (Some name) = bytes_eq name file
 is_same file name = false
@@ -92,7 +92,7 @@ is_same file name = false
 abbrev pub is_over_file : List Row → Bool
 is_over_file rows = is_same (first_of (codes "file") rows) (first_of (codes "record") rows)
 
--- Or a schedule is given of a run, or something is expected of one that is recorded.
+-- Whether a run has arguments that exclude each other, or a schedule, which it does not take.
 abbrev pub are_both : Option Text → Option Text → Bool
 are_both (Some record_to) (Some expected) = true
 are_both record_to expected = false
@@ -102,8 +102,8 @@ is_run_wrong rows =
     is_over_file rows || (is_some (first_of (codes "schedule") rows)
     || are_both (first_of (codes "record") rows) (first_of (codes "expect") rows))
 
--- The job of the matches.
-abbrev pub run_in : List Row → Option Asked
+-- The job that the matches of each subcommand ask for.
+abbrev pub run_in : List Row → Option JobTexts
 run_in rows = do
   file ← first_of (codes "file") rows
   turns ← number_in (codes "turns") rows
@@ -112,7 +112,7 @@ run_in rows = do
       else Some (ToRun file turns printed (first_of (codes "record") rows)
       (first_of (codes "expect") rows))
 
--- For how many turns a replay goes on, if it does. Without --then-rest no turns may be given.
+-- For how many turns a replay goes on, if it does. `--turns` without `--then-rest` is not allowed.
 abbrev pub rest_turns : (goes_on : Bool) → (given : Option Text) → (turns : Option ℕ) →
     Option (Option ℕ)
 rest_turns false None turns = Some None
@@ -125,7 +125,7 @@ rest_in rows = do
   goes_on ← flag_in (codes "then-rest") rows
   rest_turns goes_on (first_of (codes "turns") rows) (number_in (codes "turns") rows)
 
-abbrev pub replay_in : List Row → Option Asked
+abbrev pub replay_in : List Row → Option JobTexts
 replay_in rows = do
   file ← first_of (codes "file") rows
   schedule ← first_of (codes "schedule") rows
@@ -133,7 +133,7 @@ replay_in rows = do
   printed ← printed_in rows
   Some (ToReplay file schedule rest printed (first_of (codes "expect") rows))
 
--- Turns are given of a replay that does not go on.
+-- Whether `--turns` is given without `--then-rest`.
 abbrev pub are_turns_alone : (goes_on : Option Bool) → (given : Option Text) → Bool
 are_turns_alone (Some false) (Some given) = true
 are_turns_alone goes_on given = false
@@ -142,7 +142,7 @@ abbrev pub has_turns_alone : List Row → Bool
 has_turns_alone rows = are_turns_alone (flag_in (codes "then-rest") rows)
     (first_of (codes "turns") rows)
 
-abbrev pub audit_in : List Row → Option Asked
+abbrev pub audit_in : List Row → Option JobTexts
 audit_in rows = do
   file ← first_of (codes "file") rows
   trace ← first_of (codes "trace") rows
@@ -157,7 +157,7 @@ flags_in rows = do
   mermaid ← flag_in (codes "mermaid") rows
   Some (record { ascii = ascii; svg = svg; html = html; mermaid = mermaid })
 
--- One form at most may be asked for: without one, it is a text with lines.
+-- At most one form is allowed. Without any, the chart is a text with lines.
 abbrev pub form_by : (ascii svg html mermaid : Bool) → Option ChartForm
 form_by false false false false = Some Lines
 form_by true false false false = Some Ascii
@@ -169,7 +169,7 @@ form_by _ _ _ _ = None
 abbrev pub form_of : Flags → Option ChartForm
 form_of f = form_by f.ascii f.svg f.html f.mermaid
 
-abbrev pub chart_in : List Row → Option Asked
+abbrev pub chart_in : List Row → Option JobTexts
 chart_in rows = do
   file ← first_of (codes "file") rows
   trace ← first_of (codes "trace") rows
@@ -180,7 +180,7 @@ chart_in rows = do
   width ← number_in (codes "width") rows
   Some (ToChart file trace first last (first_of (codes "threads") rows) form width)
 
--- A line that no report has, or that may not be asked for.
+-- Whether a line can't be searched for: no report has it, or runs to one ending may differ in it.
 abbrev pub is_wrong_line : Option Text → Bool
 is_wrong_line None = false
 is_wrong_line (Some line) = is_some (line_fault line)
@@ -189,7 +189,7 @@ abbrev pub has_wrong_line : List Row → Bool
 has_wrong_line rows = is_wrong_line (first_of (codes "with") rows) ||
     is_wrong_line (first_of (codes "never") rows)
 
-abbrev pub endings_in : List Row → Option Asked
+abbrev pub endings_in : List Row → Option JobTexts
 endings_in rows = do
   file ← first_of (codes "file") rows
   depth ← number_in (codes "depth") rows
@@ -201,13 +201,13 @@ endings_in rows = do
       else Some (ToSearch file depth states stuck (first_of (codes "with") rows)
       (first_of (codes "never") rows) none waits (first_of (codes "expect") rows))
 
-abbrev pub lint_in : List Row → Option Asked
+abbrev pub lint_in : List Row → Option JobTexts
 lint_in rows = do
   file ← first_of (codes "file") rows
   Some (ToLint file (first_of (codes "schedule") rows))
 
--- The standard input, which can be read once, is named twice: of the machine text, the trace or the
--- list of a schedule, and the expectations, two are.
+-- Whether the standard input, which can be read only once, is named more than once. A job reads a
+-- machine text, a trace or a schedule, and expectations.
 abbrev pub is_input_of : Option Text → Bool
 is_input_of None = false
 is_input_of (Some name) = is_input name
@@ -226,8 +226,8 @@ names_input_twice rows =
     are_two (names_input (codes "file") rows)
     (names_input (codes "trace") rows || lists_input rows) (names_input (codes "expect") rows)
 
--- The job of the matches: of the subcommand that was named.
-abbrev pub asked_in : Text × List Row → Option Asked
+-- The job that the matches ask for, by the name of the subcommand.
+abbrev pub asked_in : Text × List Row → Option JobTexts
 asked_in p =
     if names_input_twice p.1 then None
     else (if bytes_eq p.0 (codes "run") then run_in p.1
@@ -238,13 +238,12 @@ asked_in p =
     else (if bytes_eq p.0 (codes "lint") then lint_in p.1
     else None))))))
 
--- The job of the matches that the words have.
-abbrev pub asked_of : (words : List Text) → Option Asked
+-- The job that the words ask for, if clap reads them.
+abbrev pub asked_of : (words : List Text) → Option JobTexts
 asked_of words = option_and_then asked_in (subcommand_of l4run_app words)
 
--- Words that exclude each other: two files that are the standard input; of a run, a schedule, or
--- one that is kept in the file of its machine text; of a replay, turns but no rest; of a chart, two
--- forms; of a search, a line that may not be asked for.
+-- Whether the arguments of a subcommand exclude each other, where clap does not see it. `run` and
+-- `endings` also refuse single arguments.
 abbrev pub excludes : Option Flags → Bool
 excludes None = false
 excludes (Some flags) = is_none (form_of flags)
@@ -262,12 +261,12 @@ abbrev pub excluded_in : Option (Text × List Row) → Kinds
 excluded_in None = []
 excluded_in (Some p) = if excluding p then ArgumentConflict ∷ [] else []
 
--- What may be wrong with words, or that help is asked for: none of it where they ask for a job.
+-- All faults that the words may have, among them requests for help. A job has none of them.
 abbrev pub wrong_in : (words : List Text) → Kinds
 wrong_in words = faults_of words ++ excluded_in (subcommand_of l4run_app words)
 
--- Why there is no job, by what may be wrong with the words: help, or the version, is answered only
--- where they ask for it, and usage only where they are wrong.
+-- Why there is no job. Help, or the version, is answered only where the words ask for it, and usage
+-- only where they are wrong.
 abbrev pub IsRefusal : Kinds → WordsFault → Type 0
 IsRefusal kinds (Help text) = (kind : ErrorKind) × IsAmong kind kinds ×
     ((kind ≡ DisplayHelp) ⊎ (kind ≡ DisplayVersion))

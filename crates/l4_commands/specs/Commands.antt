@@ -22,7 +22,7 @@ turns_rule = record (new_rule (codes "turns")) {
   defaults = codes "100000" ∷ [];
 }
 
--- The same of a replay that goes on, where it stands for no number if it is not given.
+-- `--turns` of a replay. It has no default, so that it shows whether it was given.
 abbrev pub rest_turns_rule : Rule
 rest_turns_rule = record (new_rule (codes "turns")) {
   long = Some (codes "turns");
@@ -38,9 +38,8 @@ schedule_rule = record (new_rule (codes "schedule")) {
   required = true;
 }
 
--- --depth N, --states N, --from N, --to N and --width N, numbers below 2^64. Where they are not
--- given, the depth is 1000, the states are 100000, the first step is 1, the last is any, and 0
--- stands for the width of the terminal.
+-- `--depth N`, `--states N`, `--from N`, `--to N` and `--width N`, numbers below 2^64. The defaults
+-- are 1000, 100000, 1, 2^64 - 1, and 0 for the width of the terminal.
 abbrev pub number_rule : (name default : Text) → Rule
 number_rule name default =
     record (new_rule name) {
@@ -86,37 +85,36 @@ counts_rule = flag_rule (codes "counts")
 abbrev pub expect_rule : Rule
 expect_rule = text_rule (codes "expect")
 
--- What is printed of a run, and what is printed last.
+-- What is printed last, and what is printed of a run or a replay.
 abbrev pub with_extras : App → App
 with_extras a = with_rule (with_rule a waits_rule) counts_rule
 
 abbrev pub with_printed : App → App
 with_printed a = with_extras (with_rule a report_rule)
 
--- The command `run`, with its file and turns, what is printed, and where its schedule is kept.
+-- The command `run`: its file, its turns, what is printed, and the file for its schedule.
 abbrev pub turned_app : App
 turned_app = with_rule (with_rule (new_app (codes "run")) file_rule) turns_rule
 
--- A schedule is an argument of `replay`. That it is given is told by a text of its own.
+-- `run` takes no schedule, and a text of its own says so. So clap has to know the argument.
 abbrev pub recorded_app : App
 recorded_app = with_rule (with_printed turned_app) (text_rule (codes "record"))
 
 abbrev pub run_app : App
 run_app = with_rule (with_rule recorded_app expect_rule) (text_rule (codes "schedule"))
 
--- The command `replay`, with its file and schedule, and what is printed.
+-- The command `replay`: its file, its schedule, what is printed, and its expectations.
 abbrev pub scheduled_app : App
 scheduled_app = with_rule (with_rule (new_app (codes "replay")) file_rule) schedule_rule
 
--- And with --then-rest, and --turns N for it.
+-- `--then-rest`, and `--turns N` for it.
 abbrev pub rested_app : App
 rested_app = with_rule (with_rule scheduled_app (flag_rule (codes "then-rest"))) rest_turns_rule
 
 abbrev pub replay_app : App
 replay_app = with_rule (with_printed rested_app) expect_rule
 
--- The command `audit`, with its files, what is told of a world and of a step that is not possible,
--- and what is printed last.
+-- The command `audit`: its files, its report and explanations, and what is printed last.
 abbrev pub audited_app : App
 audited_app = with_rule (with_rule (new_app (codes "audit")) file_rule) trace_rule
 
@@ -126,7 +124,7 @@ explained_app = with_rule (with_rule audited_app report_rule) (flag_rule (codes 
 abbrev pub audit_app : App
 audit_app = with_extras explained_app
 
--- The command `chart`, with its files, the steps, the part that is shown, and the forms.
+-- The command `chart`: its files, its steps, its threads and its forms.
 abbrev pub traced_app : App
 traced_app = with_rule (with_rule (new_app (codes "chart")) file_rule) trace_rule
 
@@ -142,7 +140,7 @@ forms_app = with_rule (with_rule part_app (flag_rule (codes "ascii"))) (flag_rul
 abbrev pub chart_app : App
 chart_app = with_rule (with_rule forms_app (flag_rule (codes "html"))) (flag_rule (codes "mermaid"))
 
--- The command `endings`, with its file, how far it searches, and which endings it asks for.
+-- The command `endings`: its file, the limits of its search, and which endings it searches for.
 abbrev pub searched_app : App
 searched_app = with_rule (with_rule (with_rule (new_app (codes "endings")) file_rule)
     depth_rule) states_rule
@@ -154,7 +152,7 @@ lines_app = with_rule (with_rule searched_app (text_rule (codes "with")))
 abbrev pub asked_app : App
 asked_app = with_rule (with_rule lines_app (flag_rule (codes "stuck"))) (flag_rule (codes "none"))
 
--- And with what is told of each, and what is expected of it.
+-- Whether it tells who waits for whom, and its expectations.
 abbrev pub endings_app : App
 endings_app = with_rule (with_rule asked_app waits_rule) expect_rule
 
@@ -162,14 +160,14 @@ abbrev pub lint_app : App
 lint_app =
     with_rule (with_rule (new_app (codes "lint")) file_rule) (text_rule (codes "schedule"))
 
--- It has --version.
+-- The program itself takes `--version` and needs a subcommand.
 abbrev pub top_app : App
 top_app = let a = new_app (codes "l4run") in record a {
   top =
       record a.top { has_version = true; subcommand_required = true };
 }
 
--- One of the six has to be named.
+-- The six subcommands.
 abbrev pub runs_app : App
 runs_app = with_subcommand (with_subcommand top_app run_app.top) replay_app.top
 
@@ -179,6 +177,6 @@ traces_app = with_subcommand (with_subcommand runs_app audit_app.top) chart_app.
 unfoldable pub l4run_app : App
 l4run_app = with_subcommand (with_subcommand traces_app endings_app.top) lint_app.top
 
--- What may be wrong with words, or that help is asked for: none of it where they ask for a job.
+-- All faults that clap may report of the words, among them requests for help.
 abbrev pub faults_of : (words : List Text) → Kinds
 faults_of words = fault_of l4run_app words

@@ -1,4 +1,4 @@
--- The files that a job reads, and the same job for an output of its own kind.
+-- The files that a job reads, and the job as an output of a given kind needs it.
 use Rattle.std.specs.Prelude.{◌==◌, ℕ, Bool, true, false, if◌then◌else◌, Option, Some, None, List, [], ◌∷◌, codes}
 use Rattle.std.specs.Borrow.{Bor}
 use Rattle.std.specs.Option.{option_map}
@@ -17,8 +17,7 @@ use Rattle.l4_commands.specs.declared.job.Job.TheVariants.{Run, Replay, Audit, C
 abbrev pub is_input : (name : List ℕ) → Bool
 is_input name = bytes_eq name (codes "-")
 
--- The name of the file that the list of a schedule is in: what follows the `@`, byte 64, that it
--- begins with.
+-- The name of the file that has the schedule: what follows a first `@`, byte 64.
 abbrev pub list_name : (schedule : List ℕ) → Option (List ℕ)
 list_name [] = None
 list_name (first ∷ name) = if first == 64 then Some name else None
@@ -47,7 +46,7 @@ abbrev pub record_of : Job → Option (List ℕ)
 record_of (Run file turns printed record_to expected) = option_map (λ name. name.now) record_to
 record_of _ = None
 
--- The job of a run that is to be recorded.
+-- The job that asks for this recording.
 abbrev pub job_of : Recording → Job
 job_of r = Run r.file r.turns r.printed (Some r.name) r.expected
 
@@ -59,7 +58,7 @@ expected_of (Replay file schedule rest printed expected) = option_map (λ name. 
 expected_of (Endings search) = option_map (λ name. name.now) search.expected
 expected_of _ = None
 
--- The job of which it is expected, and the list that it goes by, where that is in a file.
+-- The job that asks for these expectations, and the file of its schedule, where it has one.
 abbrev pub job_by : (file name : Bor (List ℕ)) → Course → Job
 job_by file name (course.Run turns printed) = Run file turns printed None (Some name)
 job_by file name (course.Replay schedule rest printed) =
@@ -73,7 +72,7 @@ abbrev pub list_file_of : Course → Option (List ℕ)
 list_file_of (course.Replay schedule rest printed) = list_name schedule.now
 list_file_of _ = None
 
--- The list that is judged beside a machine text, and the job that asks for it.
+-- The schedule that is checked beside a machine text, and the job that asks for this.
 abbrev pub lint_list_of : Job → Option (List ℕ)
 lint_list_of (Lint file schedule) = option_map (λ list. list.now) schedule
 lint_list_of _ = None
@@ -81,8 +80,7 @@ lint_list_of _ = None
 abbrev pub list_lint_job : ListLint → Job
 list_lint_job lint = Lint lint.file (Some lint.schedule)
 
--- The form and the width of a chart for an output that may show lines, and may have this many
--- columns. What was asked for stays.
+-- A chart for an output that may show lines and has this many columns. What the user chose stays.
 abbrev pub form_on : (shows_lines : Bool) → ChartForm → ChartForm
 form_on true form = form
 form_on false Lines = Ascii

@@ -9,7 +9,7 @@ ghost use Rattle.l4_commands.specs.Commands.{waits_rule, counts_rule, expect_rul
 use clap::{Arg, ArgAction, value_parser};
 use std::alloc::Global;
 
-/// How many turns a run has, and a replay that goes on, where they are not given.
+/// The number of turns that `run`, and `replay --then-rest`, take where `--turns` is not given.
 pub const DEFAULT_TURNS: u64 = 100_000;
 
 pub fn file_arg<'a>(alloc: Global) -> Arg<'a>
@@ -44,7 +44,7 @@ pub fn turns_arg<'a>(alloc: Global) -> Arg<'a>
         .default_value("100000")
 }
 
-// The turns of a replay that goes on. Where they are not given, the matches have none.
+// `--turns` of `replay`. It has no default value, so the matches show whether it was given.
 pub fn rest_turns_arg<'a>(alloc: Global) -> Arg<'a>
     ensures rule { rule_of result ≡ rest_turns_rule }
     ensures local { result.global ≡ false }
@@ -115,8 +115,7 @@ pub fn expect_arg<'a>(alloc: Global) -> Arg<'a>
     )
 }
 
-// The schedule of a run. It has none, and help does not show it: whoever gives one is told of
-// `replay`.
+// `--schedule` of `run`, which takes none. It is hidden, and leads whoever gives it to `replay`.
 pub fn no_schedule_arg<'a>(alloc: Global) -> Arg<'a>
     ensures rule { rule_of result ≡ text_rule (codes "schedule") }
     ensures local { result.global ≡ false }

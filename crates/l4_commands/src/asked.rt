@@ -1,4 +1,4 @@
-//! What the matches of the words ask for.
+//! The job that clap's matches of the words ask for.
 ghost use Rattle.std.specs.Prelude.{◌≡◌, ◌∷◌, [], IfSome, IsSome, IsTrue, Some, true};
 ghost use Rattle.std.specs.Prelude.{codes, is_some, option_and_then};
 ghost use Rattle.std.specs.Option.{option_copied};
@@ -17,7 +17,7 @@ use crate::job::{ChartForm, ChartJob, EndingsJob, Extras, INPUT, Job, Judged, Pr
 use clap::ArgMatches;
 use l4_lines::lines::{LineFault, line_fault};
 
-// Whether the matches have a flag.
+// Whether this flag was given.
 fn flag(matches: &ArgMatches<'_>, name: &str) -> Option<bool>
     ensures { IfSome result (λ given.
         flag_in name.now (rows_of (found_of matches.now)) ≡ Some given) }
@@ -25,7 +25,7 @@ fn flag(matches: &ArgMatches<'_>, name: &str) -> Option<bool>
     matches.get_one(name)
 }
 
-// A number of the matches.
+// The number that was given for this argument, or its default.
 fn number(matches: &ArgMatches<'_>, name: &str) -> Option<u64>
     ensures { IfSome result (λ number.
         number_in name.now (rows_of (found_of matches.now)) ≡ Some number) }
@@ -34,7 +34,7 @@ fn number(matches: &ArgMatches<'_>, name: &str) -> Option<u64>
     Some(number)
 }
 
-// What the matches print last.
+// What is printed last, by the matches.
 fn extras(matches: &ArgMatches<'_>) -> Option<Extras>
     ensures { IfSome result (λ extras. extras_in (rows_of (found_of matches.now)) ≡ Some extras) }
 {
@@ -66,7 +66,7 @@ fn judged(matches: &ArgMatches<'_>) -> Option<Judged>
     })
 }
 
-// Whether two names are those of one file.
+// Whether both names are given and are the same.
 fn is_same(file: Option<&str>, name: Option<&str>) -> bool
     ensures { result ≡ is_same (option_copied file.entry) (option_copied name.entry) }
 {
@@ -76,14 +76,14 @@ fn is_same(file: Option<&str>, name: Option<&str>) -> bool
     }
 }
 
-// Whether the schedule of a run would be written to the file of its machine text.
+// Whether `--record` names the file of the machine text, and so would overwrite it.
 fn is_over_file(matches: &ArgMatches<'_>) -> bool
     ensures { result ≡ is_over_file (rows_of (found_of matches.now)) }
 {
     is_same(matches.get_str("file"), matches.get_str("record"))
 }
 
-// Whether a schedule is given of a run.
+// Whether `run` is given a schedule, which only `replay` takes.
 fn has_schedule(matches: &ArgMatches<'_>) -> bool
     ensures { result ≡ is_some (first_of (codes "schedule") (rows_of (found_of matches.now))) }
 {
@@ -102,7 +102,7 @@ fn are_both(record_to: Option<&str>, expected: Option<&str>) -> bool
     }
 }
 
-// Whether a run is to be recorded, and something is expected of it.
+// Whether `--record` and `--expect` are both given.
 fn is_recorded_and_expected(matches: &ArgMatches<'_>) -> bool
     ensures { result ≡ are_both (first_of (codes "record") (rows_of (found_of matches.now)))
         (first_of (codes "expect") (rows_of (found_of matches.now))) }
@@ -110,7 +110,7 @@ fn is_recorded_and_expected(matches: &ArgMatches<'_>) -> bool
     are_both(matches.get_str("record"), matches.get_str("expect"))
 }
 
-// What is wrong with the words of a run.
+// Which arguments of `run` exclude each other, or the one that it does not take.
 fn run_conflict<'a>(matches: &ArgMatches<'a>) -> Option<Conflict<'a>>
     ensures { is_some result ≡ is_run_wrong (rows_of (found_of matches.now)) }
 {
@@ -142,8 +142,8 @@ fn run_job<'a>(matches: &ArgMatches<'a>) -> Option<Job<'a>>
     })
 }
 
-// For how many turns the replay of the matches goes on, if it does. None where turns are given and
-// it does not.
+// For how many turns a replay goes on: `Some(None)` without `--then-rest`. None where `--turns` is
+// given without it.
 fn rest(matches: &ArgMatches<'_>) -> Option<Option<u64>>
     ensures { IfSome result (λ rest. rest_in (rows_of (found_of matches.now)) ≡ Some rest) }
 {
@@ -155,7 +155,7 @@ fn rest(matches: &ArgMatches<'_>) -> Option<Option<u64>>
     }
 }
 
-// Whether the matches of `replay` have turns and no rest.
+// Whether `replay` is given `--turns` without `--then-rest`.
 fn has_turns_alone(matches: &ArgMatches<'_>) -> bool
     ensures { IsTrue result → has_turns_alone (rows_of (found_of matches.now)) ≡ true }
 {
@@ -191,7 +191,7 @@ fn audit_job<'a>(matches: &ArgMatches<'a>) -> Option<Job<'a>>
     })
 }
 
-/// The forms of a chart that are asked for.
+/// Which form flags of `chart` were given.
 #[derive(Clone, Copy)]
 pub struct Flags {
     ascii: bool,
@@ -200,7 +200,7 @@ pub struct Flags {
     mermaid: bool,
 }
 
-// The forms that the matches of `chart` ask for.
+// The form flags in the matches of `chart`.
 fn given_flags(matches: &ArgMatches<'_>) -> Option<Flags>
     ensures { IfSome result (λ flags. flags_in (rows_of (found_of matches.now)) ≡ Some flags) }
 {
@@ -242,26 +242,26 @@ fn chart_job<'a>(matches: &ArgMatches<'a>) -> Option<Job<'a>>
     }))
 }
 
-/// What is wrong with words that `clap` lets pass.
+/// Why words that `clap` accepts ask for no job.
 #[derive(Clone, Copy, Debug)]
 pub enum Conflict<'a> {
-    /// The standard input is read once.
+    /// Two files are the standard input, which can be read only once.
     InputTwice,
-    /// A schedule is of a replay.
+    /// `run` is given `--schedule`, which only `replay` takes.
     ScheduleOfRun,
-    /// Nothing is expected of a run that is recorded.
+    /// `run` is given both `--record` and `--expect`.
     RecordAndExpect,
-    /// A replay that does not go on has no turns.
+    /// `replay` is given `--turns` without `--then-rest`.
     TurnsAlone,
-    /// A schedule would be written over the machine text.
+    /// `--record` names the file of the machine text.
     OverItsFile,
-    /// A chart can't have two forms.
+    /// `chart` is given more than one form.
     TwoForms,
-    /// This line may not be asked for.
+    /// `--with` or `--never` of `endings` gives this line, which it can't search for, and why.
     Line(&'a str, LineFault),
 }
 
-// What is wrong with a line that is asked for, if there is one.
+// Why this line can't be searched for, where one is given.
 fn line_conflict<'a>(line: Option<&'a str>) -> Option<Conflict<'a>>
     ensures { is_some result ≡ is_wrong_line (option_copied line.entry) }
 {
@@ -270,7 +270,7 @@ fn line_conflict<'a>(line: Option<&'a str>) -> Option<Conflict<'a>>
     Some(Conflict::Line(line, fault))
 }
 
-// What is wrong with the lines that the matches of `endings` ask for.
+// The first line of `--with` and `--never` that can't be searched for.
 fn wrong_line<'a>(matches: &ArgMatches<'a>) -> Option<Conflict<'a>>
     ensures { is_some result ≡ has_wrong_line (rows_of (found_of matches.now)) }
 {
@@ -322,7 +322,7 @@ fn is_input(name: Option<&str>) -> bool
     }
 }
 
-// Whether the argument of this name is the standard input.
+// Whether this argument names the standard input.
 fn names_input(matches: &ArgMatches<'_>, name: &str) -> bool
     ensures { result ≡ names_input name.now (rows_of (found_of matches.now)) }
 {
@@ -339,7 +339,7 @@ fn lists_input(matches: &ArgMatches<'_>) -> bool
     }
 }
 
-// Whether two of three are.
+// Whether at least two of three hold.
 fn are_two(first: bool, second: bool, third: bool) -> bool
     ensures { result ≡ are_two first second third }
 {
@@ -376,7 +376,7 @@ pub fn job_of_matches<'a>(matches: &ArgMatches<'a>) -> Option<Job<'a>>
     }
 }
 
-// Whether the matches of `chart` ask for two forms.
+// Whether the matches of `chart` ask for more than one form.
 fn has_two_forms(matches: &ArgMatches<'_>) -> bool
     ensures { IsTrue result → excludes (flags_in (rows_of (found_of matches.now))) ≡ true }
 {
@@ -386,7 +386,7 @@ fn has_two_forms(matches: &ArgMatches<'_>) -> bool
     }
 }
 
-// What is wrong with the words, where a command was named rightly.
+// Why the arguments of the command that was named ask for no job.
 pub fn excluded<'a>(matches: &ArgMatches<'a>) -> Option<Conflict<'a>>
     ensures { IsSome result → excluded_in (subcommand_rows_of matches.now) ≡ ArgumentConflict ∷ [] }
 {

@@ -20,7 +20,7 @@ use crate::texts::{
 use clap::Command;
 use std::alloc::{AllocError, Global};
 
-// A command with what is printed last.
+// Adds the flags for what is printed last.
 fn with_extras<'a>(alloc: Global, command: Command<'a>) -> Result<Command<'a>, AllocError>
     requires { (out-Command command).has_globals ≡ false }
     ensures app { IfOk result (λ with. app_of with ≡ with_extras (app_of command.entry)) }
@@ -31,7 +31,7 @@ fn with_extras<'a>(alloc: Global, command: Command<'a>) -> Result<Command<'a>, A
     command.arg(waits)?.arg(counts)
 }
 
-// A command with what is printed of a run.
+// Adds the flags for what is printed of a run or a replay.
 fn with_printed<'a>(alloc: Global, command: Command<'a>) -> Result<Command<'a>, AllocError>
     requires { (out-Command command).has_globals ≡ false }
     ensures app { IfOk result (λ with. app_of with ≡ with_printed (app_of command.entry)) }
@@ -55,7 +55,7 @@ fn turned_command<'a>(alloc: Global) -> Result<Command<'a>, AllocError>
     run.arg(file)?.arg(turns)
 }
 
-// With where its schedule is kept.
+// Adds the flags for what is printed, and the file that its schedule is recorded in.
 fn recorded_command<'a>(alloc: Global) -> Result<Command<'a>, AllocError>
     ensures app { IfOk result (λ command. app_of command ≡ recorded_app) }
     ensures local { IfOk result (λ command. (out-Command command).has_globals ≡ false) }
@@ -94,7 +94,7 @@ fn scheduled_command<'a>(alloc: Global) -> Result<Command<'a>, AllocError>
     replay.arg(file)?.arg(schedule)
 }
 
-// With how it goes on.
+// Adds whether it goes on behind the schedule, and for how many turns.
 fn rested_command<'a>(alloc: Global) -> Result<Command<'a>, AllocError>
     ensures app { IfOk result (λ command. app_of command ≡ rested_app) }
     ensures local { IfOk result (λ command. (out-Command command).has_globals ≡ false) }
@@ -132,7 +132,7 @@ fn audited_command<'a>(alloc: Global) -> Result<Command<'a>, AllocError>
     audit.arg(file)?.arg(trace)
 }
 
-// With what is told of a world, and of a step that is not possible.
+// Adds `--report` and `--explain`.
 fn explained_command<'a>(alloc: Global) -> Result<Command<'a>, AllocError>
     ensures app { IfOk result (λ command. app_of command ≡ explained_app) }
     ensures local { IfOk result (λ command. (out-Command command).has_globals ≡ false) }
@@ -172,7 +172,7 @@ fn traced_command<'a>(alloc: Global) -> Result<Command<'a>, AllocError>
     chart.arg(file)?.arg(trace)
 }
 
-// With what says which steps are shown.
+// Adds the first and the last step that are shown.
 fn steps_command<'a>(alloc: Global) -> Result<Command<'a>, AllocError>
     ensures app { IfOk result (λ command. app_of command ≡ steps_app) }
     ensures local { IfOk result (λ command. (out-Command command).has_globals ≡ false) }
@@ -183,7 +183,7 @@ fn steps_command<'a>(alloc: Global) -> Result<Command<'a>, AllocError>
     chart.arg(first)?.arg(last)
 }
 
-// With what says which threads are shown, and how wide a text is.
+// Adds the threads that are shown, and the width of a text.
 fn part_command<'a>(alloc: Global) -> Result<Command<'a>, AllocError>
     ensures app { IfOk result (λ command. app_of command ≡ part_app) }
     ensures local { IfOk result (λ command. (out-Command command).has_globals ≡ false) }
@@ -199,7 +199,7 @@ fn part_command<'a>(alloc: Global) -> Result<Command<'a>, AllocError>
     chart.arg(threads)?.arg(width)
 }
 
-// With two of the forms.
+// Adds two of the forms. `chart_command` adds the others.
 fn forms_command<'a>(alloc: Global) -> Result<Command<'a>, AllocError>
     ensures app { IfOk result (λ command. app_of command ≡ forms_app) }
     ensures local { IfOk result (λ command. (out-Command command).has_globals ≡ false) }
@@ -224,7 +224,7 @@ fn chart_command<'a>(alloc: Global) -> Result<Command<'a>, AllocError>
     chart.arg(html)?.arg(mermaid)
 }
 
-// The command `endings` with its file, and how far it searches.
+// The command `endings` with its file and the limits of its search.
 fn searched_command<'a>(alloc: Global) -> Result<Command<'a>, AllocError>
     ensures app { IfOk result (λ command. app_of command ≡ searched_app) }
     ensures local { IfOk result (λ command. (out-Command command).has_globals ≡ false) }
@@ -248,7 +248,7 @@ fn searched_command<'a>(alloc: Global) -> Result<Command<'a>, AllocError>
     endings.arg(file)?.arg(depth)?.arg(states)
 }
 
-// With the lines that its report must have, and must not.
+// Adds the lines that a report must have, and must not have.
 fn lines_command<'a>(alloc: Global) -> Result<Command<'a>, AllocError>
     ensures app { IfOk result (λ command. app_of command ≡ lines_app) }
     ensures local { IfOk result (λ command. (out-Command command).has_globals ≡ false) }
@@ -269,7 +269,7 @@ fn lines_command<'a>(alloc: Global) -> Result<Command<'a>, AllocError>
     endings.arg(line)?.arg(never)
 }
 
-// With which endings are asked for.
+// Adds which endings it searches for.
 fn asked_command<'a>(alloc: Global) -> Result<Command<'a>, AllocError>
     ensures app { IfOk result (λ command. app_of command ≡ asked_app) }
     ensures local { IfOk result (λ command. (out-Command command).has_globals ≡ false) }
@@ -319,7 +319,7 @@ fn lint_command<'a>(alloc: Global) -> Result<Command<'a>, AllocError>
     lint.arg(file)?.arg(schedule)
 }
 
-// The program with what runs a machine text.
+// The program with the commands that run a machine text.
 fn runs_command<'a>(alloc: Global) -> Result<Command<'a>, AllocError>
     ensures { IfOk result (λ command. app_of command ≡ runs_app) }
 {
@@ -333,7 +333,7 @@ fn runs_command<'a>(alloc: Global) -> Result<Command<'a>, AllocError>
     l4run.subcommand(run)?.subcommand(replay)
 }
 
-// With what reads a trace.
+// Adds the commands that read a trace.
 fn traces_command<'a>(alloc: Global) -> Result<Command<'a>, AllocError>
     ensures { IfOk result (λ command. app_of command ≡ traces_app) }
 {

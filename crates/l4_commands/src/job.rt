@@ -1,4 +1,4 @@
-//! What is to be done.
+//! The jobs that the words of a command line can ask for.
 ghost use Rattle.std.specs.Prelude.{◌≡◌, ◌||◌, MatchOption, None};
 ghost use Rattle.std.specs.Option.{option_map};
 ghost use Rattle.l4_commands.specs.Files.{file_of, job_of, list_name, on_output, record_of};
@@ -23,8 +23,7 @@ pub enum ChartForm {
     Mermaid,
 }
 
-/// What is to be drawn: the steps of the trace in a file, as far as the machine text in another can
-/// take them.
+/// A drawing of the steps of a trace, up to the first that is not possible.
 #[derive(Clone, Copy, Debug, PartialEq, Eq)]
 pub struct ChartJob<'a> {
     /// The name of the file with the machine text.
@@ -33,51 +32,52 @@ pub struct ChartJob<'a> {
     pub trace: &'a str,
     /// The first step that is shown, counted from 1.
     pub first: u64,
-    /// The last one.
+    /// The last step that is shown, counted from 1.
     pub last: u64,
-    /// The list of the threads that are shown, with commas between them. Where there is none, all
-    /// are.
+    /// The ids of the threads that are shown, with commas between them. Without a list, all are.
     pub threads: Option<&'a str>,
     /// The form of the chart.
     pub form: ChartForm,
-    /// For how many columns of a terminal a text is laid out, 80 where it is 0.
+    /// The width of a text in columns of a terminal, or 0 for 80 columns.
     pub width: u64,
 }
 
-/// All endings of the machine text in a file are searched for.
+/// A search for all endings of the machine text in a file.
 #[derive(Clone, Copy, Debug, PartialEq, Eq)]
 pub struct EndingsJob<'a> {
     /// The name of the file with the machine text.
     pub file: &'a str,
-    /// How many entries a schedule has at most, 1 to 1,000,000. Any other number is a fault.
+    /// The greatest number of entries of a schedule, 1 to 1,000,000. Any other number is the fault
+    /// `Depth`.
     pub depth: u64,
-    /// How many states are looked at, at most, 1 to 1,000,000. Any other number is a fault.
+    /// The greatest number of states that are visited, 1 to 1,000,000. Any other number is the
+    /// fault `States`.
     pub states: u64,
-    /// Whether only endings are asked for in which somebody waits for ever.
+    /// Whether to search only for endings in which a thread waits for ever.
     pub stuck: bool,
-    /// A line that the report of an ending must have. Where there is none, it may have any.
+    /// A line that the report of an ending must have, where there is one.
     pub with_line: Option<&'a str>,
-    /// A line that it must not have.
+    /// A line that the report of an ending must not have, where there is one.
     pub never: Option<&'a str>,
-    /// Whether there should be no such ending: one that is found changes the status.
+    /// Whether such an ending should not exist: if one is found, the status is 4.
     pub none: bool,
-    /// Whether who waits for whom is told of each.
+    /// Whether to tell of each ending which thread waits for which.
     pub waits: bool,
-    /// The name of the file with what is expected of each.
+    /// The name of the file with what is expected of each ending.
     pub expected: Option<&'a str>,
 }
 
 /// What is printed last of a run, a replay or an audit.
 #[derive(Clone, Copy, Debug, PartialEq, Eq)]
 pub struct Extras {
-    /// Whether who waits for whom is told, and where threads wait in a circle.
+    /// Whether to print which thread waits for which, and the circles of waiting threads.
     pub waits: bool,
-    /// Whether what each thread did is counted.
+    /// Whether to print what each thread did, counted.
     pub counts: bool,
 }
 
 impl Extras {
-    /// Whether one of them is asked for.
+    /// Whether any of them is asked for.
     pub fn any(&self) -> bool
         ensures { result ≡ (self.now.waits || self.now.counts) }
     {
@@ -90,24 +90,24 @@ impl Extras {
 pub struct Printed {
     /// Whether the report is printed in place of the trace.
     pub report: bool,
-    /// What is printed behind it.
+    /// What is printed behind the trace or the report.
     pub extras: Extras,
 }
 
 /// What is printed of an audit.
 #[derive(Clone, Copy, Debug, PartialEq, Eq)]
 pub struct Judged {
-    /// Whether the report is printed behind the line that tells that the trace passed, or, where a
-    /// step is not possible, that of the world before it.
+    /// Whether the report is printed, behind the line of a trace that passes. Where a step is not
+    /// possible, it is that of the world before the step.
     pub report: bool,
-    /// Whether it is told why a step is not possible, and which steps are possible instead.
+    /// Whether to print why a step is not possible, and which steps are possible instead.
     pub explain: bool,
-    /// What is printed behind that of a trace that passes.
+    /// What is printed last, where the trace passes.
     pub extras: Extras,
 }
 
 impl Judged {
-    /// Whether something is printed where a step is not possible.
+    /// Whether anything is printed where a step is not possible.
     pub fn tells_refusals(&self) -> bool
         ensures { result ≡ (self.now.report || self.now.explain) }
     {
@@ -120,22 +120,23 @@ impl Judged {
 pub struct Recording<'a> {
     /// The name of the file with the machine text.
     pub file: &'a str,
-    /// How many turns, as of `Job::Run`.
+    /// The greatest number of turns, as of `Job::Run`.
     pub turns: u64,
     /// What is printed.
     pub printed: Printed,
-    /// The name of the file that the list is written to.
+    /// The name of the file that its schedule is written to.
     pub name: &'a str,
-    /// That of the file with what is expected of it. Words ask for one of both.
+    /// The name of the file with what is expected of it. The words never ask for this of a recorded
+    /// run.
     pub expected: Option<&'a str>,
 }
 
-/// What expectations may be of.
+/// What has to meet expectations.
 #[derive(Clone, Copy, Debug, PartialEq, Eq)]
 pub enum Course<'a> {
     /// A run.
     Run {
-        /// How many turns, as of `Job::Run`.
+        /// The greatest number of turns, as of `Job::Run`.
         turns: u64,
         /// What is printed.
         printed: Printed,
@@ -144,7 +145,7 @@ pub enum Course<'a> {
     Replay {
         /// The schedule, as of `Job::Replay`.
         schedule: &'a str,
-        /// For how many turns it goes on.
+        /// For how many turns it goes on, as of `Job::Replay`.
         then_rest: Option<u64>,
         /// What is printed.
         printed: Printed,
@@ -154,7 +155,7 @@ pub enum Course<'a> {
 }
 
 impl<'a> Course<'a> {
-    /// The name of the file with the list that it goes by, where there is one.
+    /// The name of the file with its schedule, where the schedule is in a file.
     pub fn list_file(&self) -> Option<&'a str>
         ensures { option_map (λ name. name.now) result ≡ list_file_of self.now }
     {
@@ -176,39 +177,40 @@ pub struct Expecting<'a> {
     pub name: &'a str,
 }
 
-/// A machine text and a list of items for it, of which all that is wrong is said.
+/// A search for all faults of a machine text, and of a schedule for it.
 #[derive(Clone, Copy, Debug, PartialEq, Eq)]
 pub struct ListLint<'a> {
     /// The name of the file with the machine text.
     pub file: &'a str,
-    /// The list, as of a replay.
+    /// The schedule, as of `Job::Replay`.
     pub schedule: &'a str,
 }
 
-/// What is to be done.
+/// What the words of a command line ask for.
 #[derive(Clone, Copy, Debug, PartialEq, Eq)]
 pub enum Job<'a> {
     /// Run the machine text in a file until this many turns are taken or nothing is left to do.
     Run {
         /// The name of the file with the machine text.
         file: &'a str,
-        /// How many turns, 1 to 1,000,000. Any other number is the fault `Turns`.
+        /// The greatest number of turns, 1 to 1,000,000. Any other number is the fault `Turns`.
         turns: u64,
         /// What is printed.
         printed: Printed,
-        /// The name of the file that a list is written to by which a replay is this very run. It is
-        /// not that of the machine text.
+        /// The name of the file that its schedule is written to, if one is. A replay of that
+        /// schedule repeats this run. It is never the file of the machine text.
         record_to: Option<&'a str>,
-        /// The name of the file with what is expected of its report. Words ask for no run that is
-        /// recorded and of which something is expected.
+        /// The name of the file with what is expected of its report. The words never ask for this
+        /// of a recorded run.
         expected: Option<&'a str>,
     },
-    /// Replay a schedule, a list of items, on the machine text in a file, and maybe go on.
+    /// Replay a schedule on the machine text in a file, and go on from its end where `then_rest` is
+    /// given.
     Replay {
         /// The name of the file with the machine text.
         file: &'a str,
-        /// The list of its items, with commas between them, or `@` and the name of the file that
-        /// it is in.
+        /// The items of the schedule, with commas between them, or `@` and the name of the file
+        /// that has them.
         schedule: &'a str,
         /// For how many turns it goes on in rounds, if it does: 1 to 1,000,000 less the number of
         /// items. Any other number is the fault `Turns`.
@@ -231,11 +233,12 @@ pub enum Job<'a> {
     Chart(ChartJob<'a>),
     /// Search for all endings of the machine text in a file.
     Endings(EndingsJob<'a>),
-    /// Say all that is wrong in the machine text in a file, and in a list of items for it.
+    /// Report all faults of the machine text in a file, or else what is doubtful there, and all
+    /// faults of a schedule for it.
     Lint {
         /// The name of the file with the machine text.
         file: &'a str,
-        /// The list, as of a replay, where there is one.
+        /// The schedule, as of `Job::Replay`, where one is given.
         schedule: Option<&'a str>,
     },
 }
@@ -253,8 +256,8 @@ impl<'a> Job<'a> {
         }
     }
 
-    /// The name of the file that is read beside the machine text, where there is one: it has the
-    /// trace, or the list of the schedule.
+    /// The name of the file that is read beside the machine text, if there is one. It has the trace
+    /// or the schedule.
     pub fn second_file(&self) -> Option<&'a str>
         ensures { option_map (λ name. name.now) result ≡ second_file_of self.now }
     {
@@ -266,7 +269,7 @@ impl<'a> Job<'a> {
         }
     }
 
-    /// The run that is to be recorded, where the job is one.
+    /// The recording that the job asks for, if it asks for one.
     pub fn recording(&self) -> Option<Recording<'a>>
         ensures { MatchOption result (record_of self.now ≡ None)
             (λ recording. self.now ≡ job_of recording) }
@@ -289,7 +292,7 @@ impl<'a> Job<'a> {
         }
     }
 
-    /// The job with what is expected of it, where something is.
+    /// The job with its expectations, if it has any.
     pub fn expecting(&self) -> Option<Expecting<'a>>
         ensures { MatchOption result (expected_of self.now ≡ None)
             (λ expecting. self.now ≡ expected_job expecting) }
@@ -333,7 +336,7 @@ impl<'a> Job<'a> {
         }
     }
 
-    /// The machine text and the list that are judged, where the job has a list judged.
+    /// The machine text and the schedule that are checked, if the job checks a schedule.
     pub fn list_lint(&self) -> Option<ListLint<'a>>
         ensures { MatchOption result (lint_list_of self.now ≡ None)
             (λ lint. self.now ≡ list_lint_job lint) }
@@ -347,8 +350,8 @@ impl<'a> Job<'a> {
         }
     }
 
-    /// The same job for an output that may show lines, and may say how many columns it has. Where
-    /// it shows none, a chart is drawn in ASCII.
+    /// The same job for an output that may show lines, and is `columns` wide, or 0 if unknown.
+    /// Where it shows no lines, a chart is drawn in ASCII.
     pub fn on_output(&self, shows_lines: bool, columns: u64) -> Job<'a>
         ensures { result ≡ on_output shows_lines columns self.now }
     {
@@ -371,7 +374,8 @@ impl<'a> Job<'a> {
     }
 }
 
-/// The name of the file that the list of a schedule is in, where it is in one.
+/// The name of the file that has the schedule: what follows a first `@`. None where there is no
+/// `@`.
 pub fn list_name(schedule: &str) -> Option<&str>
     ensures { option_map (λ name. name.now) result ≡ list_name schedule.now }
 {

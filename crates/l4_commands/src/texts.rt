@@ -1,7 +1,8 @@
-//! What the program says of itself, and what the help of each command says last.
+//! What the program prints about itself, and the end of each command's help.
 
-/// The version of the program, that of the kit that proves it, and what texts it knows.
-pub const VERSION: &str = "0.24
+/// The version of the program and of the kit that proves it, and the profiles and formats that it
+/// reads.
+pub const VERSION: &str = "0.25
 rattle-kit-13f logic dac8208d650f15bf
 profiles 1 and 2, words of 64 and 32 bits";
 
@@ -19,21 +20,26 @@ pub const RUN_EXAMPLE: &str = "Example: `l4run run ping.l4`, where the file ping
 prints a line for each step: 1.1 sends the word 10 to 2.1, which waits for anybody.
 With `--report` it prints what the two threads have come to in place of it.
 
-Behind that, `--waits` tells who waits for whom, as `waits 1.1 2.1 send`, and which threads wait in a circle, as
+Behind that, `--waits` tells who waits for whom, as `waits 1.1 2.1 send`, and which threads wait \
+in a circle, as
 `circle 1.1 2.1`, or as `deadlock 1.1 2.1` where none of them can go on by any step
 of theirs. `--counts` tells what each thread did, as
 
   counts 1.1 turns 4 sends 1 delivered 1 received 0 refused 2:0 3:0 4:0 5:0 6:0 7:0
 
-Several processors of a machine text work at the same time, each in a thread of the host. So two runs may differ:
+Several processors of a machine text work at the same time, each in a thread of the host. So two \
+runs may differ:
 each is one that the machine can take. `l4run replay` takes turns in the order that you give: by
 `l4run replay ping.l4 --schedule @ping.list` that of a run with `--record ping.list`.
 
-`--expect ping.expected` tells which lines of that file the report does not have, and has behind `never`. The name
+`--expect ping.expected` tells which lines of that file the report does not have, and has behind \
+`never`. The name
 `-` stands for the standard input, wherever a file is read.
 
-Status 0: nothing is left to do. Threads may still wait for ever: `--report` shows which. 3: turns were used up
-first. 4: `--expect` is not met. 2: wrong usage. 1: a fault, told in a line on standard error, as one of these:
+Status 0: nothing is left to do. Threads may still wait for ever: `--report` shows which. 3: turns \
+were used up
+first. 4: `--expect` is not met. 2: wrong usage. 1: a fault, told in a line on standard error, as \
+one of these:
 
   l4run: line 4: BadNumber             a line of the machine text; `l4run help lint` has the kinds
   l4run: turns out of range
@@ -43,39 +49,50 @@ first. 4: `--expect` is not met. 2: wrong usage. 1: a fault, told in a line on s
 docs/FORMATS.md tells each line that is printed, and each fault.";
 
 pub const REPLAY_EXAMPLE: &str =
-    "Example: `l4run replay ping.l4 --schedule 0,0,0`, with the machine text that `l4run help run` shows,
+    "Example: `l4run replay ping.l4 --schedule 0,0,0`, with the machine text that `l4run help run` \
+shows,
 prints the steps of three turns of processor 0.
 
-An item 0 to 15 is one turn of that processor, t0 to t15 one tick of its clock to its least deadline. A turn
+An item 0 to 15 is one turn of that processor, t0 to t15 one tick of its clock to its least \
+deadline. A turn
 handles a letter first, if one has come. Three items name what else may happen: by 1:0 processor 1
 handles the first letter from processor 0, by c1 it takes a turn of its own though letters may be
 there, by t0:24 the clock of processor 0 goes on to 24. Where there is nothing to do, there is no
 step.
 
-With `--then-rest` it goes on where the list ends, so that the boring end need not be written: in rounds of one turn of
-each processor, the lowest first, and where a round does nothing, to the next deadline of all. It ends where nothing is
+With `--then-rest` it goes on where the list ends, so that the boring end need not be written: in \
+rounds of one turn of
+each processor, the lowest first, and where a round does nothing, to the next deadline of all. It \
+ends where nothing is
 left to do, or where the turns are used up.
 
-Statuses and faults are those of `run`; with status 3 the list, or the turns, were used up first. Faults are also
+Statuses and faults are those of `run`; with status 3 the list, or the turns, were used up first. \
+Faults are also
 `l4run: schedule item N`. docs/FORMATS.md (Schedules) tells each item.";
 
 pub const AUDIT_EXAMPLE: &str =
-    "Example: `l4run audit ping.l4 ping.trace`, with the machine text that `l4run help run` shows and what
-`l4run run ping.l4` printed, prints `passed 8 quiet`: these are 8 steps that the machine can take, and then nothing
-but its clock can go on; `spent` stands there where more can. A trace is refused at its first step that is not
+    "Example: `l4run audit ping.l4 ping.trace`, with the machine text that `l4run help run` shows \
+and what
+`l4run run ping.l4` printed, prints `passed 8 quiet`: these are 8 steps that the machine can take, \
+and then nothing
+but its clock can go on; `spent` stands there where more can. A trace is refused at its first step \
+that is not
 possible. Then `--explain` prints why, and which steps are possible instead, as
 
   because the receiver is not receiving but ready
   possible wait 2.1
 
-and `--report` what the threads have come to before that step. Behind `passed` it prints what they have come to in
+and `--report` what the threads have come to before that step. Behind `passed` it prints what they \
+have come to in
 the end. `--waits` and `--counts` tell of a trace that passes what `l4run help run` says.
 
-Status 0: the trace passed. 2: wrong usage. 1: `l4run: refused at step N`, or `l4run: trace line N` where a line
+Status 0: the trace passed. 2: wrong usage. 1: `l4run: refused at step N`, or `l4run: trace line \
+N` where a line
 spells no step, or a fault as of `run`. docs/FORMATS.md (Trace lines) tells each line.";
 
 pub const CHART_EXAMPLE: &str =
-    "Example: `l4run chart ping.l4 ping.trace`, with the machine text that `l4run help run` shows and what
+    "Example: `l4run chart ping.l4 ping.trace`, with the machine text that `l4run help run` shows \
+and what
 `l4run run ping.l4` printed, prints
 
    cpu         0 ---------
@@ -89,29 +106,44 @@ pub const CHART_EXAMPLE: &str =
      7         |         *  local 2.1
      8         *         |  local 1.1
 
-On a terminal that shows them there are lines in place of these characters, unless `TERM` is dumb. Without
-`--width` a text is as wide as `COLUMNS` says, else 80. Where a step is not possible, the steps before it are
-drawn, and the status is 1. Else it is 0, or 1 with a fault as of `audit` or `l4run: threads item N`, 2 with wrong
+On a terminal that shows them there are lines in place of these characters, unless `TERM` is dumb. \
+Without
+`--width` a text is as wide as `COLUMNS` says, else 80. Where a step is not possible, the steps \
+before it are
+drawn, and the status is 1. Else it is 0, or 1 with a fault as of `audit` or `l4run: threads item \
+N`, 2 with wrong
 usage. docs/FORMATS.md (Charts) tells each mark.";
 
 pub const ENDINGS_EXAMPLE: &str =
-    "Example: `l4run endings ping.l4`, with the machine text that `l4run help run` shows, prints each ending once, a
-state in which nothing is left to do: a shortest schedule that leads there, which `l4run replay` takes, and its
-report. The last line says how many states were looked at, how long the longest schedule was, and whether that is
+    "Example: `l4run endings ping.l4`, with the machine text that `l4run help run` shows, prints \
+each ending once, a
+state in which nothing is left to do: a shortest schedule that leads there, which `l4run replay` \
+takes, and its
+report. The last line says how many states were looked at, how long the longest schedule was, and \
+whether that is
 the `whole` or was `cut`: then there may be more endings, and the status is 3.
 
-Status 4: `--none` found one, or an ending does not meet `--expect`. 0: neither, and the search was whole. 2: wrong
-usage. 1: a fault as of `run`, or `l4run: depth out of range`, `l4run: states out of range`. docs/FORMATS.md
+Status 4: `--none` found one, or an ending does not meet `--expect`. 0: neither, and the search \
+was whole. 2: wrong
+usage. 1: a fault as of `run`, or `l4run: depth out of range`, `l4run: states out of range`. \
+docs/FORMATS.md
 (Endings) tells each line.";
 
 pub const LINT_EXAMPLE: &str =
-    "Example: `l4run lint ping.l4`, with the machine text that `l4run help run` shows but the line `set 64 10`,
-prints `line 4 column 5: BadNumber: `64`: wanted: a register, 1 to 63`. Each fault has such a line: where
-it is, its kind, what stands there, and what may. The status is 1 then, and 0 where nothing is wrong. Then each
-doubt has a line, with `perhaps` in the place of the kind, and it may be as it is meant. Behind that,
-`--schedule LIST` tells each faulty item of a list for this machine, with status 1.
+    "Example: `l4run lint ping.l4`, with the machine text that `l4run help run` shows but the line \
+`set 64 10`,
+prints `line 4 column 5: BadNumber: `64`: wanted: a register, 1 to 63`. Each fault has such a \
+line: where
+it is, its kind, what stands there, and what may. The status is 1 then, and 0 where nothing is \
+wrong. Then each
+doubt has a line. In the place of the kind stands `always` where what it says holds in every \
+run, else `perhaps`;
+it may be as it is meant. Behind that, `--schedule LIST` tells each faulty item of a list for this \
+machine, with
+status 1.
 
-Kinds: BadLine, BadNumber, BadId, BadCpu, TypedItems, DoubleId, TooManyThreads, TooManyInstructions, BadTarget,
+Kinds: BadLine, BadNumber, BadId, BadCpu, TypedItems, DoubleId, TooManyThreads, \
+TooManyInstructions, BadTarget,
 TooLong. docs/FORMATS.md tells what each of them is.";
 
 pub const TWO_FORMS: &str =
@@ -132,13 +164,15 @@ For more information, try '--help'.
 ";
 
 pub const RECORD_AND_EXPECT: &str =
-    "error: only one of '--record' and '--expect' can be given; record a run, and expect of its replay
+    "error: only one of '--record' and '--expect' can be given; record a run, and expect of its \
+replay
 
 For more information, try '--help'.
 ";
 
 pub const TURNS_ALONE: &str =
-    "error: '--turns' of 'replay' goes with '--then-rest'; turns alone are of 'l4run run FILE --turns N'
+    "error: '--turns' of 'replay' goes with '--then-rest'; turns alone are of 'l4run run FILE \
+--turns N'
 
 For more information, try '--help'.
 ";

@@ -22,9 +22,9 @@ use std::alloc::{AllocError, Global};
 /// Why the words ask for no job.
 #[derive(Debug, Drop)]
 pub enum WordsFault {
-    /// The words ask for help, or for the version: its text.
+    /// The words ask for help or for the version. This is its text.
     Help(String),
-    /// The words are wrong: what is wrong, and how they are used.
+    /// The words are wrong. The text says what is wrong, and how they are used.
     Usage(String),
     /// Memory was refused.
     NoMemory,
@@ -66,7 +66,7 @@ fn matches_of<'a>(alloc: Global, words: &'a [&'a str]) -> Result<ArgMatches<'a>,
     }
 }
 
-// What usage says of it.
+// The usage text for a conflict of arguments.
 fn conflict_text(alloc: Global, conflict: Conflict<'_>) -> Result<String, AllocError> {
     match conflict {
         Conflict::InputTwice => String::from_str(alloc, INPUT_TWICE),
@@ -99,7 +99,8 @@ fn usage_of(alloc: Global, conflict: Conflict<'_>) -> WordsFault
 
 /// Reads the words of a command line, of which the first is the program's name.
 ///
-/// `Help`: they ask for help, or the version. `Usage`: they are wrong. Else `NoMemory`.
+/// `Help`: they ask for help, or for the version. `Usage`: they are wrong. `NoMemory`: memory was
+/// refused, which says nothing about the words.
 pub fn job_of<'a>(alloc: Global, words: &'a [&'a str]) -> Result<Job<'a>, WordsFault>
     ensures ok { IfOk result (λ job.
         asked_of (map (λ word. word.now) words.now) ≡ Some (asked_by job)) }

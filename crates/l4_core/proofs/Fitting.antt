@@ -3,8 +3,8 @@ use Rattle.std.proofs.Common.{◌≡◌, ℕ, ◌+◌, ◌<◌, ◌≤◌, ◌^�
 use Rattle.std.specs.Prelude.{◌==◌}
 use Rattle.l4_model.specs.Words.{GlobalId, Id, NilThread, AnyThread, AnyLocalThread, LocalThread, GlobalThread, Period}
 use Rattle.l4_model.specs.Machine as model
-use Rattle.l4_model.specs.Machine.{Machine, Instr, What, CancelSend, CancelReceive, CancelBoth, Delete}
-use Rattle.l4_model.specs.World.{Context, Receive, Message, Send, Asked, Phase, Ready, Sending, Receiving, Ordering, Ended, Deleted, Thread, is_deleted, receive_now}
+use Rattle.l4_model.specs.Machine.{Machine, Instr, OrderKind, CancelSend, CancelReceive, CancelBoth, Delete}
+use Rattle.l4_model.specs.World.{Context, Receive, Message, Send, PendingOrder, Phase, Ready, Sending, Receiving, Ordering, Ended, Deleted, Thread, is_deleted, receive_now}
 use Rattle.l4_model.specs.Rules.{Sends, ipc_act, request, ran, advanced, failed}
 use Rattle.l4_model.specs.Effects.{runs, begins, waits, fails, decided, refused, receives, goes_on, delivered, asked, orders, obeyed}
 use Rattle.l4_types.specs.Codes.{code_of}
@@ -143,7 +143,7 @@ keeps-waits receive now t e = record { sends = inl refl; begun = refl; dead = sy
 pub keeps-receives : (message : Message) (tag : ℕ) (t : Thread) → is_deleted t.phase ≡ false → Keeps t (receives message tag t)
 keeps-receives message tag t e = record { sends = inl refl; begun = refl; dead = sym e }
 
-pub keeps-orders : (order : Asked) (t : Thread) → is_deleted t.phase ≡ false → Keeps t (orders order t)
+pub keeps-orders : (order : PendingOrder) (t : Thread) → is_deleted t.phase ≡ false → Keeps t (orders order t)
 keeps-orders order t e = record { sends = inl refl; begun = refl; dead = sym e }
 
 pub keeps-fails : (code : ℕ) (t : Thread) → Keeps t (fails code t)
@@ -407,7 +407,7 @@ fits-same m cpu l i u s lt p o c = record {
   ready = λ q. p ∙ (s.ready i q).phase;
 }
 
-pub fits-asked : (m : Machine) (cpu : ℕ) (l : Local) (i : ℕ) (what : What) → (what ≡ Delete → ⊥) → IsSettled m cpu l → i < length m.threads → Fits m cpu l i (asked what (thread l i))
+pub fits-asked : (m : Machine) (cpu : ℕ) (l : Local) (i : ℕ) (what : OrderKind) → (what ≡ Delete → ⊥) → IsSettled m cpu l → i < length m.threads → Fits m cpu l i (asked what (thread l i))
 fits-asked m cpu l i CancelSend h s lt = fits-same m cpu l i _ s lt refl refl refl
 fits-asked m cpu l i CancelReceive h s lt = fits-same m cpu l i _ s lt refl refl refl
 fits-asked m cpu l i CancelBoth h s lt = fits-same m cpu l i _ s lt refl refl refl

@@ -2,7 +2,7 @@
 use Rattle.std.proofs.Common.{◌≡◌, ℕ, ◌<◌, ◌+◌, Bool, true, false, Option, None, List, [], ◌||◌, length, refl, ap, sym, ◌∙◌, subst, inl, inr, ◌⊎◌, arith}
 use Rattle.std.specs.Prelude.{◌==◌}
 use Rattle.std.proofs.lemmas.Bool.{cases_eq, eq-eqb}
-use Rattle.l4_model.specs.Machine.{Machine, What, CancelSend, CancelReceive, CancelBoth, Delete}
+use Rattle.l4_model.specs.Machine.{Machine, OrderKind, CancelSend, CancelReceive, CancelBoth, Delete}
 use Rattle.l4_model.specs.World.{Thread, Owed, is_deleted, opening_thread}
 use Rattle.l4_core_model.specs.Plain as plain
 use Rattle.l4_core_model.specs.Local.{Local, is_own, thread, changes, comes_to, keeps_beside, relists}
@@ -150,7 +150,7 @@ covered-deleted e z p q i waiting lt all own is = subst (IsCovered e z) (sym is)
 })
 
 -- A thread is asked for a cancellation.
-pub covered-asked : (d z : List ℕ) (p q : Processor) (i : ℕ) (what : What) → (what ≡ Delete → ⊥) → IsCovered d z p → i < length p.local.threads → has d i ≡ true → q ≡ with_local p (asks what i p.local) → IsCovered d z q
+pub covered-asked : (d z : List ℕ) (p q : Processor) (i : ℕ) (what : OrderKind) → (what ≡ Delete → ⊥) → IsCovered d z p → i < length p.local.threads → has d i ≡ true → q ≡ with_local p (asks what i p.local) → IsCovered d z q
 covered-asked d z p q i CancelSend other c lt there is = covered-changed d z p q i (asked CancelSend) c lt (λ own. there) refl (inr refl) is
 covered-asked d z p q i CancelReceive other c lt there is = covered-changed d z p q i (asked CancelReceive) c lt (λ own. there) refl (inr refl) is
 covered-asked d z p q i CancelBoth other c lt there is = covered-changed d z p q i (asked CancelBoth) c lt (λ own. there) refl (inr refl) is

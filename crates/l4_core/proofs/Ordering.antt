@@ -2,8 +2,8 @@
 use Rattle.std.proofs.Common.{◌≡◌, ℕ, zero, suc, ◌<◌, not, Bool, true, false, cond, is_some, Option, Some, None, List, [], ◌∷◌, refl, ap, sym, ◌∙◌, subst, arith}
 use Rattle.std.specs.Prelude.{slice_index_or, ◌==◌}
 use Rattle.l4_model.specs.Words.{GlobalId}
-use Rattle.l4_model.specs.Machine.{Machine, What, CancelSend, CancelReceive, CancelBoth, Delete, place_of}
-use Rattle.l4_model.specs.World.{Asked, Context, Thread, changed, opening_thread, is_deleted}
+use Rattle.l4_model.specs.Machine.{Machine, OrderKind, CancelSend, CancelReceive, CancelBoth, Delete, place_of}
+use Rattle.l4_model.specs.World.{PendingOrder, Context, Thread, changed, opening_thread, is_deleted}
 use Rattle.l4_model.specs.Effects.{asked, orders, obeyed}
 use Rattle.l4_model.specs.Steps as steps
 use Rattle.l4_core_model.specs.Plain as plain
@@ -30,7 +30,7 @@ withdrawn_local : (p : Processor) (j : ℕ) (o : Option Cause) (x : Work) → (w
 withdrawn_local p j None x = refl
 withdrawn_local p j (Some cause) x = withdraws_local p.machine cause j (split_place p.machine p.cpu x.local j) x
 
-obeys_local : (p : Processor) (caller : GlobalId) (what : What) (j : ℕ) (x : Work) → (obeys p.machine p.cpu caller what j x).local ≡ asks what j x.local
+obeys_local : (p : Processor) (caller : GlobalId) (what : OrderKind) (j : ℕ) (x : Work) → (obeys p.machine p.cpu caller what j x).local ≡ asks what j x.local
 obeys_local p caller what j x = by (is_deleted (thread x.local j).phase)
   where
     done : Work
@@ -41,7 +41,7 @@ obeys_local p caller what j x = by (is_deleted (thread x.local j).phase)
     by false = withdrawn_local p j (cause_of what) done
 
 -- What an order leaves of a processor.
-pub obeyed_is : (p q v : Processor) (i j : ℕ) (order : Asked) (caller : GlobalId) (middle after : EventBuffer) → q ≡ with_local p (comes_to i (orders order) p.local) → Does (obeys q.machine q.cpu caller order.what j) q v middle after →
+pub obeyed_is : (p q v : Processor) (i j : ℕ) (order : PendingOrder) (caller : GlobalId) (middle after : EventBuffer) → q ≡ with_local p (comes_to i (orders order) p.local) → Does (obeys q.machine q.cpu caller order.what j) q v middle after →
     v ≡ with_local p (asks order.what j (comes_to i (orders order) p.local))
 obeyed_is p q v i j order caller middle after is doing =
     let machine = doing.machine ∙ ap (λ (x : Processor). x.machine) is in
@@ -55,13 +55,13 @@ obeyed_is p q v i j order caller middle after is doing =
 
 -- The caller stays as it is while another thread, or itself, is asked.
 
-asks_unready : (what : What) (j i : ℕ) (l : Local) → is_ready_in l.lists i ≡ false → is_ready_in (asks what j l).lists i ≡ false
+asks_unready : (what : OrderKind) (j i : ℕ) (l : Local) → is_ready_in l.lists i ≡ false → is_ready_in (asks what j l).lists i ≡ false
 asks_unready CancelSend j i l e = e
 asks_unready CancelReceive j i l e = e
 asks_unready CancelBoth j i l e = e
 asks_unready Delete j i l e = any-filtered (λ b. i == b) (λ b. not (j == b)) l.lists.ready e
 
-asks_unqueued : (what : What) (j i : ℕ) (l : Local) → plain.is_queued (asks what j l).lists i ≡ plain.is_queued l.lists i
+asks_unqueued : (what : OrderKind) (j i : ℕ) (l : Local) → plain.is_queued (asks what j l).lists i ≡ plain.is_queued l.lists i
 asks_unqueued CancelSend j i l = refl
 asks_unqueued CancelReceive j i l = refl
 asks_unqueued CancelBoth j i l = refl
@@ -75,26 +75,26 @@ kept_in part (t ∷ ts) f zero (suc i) same = refl
 kept_in part (t ∷ ts) f (suc j) zero same = refl
 kept_in part (t ∷ ts) f (suc j) (suc i) same = kept_in part ts f j i same
 
-asks_context : (what : What) (j i : ℕ) (l : Local) → (thread (asks what j l) i).context ≡ (thread l i).context
+asks_context : (what : OrderKind) (j i : ℕ) (l : Local) → (thread (asks what j l) i).context ≡ (thread l i).context
 asks_context CancelSend j i l = kept_in (λ t. t.context) l.threads (asked CancelSend) j i (λ t. refl)
 asks_context CancelReceive j i l = kept_in (λ t. t.context) l.threads (asked CancelReceive) j i (λ t. refl)
 asks_context CancelBoth j i l = kept_in (λ t. t.context) l.threads (asked CancelBoth) j i (λ t. refl)
 asks_context Delete j i l = kept_in (λ t. t.context) l.threads (asked Delete) j i (λ t. refl)
 
-asks_send : (what : What) (j i : ℕ) (l : Local) → (thread (asks what j l) i).send ≡ (thread l i).send
+asks_send : (what : OrderKind) (j i : ℕ) (l : Local) → (thread (asks what j l) i).send ≡ (thread l i).send
 asks_send CancelSend j i l = kept_in (λ t. t.send) l.threads (asked CancelSend) j i (λ t. refl)
 asks_send CancelReceive j i l = kept_in (λ t. t.send) l.threads (asked CancelReceive) j i (λ t. refl)
 asks_send CancelBoth j i l = kept_in (λ t. t.send) l.threads (asked CancelBoth) j i (λ t. refl)
 asks_send Delete j i l = kept_in (λ t. t.send) l.threads (asked Delete) j i (λ t. refl)
 
-pub still_free : (p v : Processor) (i j : ℕ) (order : Asked) → AreCore p → IsAtHand p i → v ≡ with_local p (asks order.what j (comes_to i (orders order) p.local)) → IsFree v i
+pub still_free : (p v : Processor) (i j : ℕ) (order : PendingOrder) → AreCore p → IsAtHand p i → v ≡ with_local p (asks order.what j (comes_to i (orders order) p.local)) → IsFree v i
 still_free p v i j order core hand is = subst (λ (x : Processor). IsFree x i) (sym is) (record {
   own = hand.own;
   unready = asks_unready order.what j i (comes_to i (orders order) p.local) hand.unready;
   unqueued = asks_unqueued order.what j i (comes_to i (orders order) p.local) ∙ unqueued p.machine p.cpu p.local i core.settled hand.own.own (ready_not_sends _ hand.ready);
 })
 
-pub still_fitting : (p v : Processor) (i j : ℕ) (order : Asked) → AreCore p → IsAtHand p i → (thread p.local i).context.place < 1024 → v ≡ with_local p (asks order.what j (comes_to i (orders order) p.local)) → IsFitting Obey (thread v.local i)
+pub still_fitting : (p v : Processor) (i j : ℕ) (order : PendingOrder) → AreCore p → IsAtHand p i → (thread p.local i).context.place < 1024 → v ≡ with_local p (asks order.what j (comes_to i (orders order) p.local)) → IsFitting Obey (thread v.local i)
 still_fitting p v i j order core hand lt is = record {
   living = λ e. cc;
   idle = λ e sends. absurd (ready_not_sends _ hand.ready (core.settled.sending i hand.own.own (ap is_some (sym send) ∙ sends)));
@@ -113,16 +113,16 @@ still_fitting p v i j order core hand lt is = record {
 
 -- An order is given.
 
-abbrev given : Processor → (i : ℕ) → Asked → EventBuffer → Work
+abbrev given : Processor → (i : ℕ) → PendingOrder → EventBuffer → Work
 given p i order before = work p.local before ▷ does (comes_to i (orders order)) ▷ tells (steps.Order (declared p.machine i).id order.target order.what)
 
-given_is : (p q : Processor) (i : ℕ) (order : Asked) (caller : GlobalId) (before middle : EventBuffer) → caller ≡ (declared p.machine i).id → q ≡ with_local p (comes_to i (orders order) p.local) → middle ≡ with_step (steps.Order caller order.target order.what) before →
+given_is : (p q : Processor) (i : ℕ) (order : PendingOrder) (caller : GlobalId) (before middle : EventBuffer) → caller ≡ (declared p.machine i).id → q ≡ with_local p (comes_to i (orders order) p.local) → middle ≡ with_step (steps.Order caller order.target order.what) before →
     work q.local middle ≡ given p i order before
 given_is p q i order caller before middle named is adds =
     ap (λ (x : Processor). work x.local middle) is ∙ ap (work (comes_to i (orders order) p.local)) adds
     ∙ ap (λ (id : GlobalId). work (comes_to i (orders order) p.local) (with_step (steps.Order id order.target order.what) before)) named
 
-pub gives_here : (p q v u : Processor) (i j : ℕ) (order : Asked) (caller : GlobalId) (before middle after : EventBuffer) → caller ≡ (declared p.machine i).id → q ≡ with_local p (comes_to i (orders order) p.local) → middle ≡ with_step (steps.Order caller order.target order.what) before →
+pub gives_here : (p q v u : Processor) (i j : ℕ) (order : PendingOrder) (caller : GlobalId) (before middle after : EventBuffer) → caller ≡ (declared p.machine i).id → q ≡ with_local p (comes_to i (orders order) p.local) → middle ≡ with_step (steps.Order caller order.target order.what) before →
     place_of p.machine order.target ≡ Some j → is_own p.machine p.cpu j ≡ true → Does (obeys q.machine q.cpu caller order.what j) q v middle after → u ≡ with_local v (comes_to i obeyed v.local) → Does (gives_order p.machine p.cpu i order) p u before after
 gives_here p q v u i j order caller before middle after named is adds at own doing last =
     let x = given p i order before in
@@ -139,7 +139,7 @@ gives_here p q v u i j order caller before middle after named is adds at own doi
       work = ap (λ (y : Processor). work y.local after) last ∙ ap (does (comes_to i obeyed)) done ∙ sym goes;
     }
 
-pub gives_away : (p q : Processor) (i j : ℕ) (order : Asked) (caller : GlobalId) (before middle after : EventBuffer) (cpu : ℕ) (letter : Letter) → caller ≡ (declared p.machine i).id → q ≡ with_local p (comes_to i (orders order) p.local) →
+pub gives_away : (p q : Processor) (i j : ℕ) (order : PendingOrder) (caller : GlobalId) (before middle after : EventBuffer) (cpu : ℕ) (letter : Letter) → caller ≡ (declared p.machine i).id → q ≡ with_local p (comes_to i (orders order) p.local) →
     middle ≡ with_step (steps.Order caller order.target order.what) before → place_of p.machine order.target ≡ Some j → is_own p.machine p.cpu j ≡ false → cpu ≡ (declared p.machine j).cpu →
     letter ≡ record { stamp = q.local.stamp; content = OrderLetter caller order.target order.what } → after ≡ with_letter cpu letter middle → Does (gives_order p.machine p.cpu i order) p q before after
 gives_away p q i j order caller before middle after cpu letter named is adds at away there written posted =
@@ -158,7 +158,7 @@ gives_away p q i j order caller before middle after cpu letter named is adds at 
           ∙ ap (posts (declared p.machine j).cpu (OrderLetter (declared p.machine i).id order.target order.what)) (given_is p q i order caller before middle named is adds) ∙ sym goes;
     }
 
-pub gives_nobody : (p q : Processor) (i : ℕ) (order : Asked) (caller : GlobalId) (before middle : EventBuffer) → caller ≡ (declared p.machine i).id → q ≡ with_local p (comes_to i (orders order) p.local) → middle ≡ with_step (steps.Order caller order.target order.what) before →
+pub gives_nobody : (p q : Processor) (i : ℕ) (order : PendingOrder) (caller : GlobalId) (before middle : EventBuffer) → caller ≡ (declared p.machine i).id → q ≡ with_local p (comes_to i (orders order) p.local) → middle ≡ with_step (steps.Order caller order.target order.what) before →
     place_of p.machine order.target ≡ None → Does (gives_order p.machine p.cpu i order) p q before middle
 gives_nobody p q i order caller before middle named is adds at = record {
   machine = ap (λ (y : Processor). y.machine) is;

@@ -7,7 +7,7 @@ use Rattle.std.proofs.lemmas.Bool.{eqb-true}
 use Rattle.l4_model.specs.Machine.{Machine}
 use Rattle.l4_model.specs.World.{Phase, Ready, Sending, Receiving, Ordering, Ended, Deleted, Thread, Owed, changed, opening_thread, is_ready}
 use Rattle.l4_core_model.specs.Plain as plain
-use Rattle.l4_core.specs.Settling.{settles}
+use Rattle.l4_core.specs.PhaseLists.{enters_lists}
 use Rattle.l4_core_model.specs.Local.{Local, declared, is_own, thread, changes, comes_to, keeps_beside, relists, readied}
 use Rattle.l4_core_model.specs.Acts.{split_receiver}
 use Rattle.l4_core_model.specs.Mail.{is_ordering}
@@ -421,7 +421,7 @@ settled-armed m cpu l i deadline own near s = record {
 }
 
 -- A thread that changes and is settled has come to its phase.
-pub comes : (i : ℕ) (f : Thread → Thread) (l : Local) → i < length l.threads → settles i (changes i f l) ≡ comes_to i f l
+pub comes : (i : ℕ) (f : Thread → Thread) (l : Local) → i < length l.threads → enters_lists i (changes i f l) ≡ comes_to i f l
 comes i f l lt = let e = get-changed f l.threads i opening_thread lt in rw e
 
 pub ready_is : (p : Phase) → is_ready p ≡ true → p ≡ Ready

@@ -11,7 +11,7 @@ use Rattle.l4_model.specs.Effects.{begins, waits}
 use Rattle.l4_core_model.specs.Plain.{Plain}
 use Rattle.l4_types.specs.Ids.{global_of}
 use Rattle.l4_core_model.specs.Mail.{is_ordering}
-use Rattle.l4_core.specs.Settling.{settles}
+use Rattle.l4_core.specs.PhaseLists.{enters_lists}
 use Rattle.l4_core_model.specs.Local.{Local, declared, undeclared, thread, held, changes, comes_to}
 use Rattle.l4_thread.specs.Parts.{Block}
 use Rattle.l4_thread.specs.declared.phases.Began.{Began}
@@ -142,13 +142,13 @@ start_kept m cpu bs s told owed clock stamp i instr old new shows p view k hand 
 
 -- A phase begins.
 
-pub began : (p q r : Processor) (i : ℕ) (a : Act) → i < length p.local.threads → q ≡ with_local p (changes i (starts a p.local.clock) p.local) → r ≡ with_local q (settles i q.local) → (began_of a ≡ Nothing → ⊥) → r ≡ with_local p (begun_by a i p.local)
-began p q r i a lt is settled some = by a (settled ∙ ap (λ (x : Processor). with_local x (settles i x.local)) is) some
+pub began : (p q r : Processor) (i : ℕ) (a : Act) → i < length p.local.threads → q ≡ with_local p (changes i (starts a p.local.clock) p.local) → r ≡ with_local q (enters_lists i q.local) → (began_of a ≡ Nothing → ⊥) → r ≡ with_local p (begun_by a i p.local)
+began p q r i a lt is settled some = by a (settled ∙ ap (λ (x : Processor). with_local x (enters_lists i x.local)) is) some
   where
-    begins_here : (f : Thread → Thread) → r ≡ with_local p (settles i (changes i f p.local)) → r ≡ with_local p (comes_to i f p.local)
+    begins_here : (f : Thread → Thread) → r ≡ with_local p (enters_lists i (changes i f p.local)) → r ≡ with_local p (comes_to i f p.local)
     begins_here f e = e ∙ ap (with_local p) (comes i f p.local lt)
 
-    by : (a : Act) → r ≡ with_local p (settles i (changes i (starts a p.local.clock) p.local)) → (began_of a ≡ Nothing → ⊥) → r ≡ with_local p (begun_by a i p.local)
+    by : (a : Act) → r ≡ with_local p (enters_lists i (changes i (starts a p.local.clock) p.local)) → (began_of a ≡ Nothing → ⊥) → r ≡ with_local p (begun_by a i p.local)
     by (Sends send) e h = begins_here (begins send) e
     by (Receives receive) e h = begins_here (waits receive p.local.clock) e
     by RunsAlone e h = absurd (h refl)

@@ -4,7 +4,7 @@ use Rattle.l4_model.specs.Machine.{Machine}
 use Rattle.l4_model.specs.World.{Thread, Owed, changed, opening_thread}
 use Rattle.l4_model.proofs.Chains.{set_changed}
 use Rattle.l4_core_model.specs.Plain.{Plain}
-use Rattle.l4_core.specs.Settling.{settles}
+use Rattle.l4_core.specs.PhaseLists.{enters_lists}
 use Rattle.l4_core_model.specs.Local.{Local, thread, changes, comes_to}
 use Rattle.l4_thread.specs.Parts.{Block}
 use Rattle.l4_core.specs.Processor.{Processor, with_local}
@@ -69,10 +69,10 @@ kept-changed m cpu bs s told owed clock stamp i f old new k at is fits =
 -- A thread that changes and is settled has come to its phase.
 pub come-written : (m : Machine) (cpu : ℕ) (bs : List Block) (s : Plain) (told : List ℕ) (owed : List (Option Owed)) (clock stamp i : ℕ) (f : Thread → Thread) (old new : Block) (p r : Processor) → IsKept m cpu bs s told owed clock stamp → i < length m.threads → old ≡ get_or bs i old → new ≡ record { id = old.id; thread = f old.thread } →
     record { machine = m; cpu = cpu; local = local_of bs s told owed clock stamp } ≡ p →
-    r ≡ with_local (record { machine = m; cpu = cpu; local = local_of (set bs i new) s told owed clock stamp }) (settles i (local_of (set bs i new) s told owed clock stamp)) → r ≡ with_local p (comes_to i f p.local)
+    r ≡ with_local (record { machine = m; cpu = cpu; local = local_of (set bs i new) s told owed clock stamp }) (enters_lists i (local_of (set bs i new) s told owed clock stamp)) → r ≡ with_local p (comes_to i f p.local)
 come-written m cpu bs s told owed clock stamp i f old new p r k lt at is view settled =
     let now = local-written m cpu bs s told owed clock stamp i f old new k lt at is in
-    settled ∙ ap (λ (l : Local). record { machine = m; cpu = cpu; local = settles i l }) now
+    settled ∙ ap (λ (l : Local). record { machine = m; cpu = cpu; local = enters_lists i l }) now
     ∙ ap (λ (l : Local). record { machine = m; cpu = cpu; local = l }) (comes i f (local_of bs s told owed clock stamp) (omega (arith, lt, k.core.settled.threads)))
     ∙ ap (λ (q : Processor). with_local q (comes_to i f q.local)) view
 

@@ -8,7 +8,7 @@ pub mod Parts
 pub mod Places
 pub mod Processor
 pub mod Settled
-pub mod Settling
+pub mod PhaseLists
 pub mod Tasks
 pub mod EventBuffers
 pub mod Turning

@@ -17,7 +17,7 @@ use Rattle.l4_types.specs.declared.letters.Content.{Content}
 use Rattle.l4_types.specs.declared.letters.Content.TheVariants as content
 use Rattle.l4_types.specs.LetterView.{decision_of, refusal_of_send}
 use Rattle.l4_types.specs.OwedView.{owed_of}
-use Rattle.l4_types.specs.StepView.{what_of}
+use Rattle.l4_types.specs.StepView.{order_kind_of}
 use Rattle.l4_core.specs.declared.known.tasks.Task.{Task}
 use Rattle.l4_core.specs.declared.known.tasks.Task.TheVariants.{Arrive, End, Refuse, Leave, NoteGone, Obey, FinishOrder, Retarget}
 use Rattle.l4_core.specs.Processor.{Processor}
@@ -76,7 +76,7 @@ does_task m cpu (End i decision) x = x ▷ does
 does_task m cpu (Refuse i refusal) x = refuses m cpu (refusal_of_send refusal) i x
 does_task m cpu Leave x = x
 does_task m cpu (NoteGone i) x = x ▷ does (changes i is_gone_now)
-does_task m cpu (Obey j i caller what) x = x ▷ obeys m cpu caller (what_of what) j
+does_task m cpu (Obey j i caller what) x = x ▷ obeys m cpu caller (order_kind_of what) j
     ▷ posts (declared m i).cpu (OrderDoneLetter caller)
 does_task m cpu (FinishOrder i) x = x ▷ does (comes_to i obeyed)
 does_task m cpu (Retarget j o) x = x ▷ retargets (owed_of o) j

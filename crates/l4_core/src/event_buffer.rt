@@ -71,6 +71,7 @@ impl<S: Sink> EventBuffer<S> {
 
     /// Makes room for the steps of an event, and begins it. Drops the letters of the event before.
     /// If memory is refused, nothing is changed.
+    #[inline(always)]
     pub fn begin(&mut self) -> Result<(), NoMemory>
         ensures ok { OnOk result (IsBegun self.old self.new) }
         ensures err { OnErr result (self.new ≡ self.old) }

@@ -1,9 +1,10 @@
 //! The state of one processor: its threads, their lists and its clock, and what is cached of
 //! foreign threads.
 ghost use Rattle.std.specs.Prelude.{◌≡◌, ◌<◌, ◌≤◌, ◌+◌, None, Some, length, false, is_some, map};
-ghost use Rattle.std.specs.Prelude.{replicate, IfOk, IfSome, slice_get, slice_index_or};
-ghost use Rattle.std.specs.Option.{option_map};
-ghost use Rattle.l4_model.specs.Machine.{place_of, is_place, same_space, most_processors};
+ghost use Rattle.std.specs.Prelude.{replicate, unwrap_or, IfOk, IfSome, IsSome, slice_get};
+ghost use Rattle.std.specs.Prelude.{slice_index_or};
+ghost use Rattle.std.specs.Option.{option_copied, option_map};
+ghost use Rattle.l4_model.specs.Machine.{End, place_of, is_place, same_space, most_processors};
 ghost use Rattle.l4_model.specs.Machine.{most_threads, most_instructions};
 ghost use Rattle.l4_model.specs.World.{Send, is_deleted, opening_thread, receive_now};
 ghost use Rattle.l4_model.specs.Conditions.{instruction};
@@ -11,9 +12,8 @@ ghost use Rattle.l4_model.specs.History.{report_of};
 ghost use Rattle.l4_model.specs.Rules.{accepts, ask_act};
 ghost use Rattle.l4_model.specs.Words.{clock_limit, period_limit};
 ghost use Rattle.l4_types.specs.ReportView.{report_of_view};
-ghost use Rattle.l4_types.specs.StepView.{what_of};
+ghost use Rattle.l4_types.specs.StepView.{order_kind_of};
 ghost use Rattle.l4_script.specs.Scripts.{instr_of};
-ghost use Rattle.l4_thread.specs.Requests.{is_end};
 ghost use Rattle.l4_core.specs.Asking.{admitted_act};
 ghost use Rattle.l4_core_model.specs.Plain.{due_block, is_queued};
 ghost use Rattle.l4_core_model.specs.Local.{declared, held, is_own, last_name, opening_local};
@@ -34,7 +34,7 @@ use l4_types::ids::{GlobalId, ThreadId};
 use l4_types::message_ref::MessageRef;
 use l4_types::owed::Owed;
 use l4_types::reports::ThreadView;
-use l4_types::steps::{CLOCKS, Name, What};
+use l4_types::steps::{CLOCKS, Name, OrderKind};
 use l4_types::times::Period;
 use std::alloc::Global;
 use std::marker::Model;
@@ -43,8 +43,8 @@ use tcb_arena::{Arena, Waiting};
 pub(crate) mod duties;
 mod effects;
 mod fast_path;
+mod phase_lists;
 mod retargets;
-mod settling;
 pub(crate) mod tasks;
 
 /// What one processor knows. Places are those of all threads of the machine, in order of
@@ -405,26 +405,31 @@ impl<'m> ProcessorState<'m> {
 
     /// The target of an order, if the order is admitted: a declared thread, for a cancellation one
     /// of the caller's space.
-    pub(crate) fn admitted(&self, place: usize, target: ThreadId, what: What) -> Option<GlobalId>
+    pub(crate) fn admitted(
+        &self,
+        place: usize,
+        target: ThreadId,
+        what: OrderKind,
+    ) -> Option<GlobalId>
         requires { place < length self.now.machine.threads }
         ensures { ask_act self.now.machine (declared self.now.machine place).id target
-            (what_of what) ≡ admitted_act (what_of what) result }
+            (order_kind_of what) ≡ admitted_act (order_kind_of what) result }
     {
         let target = target.as_global()?;
         let is_admitted = self.machine.admits(self.id(place), target, what);
         is_admitted.then_some(target)
     }
 
-    /// The instruction that a thread is at.
-    pub(crate) fn instruction(&self, place: usize) -> Instr
+    /// The instruction that a thread is at. None past the end of its script, which is an `end`.
+    pub(crate) fn instruction(&self, place: usize) -> Option<&'m Instr>
         requires { place < length self.now.machine.threads }
-        ensures value { instr_of result ≡ instruction (held self.now.machine self.now.local place) }
-        ensures within { is_end (instr_of result) ≡ false →
+        ensures value { unwrap_or (option_map instr_of (option_copied result)) End ≡
+            instruction (held self.now.machine self.now.local place) }
+        ensures within { IsSome result →
             (thread self.now.local place).context.place < most_instructions }
     {
-        self.declared(place)
-            .instruction(self.tcb(place).thread().place())
-            .unwrap_or(Instr::End)
+        let machine = self.machine;
+        machine.threads()[place].instruction(self.tcb(place).thread().place())
     }
 
     // Whether this receive specifier of a thread accepts a message that shows this sender.

@@ -131,18 +131,18 @@ impl<'m> Core<'m> {
     }
 
     /// The core's turn: the first duty of a thread, else the first due timeout, else one
-    /// instruction of the first ready thread. Appends its steps to `told`, and returns its stamp,
+    /// instruction of the first ready thread. Appends its steps to `buffer`, and returns its stamp,
     /// or None if there is nothing to do; then nothing is changed. Conditions: `can_stamp(0)`, and
-    /// `told` has begun an event that has no step yet.
-    pub fn turn_into<S: Sink>(&mut self, told: &mut EventBuffer<S>) -> Option<u64>
+    /// `buffer` has begun an event that has no step yet.
+    pub fn turn_into<S: Sink>(&mut self, buffer: &mut EventBuffer<S>) -> Option<u64>
         requires stamp { can_stamp self.old.local 0 ≡ true }
-        requires untold { IsOpen told.old }
-        ensures { IsTurn self.old self.new told.old told.new result }
+        requires untold { IsOpen buffer.old }
+        ensures { IsTurn self.old self.new buffer.old buffer.new result }
     {
         let _few = self.known.len();
         let choice = self.choice()?;
         let stamp = self.open(0);
-        self.carry_out(&choice, told);
+        self.carry_out(&choice, buffer);
         Some(stamp)
     }
 
@@ -311,8 +311,9 @@ fn note_all(known: &ProcessorState, duties: &mut Places)
     }
 }
 
-// Notes that a thread may have a duty now.
-fn note(known: &ProcessorState, duties: &mut Places, place: usize)
+// Inserts a place of this processor into the set of those that may have a duty, or that of those
+// at which a send of timeout zero may wait.
+fn insert_place(known: &ProcessorState, duties: &mut Places, place: usize)
     requires { IsOwnOf known.now place }
     ensures core { AreCore known.now }
     ensures put { (other : ℕ) → has duties.new other ≡ (has duties.old other || other == place) }
@@ -333,7 +334,7 @@ fn note_duty(known: &ProcessorState, duties: &mut Places, zeros: &Places, place:
 {
     let _few = known.len();
     if known.may_have_duty(place, zeros.contains(place)) {
-        note(known, duties, place);
+        insert_place(known, duties, place);
     }
 }
 
@@ -353,7 +354,7 @@ fn note_duty_beside(
 {
     let _few = known.len();
     if known.may_have_duty(place, zeros.contains(place)) {
-        note(known, duties, place);
+        insert_place(known, duties, place);
     }
 }
 
@@ -389,7 +390,7 @@ fn note_own(known: &ProcessorState, duties: &mut Places, place: usize)
         has duties.new place ≡ true }
 {
     if known.is_own(place) {
-        note(known, duties, place);
+        insert_place(known, duties, place);
     }
 }
 
@@ -402,6 +403,6 @@ fn note_zero(known: &ProcessorState, zeros: &mut Places, receiver: usize, sender
         has zeros.new receiver ≡ true }
 {
     if known.is_zero(sender) {
-        note(known, zeros, receiver);
+        insert_place(known, zeros, receiver);
     }
 }

@@ -1,7 +1,7 @@
 -- What becomes of one thread goes on to be good.
 use Rattle.std.proofs.Common.{◌≡◌, ℕ, ◌≤◌, true, false, Option, Some, None, refl, sym, subst, arith}
 use Rattle.l4_model.specs.Machine.{Instr, End, Delete}
-use Rattle.l4_model.specs.World.{Thread, Send, Receive, Asked, Message, Phase, Ready, Sending, Receiving, Ordering, Ended, Deleted, is_ready, is_alive}
+use Rattle.l4_model.specs.World.{Thread, Send, Receive, PendingOrder, Message, Phase, Ready, Sending, Receiving, Ordering, Ended, Deleted, is_ready, is_alive}
 use Rattle.l4_model.specs.Effects.{phase_after, runs, waits, begins, fails, decided, refused, receives, goes_on, delivered, asked, orders, obeyed}
 use Rattle.l4_model.proofs.Chains.{cond_both, cond_keeps}
 use Rattle.l4_model.specs.Reached.{Suits}
@@ -10,7 +10,7 @@ use Rattle.l4_core_model.specs.Local.{after_decision, was_delivered, was_dropped
 use Rattle.l4_core_model.proofs.Fit.{IsGood, SendIsSince, PhaseIsSince}
 
 -- which phases have neither a send nor an order
-pub ready_has_none : (p : Phase) (send : Option Send) (order : Option Asked) → is_ready p ≡ true → Suits p send order → (send ≡ None) × (order ≡ None)
+pub ready_has_none : (p : Phase) (send : Option Send) (order : Option PendingOrder) → is_ready p ≡ true → Suits p send order → (send ≡ None) × (order ≡ None)
 ready_has_none Ready send order h s = s
 ready_has_none Sending send order h s = cc
 ready_has_none (Receiving receive since) send order h s = cc
@@ -18,10 +18,10 @@ ready_has_none Ordering send order h s = cc
 ready_has_none Ended send order h s = cc
 ready_has_none Deleted send order h s = cc
 
-pub receiving_has_none : (p : Phase) (receive : Receive) (since : ℕ) (send : Option Send) (order : Option Asked) → p ≡ Receiving receive since → Suits p send order → (send ≡ None) × (order ≡ None)
+pub receiving_has_none : (p : Phase) (receive : Receive) (since : ℕ) (send : Option Send) (order : Option PendingOrder) → p ≡ Receiving receive since → Suits p send order → (send ≡ None) × (order ≡ None)
 receiving_has_none p receive since send order e s = rw e at s
 
-sender_has_no_order : (p : Phase) (send : Send) (order : Option Asked) → is_alive p ≡ true → Suits p (Some send) order → order ≡ None
+sender_has_no_order : (p : Phase) (send : Send) (order : Option PendingOrder) → is_alive p ≡ true → Suits p (Some send) order → order ≡ None
 sender_has_no_order Ready send order h s = cc
 sender_has_no_order Sending send order h s = s.1
 sender_has_no_order (Receiving receive since) send order h s = cc
@@ -70,7 +70,7 @@ begins_good clock send t ready since g =
     let none = ready_has_none t.phase t.send t.order ready g.suits in
     record { suits = (refl, none.1); sends = since; receives = tt }
 
-pub orders_good : (clock : ℕ) (order : Asked) (t : Thread) → is_ready t.phase ≡ true → IsGood clock t → IsGood clock (orders order t)
+pub orders_good : (clock : ℕ) (order : PendingOrder) (t : Thread) → is_ready t.phase ≡ true → IsGood clock t → IsGood clock (orders order t)
 orders_good clock order t ready g =
     let none = ready_has_none t.phase t.send t.order ready g.suits in
     record { suits = (none.0, refl); sends = none_since clock t.send none.0; receives = tt }
@@ -131,7 +131,7 @@ receives_good clock message tag t receive since is g =
 pub deletes_good : (clock : ℕ) (t : Thread) → IsGood clock t → IsGood clock (asked Delete t)
 deletes_good clock t g = record { suits = tt; sends = g.sends; receives = tt }
 
-caller_has_no_send : (p : Phase) (send : Option Send) (order : Asked) → is_alive p ≡ true → Suits p send (Some order) → send ≡ None
+caller_has_no_send : (p : Phase) (send : Option Send) (order : PendingOrder) → is_alive p ≡ true → Suits p send (Some order) → send ≡ None
 caller_has_no_send Ready send order h s = cc
 caller_has_no_send Sending send order h s = cc
 caller_has_no_send (Receiving receive since) send order h s = cc
@@ -139,7 +139,7 @@ caller_has_no_send Ordering send order h s = s.0
 caller_has_no_send Ended send order h s = cc
 caller_has_no_send Deleted send order h s = cc
 
-pub obeyed_good : (clock : ℕ) (t : Thread) (order : Asked) → t.order ≡ Some order → IsGood clock t → IsGood clock (obeyed t)
+pub obeyed_good : (clock : ℕ) (t : Thread) (order : PendingOrder) → t.order ≡ Some order → IsGood clock t → IsGood clock (obeyed t)
 obeyed_good clock t order has g =
     cond_keeps (IsGood clock) (is_alive t.phase) _ _
     (λ alive. let none = caller_has_no_send t.phase t.send order alive (rw has at g.suits) in

@@ -4,7 +4,7 @@ use Rattle.std.specs.Prelude.{slice_index_or, ◌||◌}
 use Rattle.std.specs.List.{AllByRecursion, list_any}
 use Rattle.std.proofs.lemmas.List.Quantifiers.{position-Some}
 use Rattle.l4_model.specs.Words.{GlobalId, Id, NilThread, AnyThread, AnyLocalThread, LocalThread, GlobalThread, same_id, Period}
-use Rattle.l4_model.specs.Machine.{What, Instr, Set, Copy, Add, Tag, Vs, Ipc, Ask, Jump, OnErr, End, Machine, place_of}
+use Rattle.l4_model.specs.Machine.{OrderKind, Instr, Set, Copy, Add, Tag, Vs, Ipc, Ask, Jump, OnErr, End, Machine, place_of}
 use Rattle.l4_model.specs.World.{Context, Send, Receive}
 use Rattle.l4_model.specs.Rules.{RunsAlone, Sends, Orders, act, ipc_act, ask_act, receive_phase, destination, is_admitted}
 use Rattle.l4_core_model.specs.Plain as plain
@@ -58,7 +58,7 @@ ipc_sends m id now c AnyLocalThread period receive send h = begins_as now _ send
 ipc_sends m id now c (LocalThread word) period receive send h = begins_as now _ send h (record { since = refl; not_nil = λ e. cc })
 ipc_sends m id now c (GlobalThread t) period receive send h = begins_as now _ send h (record { since = refl; not_nil = λ e. cc })
 
-ask_sends_none : (m : Machine) (id : GlobalId) (target : Id) (what : What) (send : Send) → ask_act m id target what ≡ Sends send → ⊥
+ask_sends_none : (m : Machine) (id : GlobalId) (target : Id) (what : OrderKind) (send : Send) → ask_act m id target what ≡ Sends send → ⊥
 ask_sends_none m id NilThread what send h = cc
 ask_sends_none m id AnyThread what send h = cc
 ask_sends_none m id AnyLocalThread what send h = cc

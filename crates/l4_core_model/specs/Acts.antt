@@ -2,8 +2,8 @@
 use Rattle.std.specs.Prelude.{ℕ, Bool, false, if◌then◌else◌, ◌&&◌, Option, Some, None, List, [], ◌∷◌, ◌++◌}
 use Rattle.l4_model.specs.Options.{if_some}
 use Rattle.l4_model.specs.Words.{GlobalId}
-use Rattle.l4_model.specs.Machine.{Machine, What, Delete, same_space, place_of, is_place}
-use Rattle.l4_model.specs.World.{Receive, Message, Send, Asked, Owed, Phase, Receiving, is_deleted, Name}
+use Rattle.l4_model.specs.Machine.{Machine, OrderKind, Delete, same_space, place_of, is_place}
+use Rattle.l4_model.specs.World.{Receive, Message, Send, PendingOrder, Owed, Phase, Receiving, is_deleted, Name}
 use Rattle.l4_model.specs.Rules.{RunsAlone, Sends, Receives, Orders, Act, received_tag, is_cross, owed_by}
 use Rattle.l4_model.specs.Steps.{Step, Local as RanLocal, Begin, Queue, Deliver, Wait, Order, Obey, Retarget}
 use Rattle.l4_model.specs.Conditions.{Found, instruction, is_zero, is_refusable}
@@ -167,7 +167,7 @@ fails_receive m step code i x = x ▷ tells (step (declared m i).id) ▷ does (c
 -- Orders
 
 -- A deleted thread is neither ready nor armed.
-abbrev pub asks : What → ℕ → Local → Local
+abbrev pub asks : OrderKind → ℕ → Local → Local
 asks Delete i l = comes_to i (asked Delete) (relists (plain.dropped i) l)
 asks what i l = changes i (asked what) l
 
@@ -176,19 +176,19 @@ withdraws_for m cpu j = if_some (λ cause x. withdraws m cause j (split_place m 
 
 -- What the caller asks for is done to the thread at place j. A deleted thread's send is not
 -- withdrawn again.
-abbrev pub obeys : Machine → (cpu : ℕ) → (caller : GlobalId) → What → (j : ℕ) → Work → Work
+abbrev pub obeys : Machine → (cpu : ℕ) → (caller : GlobalId) → OrderKind → (j : ℕ) → Work → Work
 obeys m cpu caller what j x =
     if is_deleted (thread x.local j).phase then (x ▷ tells (Obey caller) ▷ does (asks what j))
     else (x ▷ tells (Obey caller) ▷ does (asks what j) ▷ withdraws_for m cpu j (cause_of what))
 
-abbrev pub order_goes_to : Machine → (cpu i : ℕ) → Asked → Option ℕ → Work → Work
+abbrev pub order_goes_to : Machine → (cpu i : ℕ) → PendingOrder → Option ℕ → Work → Work
 order_goes_to m cpu i order =
     if_some (λ j x.
     if is_own m cpu j then (x ▷ obeys m cpu (declared m i).id order.what j
     ▷ does (comes_to i obeyed))
     else posts (declared m j).cpu (OrderLetter (declared m i).id order.target order.what) x)
 
-abbrev pub gives_order : Machine → (cpu i : ℕ) → Asked → Work → Work
+abbrev pub gives_order : Machine → (cpu i : ℕ) → PendingOrder → Work → Work
 gives_order m cpu i order x =
     x ▷ does (comes_to i (orders order)) ▷ tells (Order (declared m i).id order.target order.what)
     ▷ order_goes_to m cpu i order (place_of m order.target)

@@ -1,7 +1,7 @@
 -- What processors tell each other.
 use Rattle.std.specs.Prelude.{ℕ, Bool, Option, Some, None}
 use Rattle.l4_model.specs.Words.{GlobalId}
-use Rattle.l4_model.specs.Machine.{What, CancelSend, CancelReceive, CancelBoth, Delete}
+use Rattle.l4_model.specs.Machine.{OrderKind, CancelSend, CancelReceive, CancelBoth, Delete}
 use Rattle.l4_model.specs.World.{Message, Name, Owed}
 use Rattle.l4_model.specs.Steps.{Step, SendTimeout, SendNobody, SendCancel, Drop}
 
@@ -28,7 +28,7 @@ pub data Content : Type 0 where
   DoneLetter : Name → Result → Content
   WithdrawLetter : Name → (receiver : GlobalId) → Cause → Content
   GoneLetter : GlobalId → Content
-  OrderLetter : (caller target : GlobalId) → What → Content
+  OrderLetter : (caller target : GlobalId) → OrderKind → Content
   OrderDoneLetter : (caller : GlobalId) → Content
   RetargetLetter : Owed → Content
 
@@ -49,7 +49,7 @@ refusal_of ByCancel = Cancelled
 refusal_of ByDeletion = Dropped
 
 -- Whether an order withdraws a send of its target.
-abbrev pub cause_of : What → Option Cause
+abbrev pub cause_of : OrderKind → Option Cause
 cause_of CancelSend = Some ByCancel
 cause_of CancelReceive = None
 cause_of CancelBoth = Some ByCancel

@@ -7,7 +7,7 @@ use Rattle.std.proofs.lemmas.List.Elements.{All-cons, All-get_or, All-nil}
 use Rattle.std.proofs.lemmas.Option.{slice_get-get_or}
 use Rattle.std.proofs.lemmas.Slice.Zip.{get_or-zip, length-zip}
 use Rattle.l4_model.specs.Words.{GlobalId, same_id}
-use Rattle.l4_model.specs.Machine.{Declaration, Machine, What, place_of}
+use Rattle.l4_model.specs.Machine.{Declaration, Machine, OrderKind, place_of}
 use Rattle.l4_model.specs.Steps.{Step, Local, Begin, Deliver, Wait, SendTimeout, ReceiveTimeout, SendNobody, ReceiveNobody, SendCancel, ReceiveCancel, Order, Tick}
 use Rattle.l4_model.specs.World.{Name, changed}
 use Rattle.l4_model.proofs.Chains.{get-changed_other as slice-changed_other, length-changed}
@@ -118,7 +118,7 @@ of_send_cancel s other away c = rw away (spared c)
 pub of_receive_cancel : (t : GlobalId) → OfOne t (ReceiveCancel t)
 of_receive_cancel t other away c = rw away (spared c)
 
-pub of_order : (caller target : GlobalId) (what : What) → OfOne caller (Order caller target what)
+pub of_order : (caller target : GlobalId) (what : OrderKind) → OfOne caller (Order caller target what)
 of_order caller target what other away c = rw away (spared c)
 
 pub of_delivery : (s : Name) (receiver shown actual : GlobalId) (tag : ℕ) (words : List ℕ) → OfTwo s.thread receiver (Deliver s receiver shown actual tag words)

@@ -16,7 +16,7 @@ use Rattle.l4_codes.specs.Written.{with_numbers, Written, Writes}
 use Rattle.l4_codes.proofs.Writing.{each_on}
 use Rattle.l4_endings.proofs.Walking.{locals_of_run}
 
--- One processor more was written.
+-- One more processor was written.
 pub core_told : (m : Machine) (r : Run) (w : UnderWay) (cpu : ℕ) (p : Processor)
     (a b c : Written) → IsRun m r w → cpu < m.cpus → IsProcessorOf m r.system cpu p →
     ((rest : List ℕ) →
@@ -33,7 +33,7 @@ core_told m r w cpu p a b c is own of same one =
     (sym (get_or_from_slice_get r.system.locals cpu p.local p.local of.local))
     (subst (λ (n : Machine). Writes (local_code (length n.threads) p.local) b c) of.machine one))
 
--- One of the processors of a machine.
+-- One of the processors of a machine is written in front of the others.
 pub one_on : (m : Machine) (code : ℕ → List ℕ → List ℕ) (all : List ℕ → List ℕ) (cpu : ℕ)
     (a b c : Written) → cpu < m.cpus →
     ((rest : List ℕ) →
@@ -60,7 +60,7 @@ letters_told m r to from ls a b c own are same one =
     a b c own same
     (subst (λ (ls : List Letter). Writes (chained content_code (contents ls)) b c) are one)
 
--- All of it was written.
+-- The whole state was written.
 pub is_state : (m : Machine) (r : Run) (a b c : Written) (bytes : List ℕ) (rests : Bool) →
     a ≡ record { bytes = []; zeros = 0 } →
     Writes (sized m.cpus (local_code (length m.threads)) r.system.locals) a b →

@@ -55,7 +55,7 @@ module _ (m : Machine) (found : List Seen) (depth : ℕ) (a : AreAllListed m fou
         near = near;
       }
 
--- So it is for a search that says that it is whole.
+-- The same for a search that reports that it is whole.
 pub deepest_of : (m : Machine) (found : List Seen) (depth : ℕ) (is_whole : Bool) → IsMachine m →
     IsExplored (state_after m) found depth is_whole → 0 < length found → depth ≡ depth_of found →
     is_whole ≡ true → IsDeepest m depth

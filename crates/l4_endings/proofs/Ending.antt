@@ -37,7 +37,7 @@ one_end m x old new v is same one =
     ∙ ap (λ b. told old ++ map (entries_of m) (map (λ (s : Seen). s.schedule) (cond b (x ∷ []) [])))
     (sym is)
 
--- Of one state more
+-- With one more state
 ends_append : (m : Machine) (xs ys : List Seen) →
     map (entries_of m) (ends_of (xs ++ ys))
     ≡ map (entries_of m) (ends_of xs) ++ map (entries_of m) (ends_of ys)
@@ -57,7 +57,7 @@ ends_on m found place old new inside before same =
     ∙ sym (ap (λ xs. map (entries_of m) (ends_of xs)) (take_more found place unseen inside)
     ∙ ends_append m (take place found) (seen_at found place ∷ []))
 
--- One entry more of a schedule
+-- One more entry of a schedule
 pub one_entry : (m : Machine) (numbers : List ℕ) (i e : ℕ) (old new : List code.Entry)
     (entry : code.Entry) → i < length numbers → e ≡ get_or numbers i 0 →
     entry_from entry ≡ choice m e → new ≡ old ++ entry ∷ [] →

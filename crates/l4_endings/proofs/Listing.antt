@@ -35,7 +35,7 @@ state_here (Ok x) m s w walked is =
     ap (option_map (state_in m)) walked.leads ∙ ap (λ (t : State). Some t) (sym is)
 state_here (Err e) m s w walked is = tt
 
--- Where choices lead to a state, they lead.
+-- Numbers that lead to a state as a search knows it lead to a state.
 pub have_led : (m : Machine) (s : List ℕ) → IsSome (state_after m s) → AreChoices m s
 have_led m s some = by (after_choices m (opening_system m) s) some
   where

@@ -97,7 +97,7 @@ module _ (m : Machine) (g : System) (cpu : ℕ) where
       ap (λ (o : Option ℕ). is_some (option_map (Ticks cpu) o >>=
       λ e. option_map (λ h. h.system) (happens m g e))) here
 
-  -- At no processor nothing.
+  -- Where there is no such processor, nothing can happen.
   nobody : (k : ℕ) → slice_get g.locals cpu ≡ None → after_entry m g (choice_of m.cpus cpu k) ≡ None
   nobody k none = by (nat_lt k m.cpus) (k == m.cpus)
     where
@@ -125,7 +125,7 @@ module _ (m : Machine) (g : System) (cpu : ℕ) where
       by None none = let no = nobody k none in absurd cc
       by (Some l) there = omega (arith, slice_get_within g.locals cpu l there, size)
 
--- So its number is below their count.
+-- The number of a choice that can be made is below their count.
 pub number_below : (m : Machine) (g h : System) (e : ℕ) → length g.locals ≡ m.cpus →
     after_entry m g (choice m e) ≡ Some h → e < m.cpus * (m.cpus + 2)
 number_below m g h e size is =

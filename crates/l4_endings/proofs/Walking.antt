@@ -25,7 +25,7 @@ use Rattle.l4_endings.specs.Tried.{IsTickOf}
 use Rattle.l4_endings.specs.Walked.{AreChoices, IsWalked}
 use Rattle.l4_endings.proofs.Possible.{entry_same, number_below}
 
--- Where choices lead, some of them do.
+-- Where a list of choices leads to a state, so does each beginning of it.
 pub choices_before : (m : Machine) (g : System) (s t : List ℕ) →
     IsSome (after_choices m g (s ++ t)) → IsSome (after_choices m g s)
 choices_before m g [] t some = refl
@@ -50,7 +50,7 @@ walked_start m w is = record {
 pub has_run : (m : Machine) (s : List ℕ) (w : UnderWay) → IsWalked m s w → HasRun w
 has_run m s w walked = (m, (walked.run, walked.is))
 
--- One choice more
+-- One more choice
 
 record IsOn (m : Machine) (s : List ℕ) (w : UnderWay) (e : ℕ) (walked : IsWalked m s w) : Type 0 where
   pub next : System
@@ -121,7 +121,7 @@ walked_on m s w v e cpus walked some count goes near =
           (near m walked.run walked.is)) o.leads));
     }
 
--- Of a list of choices the next one
+-- The next one of a list of choices
 
 -- as many events as there were choices
 pub order_length : (m : Machine) (s : List ℕ) (w : UnderWay) → IsWalked m s w →

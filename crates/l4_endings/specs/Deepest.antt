@@ -6,7 +6,7 @@ use Rattle.l4_shifted.specs.Shifted.{IsShifted}
 use Rattle.l4_states.specs.Choices.{IsLeastRun}
 use Rattle.l4_states.specs.Listed.{GoesFar}
 
--- At most so many events lead to a state that is similar.
+-- At most so many events lead to a similar state.
 pub record IsWithin (m : Machine) (depth : ℕ) (g : System) : Type 0 where
   pub system : System
   pub events : ℕ
@@ -14,7 +14,7 @@ pub record IsWithin (m : Machine) (depth : ℕ) (g : System) : Type 0 where
   pub similar : IsShifted system g
   pub short : events ≤ depth
 
--- So it is for every state, and one is as far away.
+-- Every state is within this depth, and one is at it.
 pub record IsDeepest (m : Machine) (depth : ℕ) : Type 0 where
   pub far : GoesFar m depth
   pub near : (g : System) (events : ℕ) → IsLeastRun m events g → IsWithin m depth g

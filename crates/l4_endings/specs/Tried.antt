@@ -1,4 +1,4 @@
--- What is tried of a machine.
+-- What a search tries of a machine.
 use Rattle.std.specs.Prelude.{ℕ, ◌+◌, ◌%◌, ◌<◌, ◌≤◌, ◌≡◌, Option, None, List, [], ◌∷◌, ◌++◌, Vec, map}
 use Rattle.std.proofs.Common.{Global}
 use Rattle.l4_model.specs.Machine.{Machine}
@@ -10,11 +10,11 @@ use Rattle.l4_machine.specs.declared.entries.Entry as code
 use Rattle.l4_states.specs.Choices.{state_after}
 use Rattle.l4_states.proofs.Following.{are_schedules}
 
--- Choices have what a search asks for.
+-- Lists of choices are schedules as a search needs them.
 pub schedules : (m : Machine) → IsMachine m → AreSchedules (state_after m)
 schedules m machine = are_schedules m machine
 
--- They are all entries from the one on and below the other that lead on from a schedule, rising.
+-- All entries from `from` up to `below` that lead on from a schedule, in rising order.
 abbrev pub AreUpTo : (state_of : List ℕ → Option State) (s : List ℕ) (from below : ℕ) → List Next →
     Type 0
 AreUpTo state_of s from below [] =

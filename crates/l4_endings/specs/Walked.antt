@@ -1,4 +1,4 @@
--- A core run under way in the program that choices have led to.
+-- A core run under way in the program, behind some choices.
 use Rattle.std.specs.Prelude.{ℕ, ◌*◌, ◌≤◌, ◌≡◌, Some, List, IsSome, length}
 use Rattle.std.specs.List.{AllByRecursion}
 use Rattle.l4_model.specs.Words.{period_limit}
@@ -11,7 +11,7 @@ use Rattle.l4_machine.specs.UnderWay.{UnderWay, IsRun}
 abbrev pub AreChoices : Machine → List ℕ → Type 0
 AreChoices m numbers = IsSome (after_choices m (opening_system m) numbers)
 
--- It is a core run to the state that these choices lead to, with an event for each.
+-- It is a core run to the state that these choices lead to, with one event for each.
 pub record IsWalked (m : Machine) (numbers : List ℕ) (w : UnderWay) : Type 0 where
   pub run : Run
   pub is : IsRun m run w

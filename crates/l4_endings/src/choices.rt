@@ -13,8 +13,8 @@ use l4_machine::{Entry, Walk};
 use l4_split::law_of_core_runs;
 use l4_types::steps::CLOCKS;
 
-/// How many choices there are: of each processor the letters of each poster, the turn of its core
-/// and the tick to its least deadline. At most 288.
+/// The number of choices, at most 288. Each processor has one for the letters of each poster, one
+/// for the turn of its core, and one for the tick to its least deadline.
 pub(crate) fn choice_count(cpus: u8) -> u16
     requires { cpus < 17 }
     ensures { result ≡ cpus * (cpus + 2) }
@@ -22,7 +22,7 @@ pub(crate) fn choice_count(cpus: u8) -> u16
     u16::from(cpus) * (u16::from(cpus) + 2)
 }
 
-// The entry of a choice of a processor.
+// The entry of a processor's choice, by its place among the choices of that processor.
 fn choice_of(cpus: u8, cpu: u8, k: u8) -> Entry
     requires own { cpu < cpus }
     requires choice { k < cpus + 2 }
@@ -38,7 +38,7 @@ fn choice_of(cpus: u8, cpu: u8, k: u8) -> Entry
     }
 }
 
-/// The entry of a choice, below their count.
+/// The entry of the choice of this number, which is below their count.
 pub(crate) fn choice(cpus: u8, number: u16) -> Entry
     requires cpus { cpus < 17 }
     requires number { number < cpus * (cpus + 2) }
@@ -93,8 +93,8 @@ fn is_possible_at(walk: &Walk<'_>, cpus: u8, cpu: u8, k: u8) -> bool
     }
 }
 
-/// Whether a choice, below their count, can be made. If it is a tick, the least deadline is not
-/// farther ahead than the longest period.
+/// Whether the choice of this number, below their count, can be made. If it is a tick, the least
+/// deadline is not farther ahead than the longest period.
 pub(crate) fn is_possible(walk: &Walk<'_>, cpus: u8, number: u16) -> bool
     requires run { HasRun walk.now }
     requires cpus { cpus ≡ walk.now.machine.cpus }

@@ -17,28 +17,29 @@ use l4_script::machine::Machine;
 use l4_types::errors::NoMemory;
 use std::alloc::Global;
 
-/// What a search for endings has come to.
+/// The result of a search for endings.
 #[derive(Drop)]
 pub struct FoundEndings {
-    /// The endings, each by the entries that lead there: a shortest schedule, and of these the
-    /// first. The shorter ones come first.
+    /// Each ending by the entries that lead there: a shortest schedule, and of the shortest the
+    /// first. Shorter schedules come first.
     pub endings: Vec<Vec<Entry>>,
-    /// How many states were found, at rest or not, of which no two are similar.
+    /// The number of states found, at rest or not, no two of them similar.
     pub states: usize,
-    /// All states that core runs of at most so many events lead to are among them. Where the search
-    /// is whole, no state is farther away, and one is as far.
+    /// Each core run of at most this many events leads to a state that is similar to a found one.
+    /// Where the search is whole, no state is farther away, and one is as far.
     pub depth: usize,
-    /// Whether longer core runs lead to no more.
+    /// Whether longer core runs lead to no other states.
     pub is_whole: bool,
 }
 
-/// The endings of all core runs of a machine, of at most so many events, whose ticks go to the
-/// least deadline of their processor. Each is listed once, of those that differ only in stamps, in
+/// The endings of all core runs of a machine of at most `depth` events, whose ticks go to the least
+/// deadline of their processor. Similar endings are listed once. They differ only in stamps, in
 /// numbers of sends, in how late it is, or in the order of letters of different pairs of
 /// processors.
-/// At most so many states are looked at; where there is one more, those that fewer events lead to
-/// are all there. No search goes deeper than 1,000,000 events. A search that is not whole was cut
-/// off: there is a state that so many events lead to, and no fewer, or one state more.
+///
+/// It finds at most `most` states. Where there is one more, all states that fewer events lead to
+/// are found. No search goes deeper than 1,000,000 events. A search that is not whole was cut off.
+/// Some state takes as many events as the search may go deep, or there is one more state.
 ///
 /// `NoMemory`: memory was refused.
 pub fn endings(
@@ -60,7 +61,7 @@ pub fn endings(
     endings_heard(alloc, machine, depth, most, &mut Unheard)
 }
 
-/// The endings that `endings` finds. The listener hears how far the search for them has come.
+/// The endings that `endings` finds. `progress` hears how far the search has come.
 ///
 /// `NoMemory`: memory was refused.
 pub fn endings_heard<P: Progress>(
@@ -90,7 +91,7 @@ pub fn endings_heard<P: Progress>(
     })
 }
 
-// The entries that lead to those that are ends.
+// The schedules of the states that are at rest.
 fn ends(alloc: Global, machine: &Machine, found: &Found) -> Result<Vec<Vec<Entry>>, NoMemory>
     requires { (i : ℕ) → i < length found.now →
         AreChoices machine.now (seen_at found.now i).schedule }
@@ -104,7 +105,7 @@ fn ends(alloc: Global, machine: &Machine, found: &Found) -> Result<Vec<Vec<Entry
     Ok(ends)
 }
 
-// Appends the entries that lead to one of them, where it is an end.
+// Appends the schedule of a state, where the state is at rest.
 fn list_end(
     alloc: Global,
     machine: &Machine,

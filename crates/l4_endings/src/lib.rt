@@ -1,8 +1,8 @@
-//! What a set of threads may do at all: the endings of all core runs of a machine.
+//! What a set of threads may come to: the endings of all core runs of a machine.
 //!
-//! An ending is a state at rest: nothing is to be done, armed or under way. A search in breadth
+//! An ending is a state at rest: nothing is to be done, armed or under way. A breadth-first search
 //! tries whatever may happen next in each state, once for all states that are similar. So it finds
-//! each ending by a shortest schedule that leads there.
+//! each ending by a shortest schedule.
 //!
 //! ```rust
 //! let found = endings(alloc, &machine, 1_000, 100_000)?;

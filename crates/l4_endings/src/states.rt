@@ -1,4 +1,4 @@
-//! States as a search knows them.
+//! The states of a search, written as codes.
 ghost use Rattle.std.specs.Prelude.{◌≡◌, ◌<◌, IfOk, OnOk, length};
 ghost use Rattle.l4_model.specs.Machine.{Machine as MachineOfModel};
 ghost use Rattle.l4_core_model.specs.Runs.{Run, processors};
@@ -15,7 +15,7 @@ use l4_explore::tries::Reached;
 use l4_machine::Walk;
 use std::alloc::{AllocError, Global};
 
-// The processors.
+// Writes the processors.
 fn put_cores(code: &mut Code, walk: &Walk<'_>, cpus: u8) -> Result<(), AllocError>
     requires run { HasRun walk.now }
     requires cpus { cpus ≡ walk.now.machine.cpus }
@@ -30,7 +30,7 @@ fn put_cores(code: &mut Code, walk: &Walk<'_>, cpus: u8) -> Result<(), AllocErro
     Ok(())
 }
 
-// The letters that have come to a processor.
+// Writes the letters that have come to a processor.
 fn put_mail_to(code: &mut Code, walk: &Walk<'_>, cpus: u8, to: u8) -> Result<(), AllocError>
     requires run { HasRun walk.now }
     requires cpus { cpus ≡ walk.now.machine.cpus }
@@ -44,7 +44,7 @@ fn put_mail_to(code: &mut Code, walk: &Walk<'_>, cpus: u8, to: u8) -> Result<(),
     Ok(())
 }
 
-// All letters under way.
+// Writes all letters under way.
 fn put_mail(code: &mut Code, walk: &Walk<'_>, cpus: u8) -> Result<(), AllocError>
     requires run { HasRun walk.now }
     requires cpus { cpus ≡ walk.now.machine.cpus }

@@ -1,4 +1,4 @@
-//! What may be done with a machine.
+//! The choices of a machine, as a search tries them.
 ghost use Rattle.std.specs.Prelude.{◌+◌, ◌*◌, ◌/◌, ◌<◌, ◌≡◌, ◌++◌, ◌∷◌, ◌^◌, [], IfOk, OnOk, Some, length, map};
 ghost use Rattle.l4_model.specs.Machine.{Machine as MachineOfModel};
 ghost use Rattle.l4_core_model.specs.Runs.{IsMachine, Run};
@@ -16,7 +16,7 @@ use l4_machine::Walk;
 use l4_script::machine::Machine;
 use std::alloc::{AllocError, Global};
 
-/// What may be done with a machine, one thing after the other, whatever happens first.
+/// The choices of a machine, each of which a search tries in each state.
 #[derive(Drop)]
 pub(crate) struct Choices<'m> {
     pub(crate) machine: &'m Machine,
@@ -48,7 +48,7 @@ impl<'m> Tries for Choices<'m> {
     }
 }
 
-// Appends a choice, where it leads on.
+// Appends a choice where it can be made.
 fn list_choice(
     alloc: Global,
     machine: &Machine,
@@ -78,7 +78,7 @@ fn list_choice(
     Ok(())
 }
 
-// The state that one choice more leads to.
+// The state that one more choice leads to.
 fn reached_by(
     alloc: Global,
     machine: &Machine,

@@ -33,7 +33,7 @@ pub(crate) fn walk_to<'m>(
     Ok(walk)
 }
 
-/// The core run that one choice more leads to.
+/// The core run that one more choice leads to.
 ///
 /// `NoMemory`: memory was refused.
 pub(crate) fn walk_on<'m>(
@@ -51,7 +51,7 @@ pub(crate) fn walk_on<'m>(
     Ok(walk)
 }
 
-// Makes a choice. Its processor's least deadline was not farther ahead than the longest period.
+// Makes a choice. The least deadline of its processor is not farther ahead than the longest period.
 fn make(walk: &mut Walk<'_>, cpus: u8, number: u16) -> Result<(), NoMemory>
     requires run { HasRun walk.old }
     requires few { length walk.old.order < 2 ^ 61 }

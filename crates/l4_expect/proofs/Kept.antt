@@ -72,7 +72,7 @@ pub nothing_lost : (scope : Scope) (text : List ℕ) (expected : List Expected) 
     expectations_of scope text ≡ Ok expected → expected ≡ expected_from 1 (lines_of text)
 nothing_lost scope text expected is = all_read scope (parts_of text) 1 [] expected is
 
--- What stands behind `never` is put behind it again.
+-- `never` is written again in front of what followed it.
 pub told_again : (number : ℕ) (line : List ℕ) → line_again (expected_in number line) ≡ line
 told_again number line = by (is_never line) refl
   where

@@ -4,7 +4,7 @@ use Rattle.std.specs.Prelude.{flat_map}
 use Rattle.l4_expect.specs.Expected.{Expected}
 use Rattle.l4_expect.specs.Unmet.{is_met, unmet, unmet_line, unmet_part, unmet_text}
 
--- What is printed of each in order is a line for each that does not hold.
+-- A line for each expectation that does not hold is what is printed of each, in order.
 pub unmet_parts : (report : List ℕ) (expected : List Expected) →
     flat_map (unmet_part report) expected ≡ unmet_text report expected
 unmet_parts report [] = refl

@@ -27,8 +27,8 @@ is_id word =
     bytes_eq word (codes "nil") || bytes_eq word (codes "any") || bytes_eq word (codes "anylocal")
     || is_local word || is_some (thread_of word)
 
--- A report has such words in a column, or they stand for some that it has. The first, which says
--- what kind of line it is, is judged by itself.
+-- A report may have such a word in this column, or the word stands for several that it may have.
+-- The first word, the kind of the line, is judged separately.
 abbrev pub is_of : Column → (word : List ℕ) → Bool
 is_of First word = true
 is_of Thread word = is_some (thread_of word)
@@ -43,7 +43,7 @@ abbrev pub may_stand : Option Column → (word : List ℕ) → Bool
 may_stand None word = false
 may_stand (Some column) word = is_any word || is_of column word
 
--- Behind the columns that a line has at least there may be more registers, or nothing.
+-- Behind the columns that each line of its kind has come more registers, or nothing.
 
 abbrev pub next_column : (has_more : Bool) → List Column → Option Column
 next_column has_more (column ∷ columns) = Some column
@@ -67,7 +67,7 @@ fits_columns has_more columns (word ∷ words) =
     || (may_stand (next_column has_more columns) word
     && fits_columns has_more (columns_behind columns) words)
 
--- The columns that the lines of a thread, of a send and of an ending have at least.
+-- The columns that each line of a thread, of a send and of an ending has.
 
 abbrev pub of_thread : List Column
 of_thread = First ∷ Thread ∷ State ∷ Code ∷ Id ∷ Id ∷ Register ∷ []
@@ -78,7 +78,7 @@ of_send = First ∷ Send ∷ Id ∷ []
 abbrev pub of_ending : List Column
 of_ending = First ∷ Ending ∷ []
 
--- A line that is asked for may be one of a report: each word may stand in its place, and no word is
+-- A line that is asked for may be one of a report. Each word may stand in its place, and no word is
 -- missing or too many.
 abbrev pub may_be_line : (asked : List (List ℕ)) → Bool
 may_be_line [] = false

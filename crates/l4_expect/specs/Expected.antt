@@ -30,8 +30,8 @@ abbrev pub expected_in : (number : ℕ) → (line : List ℕ) → Expected
 expected_in number line =
     record { number = number; never = is_never line; asked = asked_in line }
 
--- The expectations so far and that of a line, or why the line is faulty. Its words are those of a
--- machine text: an empty line and a comment say nothing.
+-- The expectations so far with that of a line, or why the line is faulty. A line is split into
+-- words as in a machine text, so an empty line and a comment expect nothing.
 
 abbrev pub unless_wrong : (number : ℕ) → Option Wrong → List Expected →
     Result (List Expected) ExpectFault
@@ -54,7 +54,7 @@ abbrev pub after_line : Scope → (number : ℕ) → (line : List ℕ) → (foun
     Result (List Expected) ExpectFault
 after_line scope number line found = after_words scope number line found (line_of line)
 
--- What stands behind the last line end has none, and so is nothing or faulty.
+-- What stands behind the last line end is empty, or a faulty line.
 abbrev pub ended : (number : ℕ) → (last : List ℕ) → (found : List Expected) →
     Result (List Expected) ExpectFault
 ended number last found = if length last == 0 then Ok found else Err (Line number BadLine)
@@ -64,7 +64,7 @@ abbrev pub led_on : Result (List Expected) ExpectFault →
 led_on (Ok found) rest = rest found
 led_on (Err fault) rest = Err fault
 
--- The expectations so far and those of the lines that are left, or the first faulty line.
+-- The expectations so far, with those of the lines that are left, or the first faulty line.
 abbrev pub read : Scope → (parts : List (List ℕ)) → (number : ℕ) → (found : List Expected) →
     Result (List Expected) ExpectFault
 read scope [] number found = Ok found
@@ -77,7 +77,7 @@ read scope (line ∷ next ∷ parts) number found =
 abbrev pub expectations_of : Scope → (text : List ℕ) → Result (List Expected) ExpectFault
 expectations_of scope text = read scope (parts_of text) 1 []
 
--- What each line says, one after another from the line of this number on.
+-- What the lines expect, the first of which has this number.
 
 abbrev pub expected_by : (number : ℕ) → (line : List ℕ) → Judged (Option (List (List ℕ))) →
     List Expected
@@ -89,6 +89,6 @@ expected_from number [] = []
 expected_from number (line ∷ lines) =
     expected_by number line (line_of line) ++ expected_from (number + 1) lines
 
--- The line that says it.
+-- The line of an expectation, written again.
 abbrev pub line_again : Expected → List ℕ
 line_again e = if e.never then codes "never " ++ e.asked else e.asked

@@ -10,14 +10,14 @@ use Rattle.l4_expect.specs.declared.judging.Scope.TheVariants.{OneRun, Endings}
 use Rattle.l4_expect.specs.declared.judging.Wrong.{Wrong}
 use Rattle.l4_expect.specs.declared.judging.Wrong.TheVariants.{BadLine, Unknown, BadWord, Deleted, Number}
 
--- Two dots stand for the words that are left, and so for the last one alone.
+-- `..` stands for all words that are left, so it has to be the last word.
 abbrev pub has_early_rest : (asked : List (List ℕ)) → Bool
 has_early_rest [] = false
 has_early_rest (word ∷ []) = false
 has_early_rest (word ∷ next ∷ words) = is_rest word || has_early_rest (next ∷ words)
 
--- It begins as no line does, or it is none by its words. The registers of a deleted thread and the
--- numbers of sends are those of one run, and not those of all to its ending.
+-- No report has such a line, by its first word or by its words. Runs to one ending may differ in
+-- registers of a deleted thread and in numbers of sends, so endings can't be asked for these.
 abbrev pub wrong_by : Scope → (may_be_line : Bool) → Option LineFault → Option Wrong
 wrong_by scope may_be (Some line_fault.Unknown) = Some Unknown
 wrong_by scope false (Some line_fault.Deleted) = Some BadWord

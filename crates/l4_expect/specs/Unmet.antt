@@ -13,12 +13,12 @@ is_met report e = if e.never then not (has_line e.asked report) else has_line e.
 abbrev pub are_met : (report : List ℕ) → List Expected → Bool
 are_met report expected = list_all (is_met report) expected
 
--- Those that do not hold, in order of the text.
+-- The expectations that do not hold, in order of the text.
 abbrev pub unmet : (report : List ℕ) → List Expected → List Expected
 unmet report expected = filter (λ e. not (is_met report e)) expected
 
--- A line tells of the same as one that is asked for: of that thread or that send, by its first two
--- words, or of the ending.
+-- A line is about the same as one that is asked for: the same thread or send, by the first two
+-- words, or the ending.
 
 abbrev pub fits_next : (asked words : List (List ℕ)) → Bool
 fits_next (a ∷ asked) (word ∷ words) = fits_word a word
@@ -29,8 +29,8 @@ tells_of (a ∷ asked) (word ∷ words) =
     fits_word a word && (bytes_eq word (codes "ending") || fits_next asked words)
 tells_of _ _ = false
 
--- What is found in the place of an expectation: the first line that there must not be, or the first
--- that tells of the same as one that there must be.
+-- What is found in the place of an expectation: the first forbidden line, or the first that is
+-- about the same as a missing line.
 
 abbrev pub is_beside : Expected → (line : List ℕ) → Bool
 is_beside e line =
@@ -58,11 +58,11 @@ unmet_line report e =
 abbrev pub unmet_text : (report : List ℕ) → List Expected → List ℕ
 unmet_text report expected = flat_map (unmet_line report) (unmet report expected)
 
--- What is printed of one expectation, which is nothing where it holds.
+-- What is printed of an expectation that does not hold, or nothing.
 abbrev pub unmet_part : (report : List ℕ) → Expected → List ℕ
 unmet_part report e = if is_met report e then [] else unmet_line report e
 
--- The exit status, where that of the run is this.
+-- The exit status, by that of the run.
 abbrev pub expected_status : (are_met : Bool) → (status : ℕ) → ℕ
 expected_status true status = status
 expected_status false status = 4

@@ -1,4 +1,4 @@
--- What the code keeps, as the definitions have it.
+-- The values of the code, as the definitions have them.
 use Rattle.l4_expect.specs.declared.expectations.Expectation.{Expectation}
 use Rattle.l4_expect.specs.Expected.{Expected}
 

@@ -15,7 +15,7 @@ use l4_words::words::Words;
 /// What a word of a line tells.
 #[derive(Clone, Copy, Debug)]
 pub(crate) enum Column {
-    /// What kind of line it is, which is judged by itself.
+    /// The kind of the line, which is judged separately.
     First,
     /// A thread.
     Thread,
@@ -33,7 +33,7 @@ pub(crate) enum Column {
     Ending,
 }
 
-// The columns that a line has at least.
+// The columns that each line of its kind has.
 const OF_THREAD: &[Column] = &[
     Column::First,
     Column::Thread,
@@ -106,7 +106,7 @@ fn is_of(column: Column, word: &[u8]) -> bool
     }
 }
 
-// Whether a word may stand in a column, where there is one.
+// Whether there is a column, and the word may stand in it.
 fn may_stand(column: Option<Column>, word: &[u8]) -> bool
     ensures { result ≡ may_stand column word.now }
 {
@@ -116,7 +116,7 @@ fn may_stand(column: Option<Column>, word: &[u8]) -> bool
     }
 }
 
-// The first of the columns that are left. Behind them may stand more registers, or nothing.
+// The first of the columns that are left. Behind them come more registers, or nothing.
 fn next_column(has_more: bool, columns: &[Column]) -> Option<Column>
     ensures { result ≡ next_column has_more columns.now }
 {

@@ -118,7 +118,7 @@ impl<'t> Expectations<'t> {
         Ok(expected)
     }
 
-    // Appends what the line of this number expects, where it says something.
+    // Appends the expectation of the line of this number, if the line has one.
     fn read_line(&mut self, scope: Scope, number: usize, line: &'t [u8]) -> Result<(), ExpectFault>
         ensures ok { OnOk result (after_line scope number line.now self.old ≡ Ok self.new) }
         ensures err { IfErr result (λ fault. (fault ≡ OutOfMemory) ⊎
@@ -131,7 +131,7 @@ impl<'t> Expectations<'t> {
         }
     }
 
-    // Appends what the line of this number asks for.
+    // Appends the expectation of this line, unless it is faulty.
     fn push_asked(&mut self, scope: Scope, number: usize, line: &'t [u8]) -> Result<(), ExpectFault>
         ensures ok { OnOk result (after_asked scope number line.now self.old ≡ Ok self.new) }
         ensures err { IfErr result (λ fault. (fault ≡ OutOfMemory) ⊎
@@ -152,16 +152,16 @@ impl<'t> Expectations<'t> {
         Ok(())
     }
 
-    /// Whether all of them hold of a report.
+    /// Whether a report meets all of them.
     pub fn are_met(&self, report: &[u8]) -> bool
         ensures { result ≡ are_met report.now self.now }
     {
         are_met(report, self.items.as_slice())
     }
 
-    /// Appends a line for each that does not hold of a report, in order: its line in the text, what
-    /// was wanted, and what was found. Says whether all hold. Where memory is refused, nothing is
-    /// appended.
+    /// Appends a line for each that a report does not meet, in order: its line in the text, what
+    /// was wanted, and what was found. Returns whether the report meets all. If memory is refused,
+    /// nothing is appended.
     #[tactic(auto, using(crate::proofs::Printing::unmet_parts))]
     pub fn write_unmet(&self, report: &[u8], out: &mut Vec<u8>) -> Result<bool, NoMemory>
         ensures all { IfOk result (λ all. all ≡ are_met report.now self.now) }

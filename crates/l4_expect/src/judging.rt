@@ -29,7 +29,7 @@ pub enum Wrong {
     BadWord,
     /// It asks for more than the state of a deleted thread, in which runs to one ending may differ.
     Deleted,
-    /// It asks for the number of a send, in which they may differ, too.
+    /// It asks for the number of a send, in which runs to one ending may differ too.
     Number,
 }
 
@@ -43,7 +43,7 @@ pub(crate) fn wrong_asked(scope: Scope, asked: &[u8]) -> Option<Wrong>
     wrong_by(scope, may_be_line(asked), fault_of_line(asked))
 }
 
-// What is wrong by its words, and by the judgement of lines that may be asked of endings.
+// What is wrong with a line, by its words, and by its fault as a line that may be asked of endings.
 fn wrong_by(scope: Scope, may_be_line: bool, fault: Option<LineFault>) -> Option<Wrong>
     ensures { result ≡ wrong_by scope may_be_line fault }
 {
@@ -56,7 +56,7 @@ fn wrong_by(scope: Scope, may_be_line: bool, fault: Option<LineFault>) -> Option
     }
 }
 
-// Whether two dots stand before the last word.
+// Whether `..` stands in front of the last word.
 fn has_early_rest(asked: &[u8]) -> bool
     ensures { result ≡ has_early_rest (words_in asked.now) }
 {

@@ -6,7 +6,7 @@ ghost use Rattle.l4_expect.specs.Expected.{line_again};
 ghost use Rattle.l4_expect.specs.declared.judging.Scope.{Scope};
 
 /// A text without a faulty line expects what each of its lines says, in order, and nothing else.
-/// Each such line can be told again from what it expects.
+/// Each such line can be written again from what it expects.
 pub fn law_nothing_is_lost()
     ensures all { (scope : Scope) (text : List ℕ) (expected : List Expected) →
         expectations_of scope text ≡ Ok expected → expected ≡ expected_from 1 (lines_of text) }

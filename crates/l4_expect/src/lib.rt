@@ -1,9 +1,9 @@
 //! What a report is expected to say: lines that it must have, and lines that it must not have.
 //!
 //! A text of expectations has a line for each: the line of a report that is asked for, word by
-//! word, as `l4_lines` reads it. Behind `never` stands a line that the report must not have. Empty
-//! lines, and those that begin with `;`, say nothing. A text has its expectations in order of its
-//! lines, or a first faulty line. `unmet_text` tells those that do not hold, each with what was
+//! word, as `l4_lines` reads it. Behind `never` follows a line that the report must not have. Empty
+//! lines, and those that begin with `;`, expect nothing. A text has its expectations in order of
+//! its lines, or a first faulty line. `unmet_text` tells those that do not hold, each with what was
 //! found in its place.
 //!
 //! ```rust

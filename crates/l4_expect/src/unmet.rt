@@ -56,7 +56,8 @@ fn fits_next(mut asked: Words<'_>, mut words: Words<'_>) -> bool
     fits_word(next, word)
 }
 
-// Whether a line tells of the same thread or send as one that is asked for, or of the ending.
+// Whether a line is about the same thread or send as one that is asked for, or both about the
+// ending.
 fn tells_of(mut asked: Words<'_>, mut words: Words<'_>) -> bool
     ensures { result ≡ tells_of asked.entry words.entry }
 {
@@ -85,7 +86,7 @@ fn is_beside(expected: &Expectation<'_>, line: &[u8]) -> bool
     }
 }
 
-// What a report has in the place of an expectation.
+// What a report has in the place of an expectation that it does not meet.
 fn found_beside<'r>(report: &'r [u8], expected: &Expectation<'_>) -> Option<&'r [u8]>
     ensures { option_copied result ≡ found_beside report.now (expected_of expected.now) }
 {
@@ -137,7 +138,7 @@ fn push_line(lines: &mut Vec<u8>, report: &[u8], expected: &Expectation<'_>) -> 
     Ok(())
 }
 
-// Appends what is printed of an expectation, which is nothing where it holds.
+// Appends what is printed of an expectation that does not hold, or nothing.
 fn push_unless_met(
     lines: &mut Vec<u8>,
     report: &[u8],

@@ -10,15 +10,15 @@ use Rattle.std.proofs.lemmas.Bool.{and_parts, ltb-true}
 use Rattle.std.proofs.lemmas.Bool.Decides.{nat_tests}
 use Rattle.std.proofs.lemmas.Fmt.{digits_is_IsNumeral}
 use Rattle.l4_model.specs.Words.{W64, GlobalId, Id, NilThread, AnyThread, AnyLocalThread, LocalThread, GlobalThread, is_global, has_word_in}
-use Rattle.l4_model.specs.Machine.{What, CancelSend, CancelReceive, CancelBoth, Delete}
-use Rattle.l4_model.specs.World.{Asked}
+use Rattle.l4_model.specs.Machine.{OrderKind, CancelSend, CancelReceive, CancelBoth, Delete}
+use Rattle.l4_model.specs.World.{PendingOrder}
 use Rattle.l4_model.specs.Conditions.{◌>>=◌}
 use Rattle.l4_types.specs.declared.reports.State.{State}
 use Rattle.l4_types.specs.declared.reports.State.TheVariants.{Ready, Sending, Receiving, Ordering, Ended, Deleted}
 use Rattle.l4_types.specs.ReportView.{state_of_view}
 use Rattle.l4_reports.specs.ReportLines.{id_word, state_word}
-use Rattle.l4_trace.specs.Lines.{thread_word, what_word}
-use Rattle.l4_trace.specs.Reading.{what_of_word}
+use Rattle.l4_trace.specs.Lines.{thread_word, order_kind_word}
+use Rattle.l4_trace.specs.Reading.{order_kind_of_word}
 use Rattle.l4_words.specs.Numbers.{number_of}
 use Rattle.l4_words.specs.Threads.{thread_of}
 use Rattle.l4_words.proofs.Above.{above_lower, front_of, back_of}
@@ -86,27 +86,27 @@ id_is_read (GlobalThread t) h =
 
 -- Orders
 
-pub what_is_read : (what : What) → what_of_word (what_word what) ≡ Some what
+pub what_is_read : (what : OrderKind) → order_kind_of_word (order_kind_word what) ≡ Some what
 what_is_read CancelSend = refl
 what_is_read CancelReceive = refl
 what_is_read CancelBoth = refl
 what_is_read Delete = refl
 
-abbrev order_between : (target what : List ℕ) → Option Asked
+abbrev order_between : (target what : List ℕ) → Option PendingOrder
 order_between first second = do
   target ← thread_of first
-  what ← what_of_word second
+  what ← order_kind_of_word second
   Some (record { target = target; what = what })
 
-abbrev pub order_read : List ℕ → Option Asked
+abbrev pub order_read : List ℕ → Option PendingOrder
 order_read words = order_between (before_first (λ x. x == 32) words) (after_first (λ x. x == 32) words)
 
-pub order_is_read : (order : Asked) → is_global order.target ≡ true → order_read (thread_word order.target ++ codes " " ++ what_word order.what) ≡ Some order
+pub order_is_read : (order : PendingOrder) → is_global order.target ≡ true → order_read (thread_word order.target ++ codes " " ++ order_kind_word order.what) ≡ Some order
 order_is_read order h =
     let above = above_lower 32 35 (omega arith) (thread_word order.target) (thread_is_above order.target h) in
     rw (
-      front_of 32 (thread_word order.target) (what_word order.what) above,
-      back_of 32 (thread_word order.target) (what_word order.what) above,
+      front_of 32 (thread_word order.target) (order_kind_word order.what) above,
+      back_of 32 (thread_word order.target) (order_kind_word order.what) above,
       thread_is_read order.target h,
       what_is_read order.what,
     ) refl

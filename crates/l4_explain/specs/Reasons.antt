@@ -4,7 +4,7 @@ use Rattle.l4_model.specs.Words.{W64, is_global, has_word_in}
 use Rattle.l4_audit.specs.declared.reasons.Reason.{Reason}
 use Rattle.l4_audit.specs.declared.reasons.Reason.TheVariants.{Undeclared, NotReady, NotLocal, NotNext, NoSendPhase, NoReceivePhase, NoOrder, OtherOrder, NotUndecided, NoReceiver, ReceiverDeleted, Waiting, NotWaiting, MustWait, NotReceiving, AcceptsNone, NotFirst, OtherReceiver, OtherShown, OtherSender, OtherTag, OtherWords, NotTimedOut, HasDestination, SendNotCancelled, SenderNotDeleted, ReceiveNotPassed, HasPartner, AcceptsFirst, ReceiveNotCancelled, AskedNothing, TargetUndeclared, NoProcessor, ClockAt, PastClocks, NotOwed, OriginatorUndeclared}
 use Rattle.l4_reports.specs.ReportLines.{id_word, state_word}
-use Rattle.l4_trace.specs.Lines.{hexadecimal, is_word, thread_word, what_word}
+use Rattle.l4_trace.specs.Lines.{hexadecimal, is_word, thread_word, order_kind_word}
 use Rattle.l4_types.specs.ReportView.{state_of_view}
 use Rattle.l4_explain.specs.declared.reasons.Value.{Value}
 use Rattle.l4_explain.specs.declared.reasons.Value.TheVariants.{Nothing, State, Thread, Id, Number, Word, Order}
@@ -59,7 +59,7 @@ value_text (Id id) = codes " " ++ id_word id
 value_text (Number number) = codes " " ++ decimal number
 value_text (Word word) = codes " " ++ hexadecimal word
 value_text (Order order) =
-    codes " " ++ thread_word order.target ++ codes " " ++ what_word order.what
+    codes " " ++ thread_word order.target ++ codes " " ++ order_kind_word order.what
 
 abbrev pub line_of_sentence : List ℕ × Value → List ℕ
 line_of_sentence s = codes "because " ++ s.0 ++ value_text s.1 ++ codes "\n"

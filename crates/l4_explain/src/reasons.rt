@@ -5,16 +5,16 @@ ghost use Rattle.l4_audit.specs.declared.reasons.Reason.{Reason as Told};
 ghost use Rattle.l4_explain.specs.Reasons.{has_word, reason_text, sentence, value_text};
 ghost use Rattle.l4_explain.specs.declared.reasons.Value.TheVariants.{Order};
 ghost use Rattle.l4_reports.specs.ReportLines.{id_word, state_word};
-ghost use Rattle.l4_trace.specs.Lines.{what_word};
+ghost use Rattle.l4_trace.specs.Lines.{order_kind_word};
 ghost use Rattle.l4_types.specs.ReportView.{state_of_view};
-ghost use Rattle.l4_types.specs.StepView.{what_of};
+ghost use Rattle.l4_types.specs.StepView.{order_kind_of};
 
 use l4_audit::reasons::Reason;
-use l4_thread::orders::Asked;
+use l4_thread::orders::PendingOrder;
 use l4_types::errors::NoMemory;
 use l4_types::ids::{GlobalId, Kind, ThreadId};
 use l4_types::reports::State;
-use l4_types::steps::What;
+use l4_types::steps::OrderKind;
 use l4_words::spelling::{push_numbers, push_thread, push_word};
 use std::alloc::AllocError;
 
@@ -27,7 +27,7 @@ pub(crate) enum Value {
     Id(ThreadId),
     Number(u64),
     Word(u64),
-    Order(Asked),
+    Order(PendingOrder),
 }
 
 /// Appends the line of a reason. If memory is refused, nothing is appended.
@@ -174,23 +174,23 @@ fn push_id(text: &mut String, id: ThreadId) -> Result<(), AllocError>
     }
 }
 
-fn push_order(text: &mut String, asked: &Asked) -> Result<(), AllocError>
+fn push_order(text: &mut String, asked: &PendingOrder) -> Result<(), AllocError>
     ensures { OnOk result (string_bytes text.new ≡
         string_bytes text.old ++ value_text (Order asked.now)) }
 {
     push_thread(text, asked.target())?;
-    push_what(text, asked.what())
+    push_order_kind(text, asked.what())
 }
 
-fn push_what(text: &mut String, what: What) -> Result<(), AllocError>
+fn push_order_kind(text: &mut String, what: OrderKind) -> Result<(), AllocError>
     ensures { OnOk result (string_bytes text.new ≡
-        string_bytes text.old ++ codes " " ++ what_word (what_of what)) }
+        string_bytes text.old ++ codes " " ++ order_kind_word (order_kind_of what)) }
 {
     match what {
-        What::CancelSend => text.push_str(" S"),
-        What::CancelReceive => text.push_str(" R"),
-        What::CancelBoth => text.push_str(" SR"),
-        What::Delete => text.push_str(" delete"),
+        OrderKind::CancelSend => text.push_str(" S"),
+        OrderKind::CancelReceive => text.push_str(" R"),
+        OrderKind::CancelBoth => text.push_str(" SR"),
+        OrderKind::Delete => text.push_str(" delete"),
     }
 }
 

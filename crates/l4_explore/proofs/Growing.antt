@@ -1,22 +1,25 @@
 -- The tree of what was found, and the list that it shows.
-use Rattle.std.proofs.Common.{◌≡◌, ℕ, zero, suc, ◌+◌, ◌<◌, Bool, true, false, cond, ◌||◌, ◌⊎◌, inl, inr, List, [], ◌∷◌, ◌++◌, map, length, get_or, slice_get, Option, None, Some, is_some, option_map, refl, sym, ap, subst, ◌∙◌, arith, append_assoc, Vec, Global}
-use Rattle.std.specs.List.{list_any}
-use Rattle.std.specs.Map.{lookup}
+use Rattle.std.proofs.Common.{◌≡◌, ℕ, zero, suc, ◌+◌, ◌<◌, Bool, true, false, ◌⊎◌, inl, inr, List, [], ◌∷◌, ◌++◌, map, length, get_or, Some, refl, sym, ap, subst, ◌∙◌, arith, append_assoc}
+use Rattle.std.specs.List.{zip}
 use Rattle.std.specs.Str.{bytes_eq}
 use Rattle.std.proofs.Math.ListN.{length-append, get_or-map, get_or-append}
 use Rattle.std.proofs.Math.Seq.{get_or-append_seam}
-use Rattle.std.proofs.lemmas.Option.{get_or_from_slice_get, slice_get-map, slice_get_within}
+use Rattle.std.proofs.lemmas.List.Folds.{list_any_at}
+use Rattle.std.proofs.lemmas.Slice.Eq.{bytes_eq-Decides}
+use Rattle.std.proofs.lemmas.Slice.Zip.{get_or-zip, length-zip}
 use Rattle.std.proofs.lemmas.List.{map-append, length-map}
 use Rattle.l4_explore.specs.Tries.{State}
 use Rattle.l4_explore.specs.Search.{Seen, seen_at, unseen, has_code}
 use Rattle.l4_explore.specs.Grown.{Node, node_at, no_node, grown, all_grown, seen_of, AreNodes}
-use Rattle.l4_explore.specs.Views.{node_from, nodes_from, IsArrived}
+use Rattle.l4_explore.specs.Views.{node_from, nodes_from, AreArrivals, IsArrived}
+use Rattle.l4_explore.specs.Codes.{code_at}
 use Rattle.l4_explore.specs.declared.found.Arrival.{Arrival}
-use Rattle.l4_explore.proofs.Listed.{seen_at-old, seen_at-new}
+use Rattle.l4_explore.proofs.Listed.{seen_at-old, seen_at-new, place_of_code}
 use Rattle.l4_explore.proofs.Trying.{below_or_last}
 
-abbrev Bytes : Type 0
-Bytes = Vec ℕ Global
+-- What arrivals give past their end.
+abbrev pub no_arrival : Arrival
+no_arrival = record { from = 0; entry = 0; is_end = false }
 
 -- A state is shown for each.
 length-all_grown : (seen : List Seen) (ns : List Node) →
@@ -118,78 +121,79 @@ state_at ns i =
     ∙ get_or-map (λ (n : Node). n.state) ns i no_node
 
 -- What is kept of each
-module _ (es : List (Bytes × Arrival)) (i : ℕ) (k : Bytes) (a : Arrival)
-    (at : slice_get es i ≡ Some (k, a)) where
-  node_there : node_at (nodes_from es) i ≡ node_from (k, a)
-  node_there =
-      get_or_from_slice_get (nodes_from es) i (node_from (k, a)) no_node
-      (slice_get-map node_from es i ∙ ap (option_map node_from) at)
+module _ (codes : List (List ℕ)) (arrivals : List Arrival) (are : AreArrivals codes arrivals) where
+  pub length-nodes : length (nodes_from codes arrivals) ≡ length codes
+  length-nodes =
+      length-map (zip codes arrivals) node_from ∙ length-zip codes arrivals
+      ∙ omega (arith, are.each)
 
-  pub is_end_there : a.is_end ≡ (seen_at (seen_of (nodes_from es)) i).state.is_end
-  is_end_there = ap (λ (n : Node). n.state.is_end) (sym node_there)
-      ∙ ap (λ (s : State). s.is_end) (sym (state_at (nodes_from es) i))
+  pub length-seen : length (seen_of (nodes_from codes arrivals)) ≡ length codes
+  length-seen = length-seen_of (nodes_from codes arrivals) ∙ length-nodes
 
-  pub arrived : AreNodes (nodes_from es) → 0 < i → IsArrived (seen_of (nodes_from es)) i (Some a)
-  arrived are some = by i some at node_there
-    where
-      by : (i : ℕ) → 0 < i → slice_get es i ≡ Some (k, a) →
-          node_at (nodes_from es) i ≡ node_from (k, a) →
-          IsArrived (seen_of (nodes_from es)) i (Some a)
-      by zero some at there = absurd (omega arith)
-      by (suc j) some at there =
-          let ns : List Node = nodes_from es in
-          let e : j + 1 ≡ suc j = omega arith in
-          let here : node_at ns (j + 1) ≡ node_from (k, a) = ap (node_at ns) e ∙ there in
-          let within = slice_get_within es (suc j) (k, a) at in
-          let long = length-map es node_from in
-          let earlier = are.earlier j (omega arith) in
-          let grows = seen_of-at ns j are (omega arith) in
-          let from : a.from < suc j = omega (arith, earlier, ap (λ (n : Node). n.from) here) in (
-            from,
-            ap (λ i. (seen_at (seen_of ns) i).schedule) (sym e)
-                ∙ ap (λ (s : Seen). s.schedule) grows
-                ∙ ap (λ (n : Node). (seen_at (seen_of ns) n.from).schedule ++ n.entry ∷ []) here,
-          )
+  module _ (i : ℕ) (l : i < length codes) where
+    node_there : node_at (nodes_from codes arrivals) i
+        ≡ node_from (code_at codes i, get_or arrivals i no_arrival)
+    node_there =
+        get_or-map node_from (zip codes arrivals) i ([], no_arrival)
+        ∙ ap node_from
+        (get_or-zip codes arrivals i ([], no_arrival) l (omega (arith, l, are.each)))
 
--- So a code is a key of the map exactly where a state has it.
-any_of_map : {X Y : Type 0} (p : Y → Bool) (g : X → Y) (xs : List X) →
-    list_any p (map g xs) ≡ list_any (λ x. p (g x)) xs
-any_of_map p g [] = refl
-any_of_map p g (x ∷ xs) = ap (λ b. p (g x) || b) (any_of_map p g xs)
+    pub code_there : (seen_at (seen_of (nodes_from codes arrivals)) i).state.code ≡ code_at codes i
+    code_there = ap (λ (s : State). s.code) (state_at (nodes_from codes arrivals) i)
+        ∙ ap (λ (n : Node). n.state.code) node_there
 
-module _ (code : List ℕ) where
-  abbrev has : State → Bool
-  has s = bytes_eq code s.code
+    module _ (a : Arrival) (at : a ≡ get_or arrivals i no_arrival) where
+      node_here : node_at (nodes_from codes arrivals) i ≡ node_from (code_at codes i, a)
+      node_here = node_there ∙ ap (λ (b : Arrival). node_from (code_at codes i, b)) (sym at)
 
-  found_key : (es : List (Bytes × Arrival)) →
-      is_some (lookup (λ k. bytes_eq code k.items) es) ≡ list_any (λ n. has n.state) (nodes_from es)
-  found_key [] = refl
-  found_key (e ∷ es) = pick (bytes_eq code e.0.items) e.1 es (found_key es)
-    where
-      pick : (b : Bool) (v : Arrival) (es : List (Bytes × Arrival)) →
-          is_some (lookup (λ k. bytes_eq code k.items) es)
-          ≡ list_any (λ n. has n.state) (nodes_from es) →
-          is_some (cond b (Some v) (lookup (λ k. bytes_eq code k.items) es))
-          ≡ (b || list_any (λ n. has n.state) (nodes_from es))
-      pick true v es h = refl
-      pick false v es h = h
+      pub is_end_there : a.is_end
+          ≡ (seen_at (seen_of (nodes_from codes arrivals)) i).state.is_end
+      is_end_there = ap (λ (n : Node). n.state.is_end) (sym node_here)
+          ∙ ap (λ (s : State). s.is_end) (sym (state_at (nodes_from codes arrivals) i))
 
-  pub has_key : (es : List (Bytes × Arrival)) →
-      is_some (lookup (λ k. bytes_eq code k.items) es) ≡ has_code (seen_of (nodes_from es)) code
-  has_key es =
-      found_key es
-      ∙ sym (any_of_map has (λ (n : Node). n.state) (nodes_from es))
-      ∙ ap (list_any has) (sym (seen_of-state (nodes_from es)))
-      ∙ any_of_map has (λ (s : Seen). s.state) (seen_of (nodes_from es))
+      pub arrived : 0 < i → IsArrived (seen_of (nodes_from codes arrivals)) i (Some a)
+      arrived some = by i some l node_here
+        where
+          ns : List Node
+          ns = nodes_from codes arrivals
 
-  none_from_is_some : {A : Type 0} (o : Option A) → is_some o ≡ false → o ≡ None
-  none_from_is_some None h = refl
-  none_from_is_some (Some x) h = cc
+          by : (i : ℕ) → 0 < i → i < length codes → node_at ns i ≡ node_from (code_at codes i, a) →
+              IsArrived (seen_of ns) i (Some a)
+          by zero some l here = absurd (omega arith)
+          by (suc j) some l here =
+              let e : j + 1 ≡ suc j = omega arith in
+              let there : node_at ns (j + 1) ≡ node_from (code_at codes (suc j), a) =
+              ap (node_at ns) e ∙ here in
+              let earlier = are.nodes.earlier j (omega (arith, l, length-nodes)) in
+              let grows = seen_of-at ns j are.nodes (omega (arith, l, length-nodes)) in
+              let from : a.from < suc j =
+              omega (arith, earlier, ap (λ (n : Node). n.from) there) in (
+                from,
+                ap (λ i. (seen_at (seen_of ns) i).schedule) (sym e)
+                    ∙ ap (λ (s : Seen). s.schedule) grows
+                    ∙ ap (λ (n : Node). (seen_at (seen_of ns) n.from).schedule ++ n.entry ∷ []) there,
+              )
 
-  -- A code of none of them is no key.
-  pub absent : (es : List (Bytes × Arrival)) → has_code (seen_of (nodes_from es)) code ≡ false →
-      lookup (λ k. bytes_eq code k.items) es ≡ None
-  absent es h = none_from_is_some _ (has_key es ∙ h)
+  -- So a code that is found is that of a state, and one that is not is that of none.
+  module _ (code : List ℕ) where
+    pub has_found : (place : ℕ) → place < length codes → code_at codes place ≡ code →
+        has_code (seen_of (nodes_from codes arrivals)) code ≡ true
+    has_found place l e =
+        list_any_at (λ s. bytes_eq code s.state.code) (seen_of (nodes_from codes arrivals)) place
+        unseen (omega (arith, l, length-seen))
+        ((bytes_eq-Decides code (seen_at (seen_of (nodes_from codes arrivals)) place).state.code).1
+        (sym (code_there place l ∙ e)))
+
+    pub has_none : ((place : ℕ) → place < length codes → code_at codes place ≡ code → ⊥) →
+        has_code (seen_of (nodes_from codes arrivals)) code ≡ false
+    has_none none = by (has_code (seen_of (nodes_from codes arrivals)) code) refl
+      where
+        by : (b : Bool) → has_code (seen_of (nodes_from codes arrivals)) code ≡ b → b ≡ false
+        by false e = refl
+        by true e =
+            let p = place_of_code (seen_of (nodes_from codes arrivals)) code e in
+            let l : p.place < length codes = omega (arith, p.inside, length-seen) in
+            absurd (none p.place l (sym (code_there p.place l) ∙ p.is))
 
 -- One more
 
@@ -214,16 +218,33 @@ nodes_more ns n are from = record {
         ∙ get_or-append_seam ns n [] no_node in
         omega (arith, is, from, ap (λ (k : Node). k.from) e)
 
-module _ (es more : List (Bytes × Arrival)) (k : Bytes) (a : Arrival)
-    (is : more ≡ es ++ (k, a) ∷ []) (are : AreNodes (nodes_from es)) where
-  pub nodes_added : a.from < length (seen_of (nodes_from es)) → AreNodes (nodes_from more)
-  nodes_added from =
-      subst (λ ns. AreNodes ns) (sym (ap nodes_from is ∙ map-append node_from es ((k, a) ∷ [])))
-      (nodes_more (nodes_from es) (node_from (k, a)) are
-      (omega (arith, from, length-seen_of (nodes_from es))))
+zip_more : {A B : Type 0} (xs : List A) (ys : List B) (x : A) (y : B) → length ys ≡ length xs →
+    zip (xs ++ x ∷ []) (ys ++ y ∷ []) ≡ zip xs ys ++ (x, y) ∷ []
+zip_more [] [] x y e = refl
+zip_more [] (b ∷ ys) x y e = absurd (omega (arith, e))
+zip_more (a ∷ xs) [] x y e = absurd (omega (arith, e))
+zip_more (a ∷ xs) (b ∷ ys) x y e =
+    ap (λ ps. (a, b) ∷ ps) (zip_more xs ys x y (let f : length ys ≡ length xs = omega (arith, e) in f))
 
-  pub seen_added : seen_of (nodes_from more) ≡ seen_of (nodes_from es)
-      ++ grown (seen_of (nodes_from es)) (node_from (k, a)) ∷ []
-  seen_added =
-      ap (λ xs. seen_of (nodes_from xs)) is ∙ ap seen_of (map-append node_from es ((k, a) ∷ []))
-      ∙ seen_of-more (nodes_from es) (node_from (k, a)) are.some
+module _ (codes : List (List ℕ)) (arrivals : List Arrival) (code : List ℕ) (a : Arrival)
+    (are : AreArrivals codes arrivals) where
+  nodes_are : nodes_from (codes ++ code ∷ []) (arrivals ++ a ∷ [])
+      ≡ nodes_from codes arrivals ++ node_from (code, a) ∷ []
+  nodes_are = ap (map node_from) (zip_more codes arrivals code a are.each)
+      ∙ map-append node_from (zip codes arrivals) ((code, a) ∷ [])
+
+  pub arrivals_more : a.from < length (seen_of (nodes_from codes arrivals)) →
+      AreArrivals (codes ++ code ∷ []) (arrivals ++ a ∷ [])
+  arrivals_more from = record {
+    each = length-append arrivals (a ∷ []) ∙ omega (arith, are.each)
+        ∙ sym (length-append codes (code ∷ []));
+    nodes = subst (λ ns. AreNodes ns) (sym nodes_are)
+        (nodes_more (nodes_from codes arrivals) (node_from (code, a)) are.nodes
+        (omega (arith, from, length-seen_of (nodes_from codes arrivals))));
+  }
+
+  pub seen_more : seen_of (nodes_from (codes ++ code ∷ []) (arrivals ++ a ∷ []))
+      ≡ seen_of (nodes_from codes arrivals)
+      ++ grown (seen_of (nodes_from codes arrivals)) (node_from (code, a)) ∷ []
+  seen_more = ap seen_of nodes_are
+      ∙ seen_of-more (nodes_from codes arrivals) (node_from (code, a)) are.nodes.some

@@ -3,3 +3,5 @@ mod Listed
 mod Trying
 mod Covering
 mod Growing
+mod Ends
+mod Chains

@@ -3,8 +3,8 @@ ghost use Rattle.std.specs.Prelude.{◌≡◌, ◌<◌, ◌++◌, ◌∷◌, ◌
 ghost use Rattle.l4_explore.specs.Search.{has_code, seen_at, seen_next};
 ghost use Rattle.l4_explore.specs.Views.{IsArrived, state_from};
 
+use crate::table::CodeTable;
 use crate::tries::Reached;
-use indexmap::IndexMap;
 use std::alloc::{AllocError, Global};
 use std::marker::Model;
 
@@ -12,7 +12,9 @@ use std::marker::Model;
 /// schedule that it was found by.
 #[derive(Drop)]
 pub struct Found {
-    states: IndexMap<Vec<u8>, Arrival>,
+    codes: CodeTable,
+    // How each of them was found.
+    arrivals: Vec<Arrival>,
 }
 
 // How a state was found: from the state at a place, by one more entry. The first state is that of
@@ -27,14 +29,14 @@ struct Arrival {
 impl Model for Found {
     ghost use Rattle.std.specs.Prelude.{List};
     ghost use Rattle.l4_explore.specs.Search.{Seen};
-    ghost use Rattle.l4_explore.specs.Grown.{seen_of, AreNodes};
-    ghost use Rattle.l4_explore.specs.Views.{nodes_from};
+    ghost use Rattle.l4_explore.specs.Grown.{seen_of};
+    ghost use Rattle.l4_explore.specs.Views.{nodes_from, AreArrivals};
 
     ghost Value = { List Seen };
 
-    ghost view = { λ f. seen_of (nodes_from f.states.entries) };
+    ghost view = { λ f. seen_of (nodes_from f.codes f.arrivals.items) };
 
-    ghost invariant = { λ f. AreNodes (nodes_from f.states.entries) };
+    ghost invariant = { λ f. AreArrivals f.codes f.arrivals.items };
 }
 
 impl Found {
@@ -50,9 +52,9 @@ impl Found {
             entry: 0,
             is_end: opening.is_end,
         };
-        let mut states = IndexMap::new(alloc);
-        states.insert(opening.code, arrival)?;
-        Ok(Found { states })
+        let codes = CodeTable::new(alloc, &opening.code)?;
+        let arrivals = vec![in alloc; arrival]?;
+        Ok(Found { codes, arrivals })
     }
 
     /// The number of found states, at least one.
@@ -60,7 +62,7 @@ impl Found {
         ensures value { result ≡ length self.now }
         ensures some { 0 < result }
     {
-        self.states.len()
+        self.codes.len()
     }
 
     /// Whether nothing is left to do in the state at a place.
@@ -104,17 +106,14 @@ impl Found {
         ensures first { IsArrived self.now 0 None }
         ensures later { 0 < place → IsArrived self.now place (Some result) }
     {
-        match self.states.get_index(place) {
-            Some((_, arrival)) => *arrival,
-            None => unreachable!(),
-        }
+        self.arrivals[place]
     }
 
     /// Whether a state with this code was found.
-    pub(crate) fn has(&self, code: &Vec<u8>) -> bool
-        ensures { result ≡ has_code self.now code.now.items }
+    pub(crate) fn has(&self, code: &[u8]) -> bool
+        ensures { result ≡ has_code self.now code.now }
     {
-        self.states.contains_key(code)
+        self.codes.find(code).is_some()
     }
 
     /// Adds a state, found by one more entry from the state at place `from`.
@@ -141,7 +140,9 @@ impl Found {
             entry,
             is_end: reached.is_end,
         };
-        self.states.insert(reached.code, arrival)?;
+        self.arrivals.reserve(1)?;
+        self.codes.push(&reached.code)?;
+        self.arrivals.push_reserved(arrival);
         Ok(())
     }
 }

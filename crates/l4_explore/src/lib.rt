@@ -10,7 +10,9 @@
 //! ```
 #![tactic(auto)]
 
+mod codes;
 pub mod found;
 pub mod progress;
 pub mod search;
+mod table;
 pub mod tries;

@@ -1,5 +1,7 @@
 //! The history of a machine.
 ghost use Rattle.std.specs.Prelude.{◌≡◌, ◌<◌, ◌≤◌, ◌-◌, ◌^◌, [], ◌∷◌, ◌++◌, ◌↔◌, All, OnOk, OnErr, IfOk, IfSome, Some, None, IsTrue, length, map, take, drop, slice_get};
+ghost use Rattle.std.specs.Prelude.{◌+◌, vec_len};
+ghost use Rattle.std.specs.Vec.{vec_capacity};
 ghost use Rattle.l4_model.specs.History.{begun_name};
 ghost use Rattle.l4_types.specs.StepView.{delivered, delivery_in, seen, step_of};
 ghost use Rattle.l4_history.specs.Rows.{HasMore, IsHead, IsHeadOf, delivery_at, step_at};
@@ -100,6 +102,7 @@ impl History {
 
     /// Makes room for the steps of an event, each of which may be a delivery of 63 words. Where
     /// memory is refused, nothing is changed.
+    #[inline(always)]
     pub fn reserve(&mut self) -> Result<(), NoMemory>
         ensures steps { self.new.steps ≡ self.old.steps }
         ensures room { self.old.room ≤ self.new.room }
@@ -107,11 +110,24 @@ impl History {
         ensures err { OnErr result (self.new ≡ self.old) }
     {
         if self.room < EVENT_STEPS {
-            self.records.reserve(CHUNK_STEPS)?;
-            self.heads.reserve(CHUNK_STEPS)?;
-            self.words.reserve(CHUNK_STEPS * MOST_WORDS)?;
-            self.room = CHUNK_STEPS;
+            self.grow()
+        } else {
+            Ok(())
         }
+    }
+
+    // Makes room for many steps at once. Where memory is refused, nothing is changed.
+    #[inline(never)]
+    fn grow(&mut self) -> Result<(), NoMemory>
+        requires { self.old.room < EVENT_STEPS }
+        ensures steps { self.new.steps ≡ self.old.steps }
+        ensures ok { OnOk result (self.new.room ≡ CHUNK_STEPS) }
+        ensures err { OnErr result (self.new ≡ self.old) }
+    {
+        self.records.reserve(CHUNK_STEPS)?;
+        self.heads.reserve(CHUNK_STEPS)?;
+        self.words.reserve(CHUNK_STEPS * MOST_WORDS)?;
+        self.room = CHUNK_STEPS;
         Ok(())
     }
 
@@ -158,9 +174,7 @@ impl History {
         self.records
             .push_reserved(Record::Deliver(self.heads.len()));
         self.heads.push_reserved(head(delivery, self.words.len()));
-        self.words
-            .extend_from_slice(delivery.message.words())
-            .unwrap();
+        append(&mut self.words, delivery.message.words());
         self.room -= 1;
     }
 
@@ -242,6 +256,18 @@ impl History {
             Ok(at) => Step::Deliver(delivery(&self.heads, &self.words, *at)),
             Err(step) => step,
         }
+    }
+}
+
+// Appends words, for which there is room. Mostly a message has none.
+#[inline(always)]
+fn append(words: &mut Vec<u64>, more: &[u64])
+    requires { vec_len words.old + length more.now ≤ vec_capacity words.old }
+    ensures items { words.new.items ≡ words.old.items ++ more.now }
+    ensures capacity { vec_capacity words.old ≤ vec_capacity words.new }
+{
+    if !more.is_empty() {
+        words.extend_from_slice(more).unwrap();
     }
 }
 

@@ -47,6 +47,7 @@ impl Sink for History {
         History::len(self)
     }
 
+    #[inline(always)]
     fn reserve(&mut self) -> Result<(), NoMemory> {
         History::reserve(self)
     }

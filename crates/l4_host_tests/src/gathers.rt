@@ -137,7 +137,7 @@ pub(crate) fn has(alloc: Global, outcome: &Outcome, lines: &str, report: &str, t
 }
 
 // Whether the outcome of the processors of a text has this trace, this report and this many turns.
-fn come_to<R: AllocGlobal + Print>(
+fn gathers_to<R: AllocGlobal + Print>(
     rt: &R,
     text: &str,
     room: usize,
@@ -160,7 +160,7 @@ fn two_logs_make_one_history(rt: HostRuntime) {
         "local 1.1\nwait 2.1\nlocal 1.1\nbegin 1.1#1\nqueue 1.1#1\ndeliver 1.1#1 2.1 1.1 1.1 74001 a\nlocal 2.1\nlocal 1.1\n";
     let report =
         "thread 1.1 ended 0 nil nil 0 a\nthread 2.1 ended 0 1.1 1.1 74001 a\nending quiet\n";
-    assert!(rt; come_to(&rt, ACROSS, 64, &shares, (lines, report, 8)) == Some(true));
+    assert!(rt; gathers_to(&rt, ACROSS, 64, &shares, (lines, report, 8)) == Some(true));
 }
 
 // The ring between the two processors has room for one letter: the others wait in the outbox. Two
@@ -172,7 +172,7 @@ fn full_rings_hold_nothing_back(rt: HostRuntime) {
     let report =
         "thread 1.1 ready 0 nil nil 0\nthread 2.1 sending 0 nil nil 0\nthread 3.1 sending 0 nil nil 0\nthread 4.1 ready 0 1.1 1.1 4000\nwaiting 2.1#1 4.1\nwaiting 3.1#1 4.1\nending spent\n";
     let shares = [(0, 3), (1, 3)];
-    assert!(rt; come_to(&rt, QUEUED, 1, &shares, (lines, report, 6)) == Some(true));
+    assert!(rt; gathers_to(&rt, QUEUED, 1, &shares, (lines, report, 6)) == Some(true));
 }
 
 // Whether these are two processors in their order, of which each has taken two turns.

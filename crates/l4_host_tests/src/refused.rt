@@ -823,7 +823,8 @@ fn texts_are_linted(rt: HostRuntime) {
     let faulty = "l4 1 64\ncpus 1\nthread 1.1 cpu 0 space 1\nset 64 10\nend\n";
     let fault = "line 4 column 5: BadNumber: `64`: wanted: a register, 1 to 63\n";
     let doubtful = "l4 1 64\ncpus 1\nthread 1.1 cpu 0 space 1\nipc 3.1 nil never never\n";
-    let doubt = "line 4 column 5: perhaps: `3.1`: no thread has this id\n";
+    let doubt =
+        "line 4 column 5: always: `3.1`: no thread has this id; nothing reaches it or comes from it\n";
     let item = "schedule item 2: `2`: wanted: a processor, below the number of the cpus line\n";
     for (text, schedule, status, wanted) in [
         (faulty, None, 1, fault),

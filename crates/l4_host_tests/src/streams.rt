@@ -122,7 +122,7 @@ const READS: [(Given, Wanted); 11] = [
 ];
 
 // Whether what is given has the outcome that is wanted.
-fn come_to<R: AllocGlobal + Threads + Sync>(rt: &R, given: Given, wanted: Wanted) -> bool {
+fn has_outcome<R: AllocGlobal + Threads + Sync>(rt: &R, given: Given, wanted: Wanted) -> bool {
     let (words, text, fails, told) = given;
     let (status, output, line) = wanted;
     let mut machine = Source {
@@ -142,7 +142,7 @@ fn come_to<R: AllocGlobal + Threads + Sync>(rt: &R, given: Given, wanted: Wanted
 #[test]
 fn a_read_that_fails_is_reported(rt: HostRuntime) {
     for (number, (given, wanted)) in READS.iter().enumerate() {
-        assert!(rt; come_to(&rt, *given, *wanted), "row {number}");
+        assert!(rt; has_outcome(&rt, *given, *wanted), "row {number}");
     }
 }
 

@@ -64,7 +64,7 @@ line_faulty m text ahead a told f j is faulty from =
     ap (fault_of_steps m) (stopped (start text) ahead j.steps 1 j.read faulty) ∙ ap (λ n. Some (fault.Trace (n + 1))) (sym (counted m text ahead a j))
     ∙ ap Some (sym (from ∙ ap fault_of_reading is))
 
--- A step that is refused is the first one, whatever follows.
+-- A refused step is the first that is not possible, whatever follows it.
 refused_here : (m : Machine) (h : List Step) (step : Step) (more : List Step) (v w : World)
     (place : ℕ) →
     run m v h ≡ Some w → next m w step ≡ None →

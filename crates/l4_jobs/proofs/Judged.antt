@@ -1,4 +1,4 @@
--- What an audit tells of steps, as what it shows of a trace.
+-- From what an audit tells of steps to what it shows of a trace.
 use Rattle.std.proofs.Common.{◌≡◌, ℕ, Bool, true, Option, Some, None, Ok, List, [], ◌++◌, length, sym, ap, subst, ◌∙◌}
 use Rattle.std.specs.Prelude.{◌↔◌, filter_map, if◌then◌else◌}
 use Rattle.l4_model.specs.History.{IsHistory, reached, refused_place, view, waiting}

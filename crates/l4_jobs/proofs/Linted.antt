@@ -1,4 +1,4 @@
--- What is said of a machine text.
+-- The lint of a machine text.
 use Rattle.std.proofs.Common.{◌≡◌, ℕ, Bool, Option, None, Result, Ok, Err, List, [], ◌∷◌, ◌++◌, Bor, refl, ap, ap₂, sym, subst, inl, inr, ◌∙◌, arith}
 use Rattle.std.specs.Prelude.{◌⊎◌, IfSome}
 use Rattle.std.specs.declared.io.ErrorKind.{ErrorKind}
@@ -27,7 +27,7 @@ Gives = Result (List ℕ) ErrorKind → Type 0
 abbrev Takes : Type 1
 Takes = List ℕ → Bool → Type 0
 
--- What is said of what was read is said of the text.
+-- The lint of what was read is the lint of the text.
 pub said_of : (gives : Gives) (read slice lines : List ℕ) (status : ℕ) → (all : List ℕ) × gives (Ok all) × IsReadAs read all → slice ≡ read →
     lines ≡ lint_text slice → status ≡ status_of (faults_of slice) → (text : List ℕ) × gives (Ok text) × IsLintOf text lines status
 said_of gives read slice lines status (all, given, same) is told ended =
@@ -35,7 +35,7 @@ said_of gives read slice lines status (all, given, same) is told ended =
     let doubts : doubts_of slice ≡ doubts_of all = ap doubts_of is ∙ same.doubts in
     (all, given, (told ∙ ap₂ (λ f d. faults_text f ++ doubts_text d) faults doubts, ended ∙ ap status_of faults))
 
--- Where nothing is wrong the text declares a machine.
+-- Where the status is 0, the text has no fault.
 none_wrong : (found : List LintFault) → status_of found ≡ 0 → found ≡ []
 none_wrong [] e = refl
 none_wrong (f ∷ others) e = absurd (let bad : 1 ≡ 0 = e in omega (arith, bad))
@@ -64,7 +64,7 @@ pub declares_right : (text : List ℕ) (status : ℕ) → status ≡ status_of (
 declares_right text status ended zero =
     declared (machine_of_text text) (sym (first_fault text) ∙ ap first_in (none_wrong (faults_of text) (sym ended ∙ zero)))
 
--- And where it declares one, nothing is wrong.
+-- A text that declares a machine has no fault.
 none_found : (found : List LintFault) → first_in found ≡ None → found ≡ []
 none_found [] e = refl
 none_found (f ∷ others) e = absurd (let bad = e in cc)

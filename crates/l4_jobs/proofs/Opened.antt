@@ -22,7 +22,7 @@ Gives = Result (List ℕ) ErrorKind → Type 0
 abbrev Takes : Type 1
 Takes = List ℕ → Bool → Type 0
 
--- What a job that reads a trace makes of what its reader gives, it makes of all that one may give who gives this too.
+-- What a job makes of one reader, it also makes of a reader that may give more.
 abbrev IsMore : Job → (less more : Gives) → Type 0
 IsMore job less more = IfSome (second_file_of job) (λ _. (given : Result (List ℕ) ErrorKind) → less given → more given)
 
@@ -101,7 +101,7 @@ pub done_more : (job : Job) (machine less more : Gives) (out : Takes) (keeps : T
 done_more job machine less more out keeps status h (text, told, lines, given, t, s, wrote, kept) =
     (text, told, lines, given, told_more job less more told h t, s, wrote, kept)
 
--- What was told of a trace is told of its file.
+-- The same of what was reported.
 told_on : (job : Job) (machine less more : Gives) (is_fault : Fault → Type 0) (out : Takes) (keeps : Type 0) (faults : Takes) → IsMore job less more →
     ((f : Fault) → IsJobFault job machine less f → is_fault f) →
     IsNotDone job machine less (IsJobFault job machine less) out keeps faults → IsNotDone job machine more is_fault out keeps faults
@@ -140,7 +140,7 @@ pub done_on_file : {File : Type 0} (opens : List ℕ → Result File ErrorKind �
 done_on_file opens gives job trace file out keeps status o (text, told, lines, given, t, s, wrote, kept) =
     (text, told, lines, (file, o, given), t, s, wrote, kept)
 
--- What was told of a reader and its faults is told of one who gives what it gives.
+-- What was reported for one reader is also reported for a reader that may give more.
 pub not_done_more : (job : Job) (machine wider trace : Gives) (is_fault is_other : Fault → Type 0) (out : Takes) (keeps : Type 0) (faults : Takes) →
     ((text : List ℕ) → machine (Ok text) → wider (Ok text)) → ((f : Fault) → is_fault f → is_other f) →
     IsNotDone job machine trace is_fault out keeps faults → IsNotDone job wider trace is_other out keeps faults

@@ -17,7 +17,7 @@ not_below a b h = grind (arith, nat_tests)
 as_all : (read all : List ℕ) → read ≡ all → IsReadAs read all
 as_all read all is = record { machine = ap machine_of_text is; faults = ap faults_of is; doubts = ap doubts_of is }
 
--- Of a text that is too long nothing else is said, so its beginning is enough.
+-- A text that is too long has no other fault, so its beginning is enough.
 as_beginning : (bytes : List ℕ) → IsReadAs (take 0x100001 bytes) bytes
 as_beginning bytes = by (nat_lt 0x100000 (length bytes)) refl
   where

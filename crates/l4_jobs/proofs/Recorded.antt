@@ -87,7 +87,7 @@ as_replay printed m turns lines text status list name is r =
     replay_shown printed m list text r.entries r.findings lines status
     (by_name m list text name is ∙ r.reads) r.of_replay r.written r.status_is
 
--- A replay has one run, and so shows one thing.
+-- A replay has one run, and so it prints the same lines each time.
 
 one_world : (m : Machine) (steps : List Step) (w v : World) → reached m steps ≡ Some w → reached m steps ≡ Some v → w ≡ v
 one_world m steps w v is other = let same : Some w ≡ Some v = sym is ∙ other in cc

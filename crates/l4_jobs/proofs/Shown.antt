@@ -34,7 +34,7 @@ use Rattle.l4_commands.specs.declared.job.Job.TheVariants.{Run, Replay, Audit, C
 abbrev Gives : Type 1
 Gives = Result (List ℕ) ErrorKind → Type 0
 
--- What is shown of a text that is read is what is shown of all of it.
+-- What is shown for the part of a text that was read is shown for all of it.
 shown_as : (job : Job) (read all : List ℕ) (m : Machine) (told lines : List ℕ) (status : ℕ) → IsReadAs read all →
     IsShownOn job read m told lines status → IsShownOn job all m told lines status
 shown_as (Run file turns printed record_to expected) read all m told lines status same s = s
@@ -48,7 +48,7 @@ shown_of_slice : (job : Job) (slice read : List ℕ) (m : Machine) (told lines :
     IsShownOn job slice m told lines status → IsShownOn job read m told lines status
 shown_of_slice job slice read m told lines status is = subst (λ text. IsShownOn job text m told lines status) is
 
--- What is shown for the text that was read, or its fault, is that of the text that the reader gives.
+-- What is shown for what was read, or its fault, is that of the text that the reader gives.
 pub shown_given : (job : Job) (machine trace : Gives) (read slice lines : List ℕ) (status : ℕ) (refused : Option ℕ) →
     (all : List ℕ) × machine (Ok all) × IsReadAs read all → slice ≡ read →
     (told : List ℕ) × IsTold job trace told × IsShown job slice told lines status × (refused ≡ refused_in job (machine_of_text slice) told) →
@@ -89,7 +89,7 @@ audited_right : (judged : Judged) (m : Machine) (trace lines : List ℕ) (status
 audited_right judged m trace lines status (inl (p, zero)) = passed_right judged m trace lines p (tells_refusals judged)
 audited_right judged m trace lines status (inr (r, one)) = ap (λ tells. fault_of_audit tells m trace) r.asked ∙ ap fault_of_lines r.reads
 
--- The first step that it tells not to be possible.
+-- The first step that an audit reports as not possible.
 
 passed_whole : (judged : Judged) (m : Machine) (trace lines : List ℕ) → IsPassed judged m trace lines → (tells : Bool) → refused_of_audit tells m trace ≡ None
 passed_whole judged m trace lines p true = ap (refused_of_steps m) p.reads ∙ none_refused judged m trace lines p
@@ -127,7 +127,7 @@ pub beside_status : (m : Machine) (q : Question) (lines unmet : List ℕ) (statu
 beside_status m q lines unmet status s =
     s.status_is ∙ ap (λ all. expected_status all (answer_status q.none (asked_of m q s.endings) s.is_whole)) (all_meet m (asked_of m q s.endings))
 
--- What is shown has no fault.
+-- A job that shows something has no fault.
 right_on : (job : Job) (text : List ℕ) (m : Machine) (trace lines : List ℕ) (status : ℕ) → IsShownOn job text m trace lines status → fault_of_job job m trace ≡ None
 right_on (Run file turns printed record_to expected) text m trace lines status s = ap (option_map fault_of_run) s.is.lawful
 right_on (Replay file schedule rest printed expected) text m trace lines status s = ap fault_of_result s.is

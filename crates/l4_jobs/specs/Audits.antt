@@ -21,7 +21,7 @@ use Rattle.l4_jobs.specs.declared.audits.PassedTrace.{PassedTrace}
 use Rattle.l4_jobs.specs.declared.fault.Fault.{Fault}
 use Rattle.l4_jobs.specs.declared.fault.Fault.TheVariants as fault
 
--- Each line is that of a step, the steps are a history, and this is what is told of them.
+-- Each line spells a step, and the steps are a history with this number of steps and this ending.
 pub record HasPassed (m : Machine) (text : List ℕ) (passed : PassedTrace) : Type 0 where
   pub steps : List Step
   pub reads : steps_of text ≡ Ok steps
@@ -35,23 +35,23 @@ abbrev pub fault_of_rest : (place : ℕ) → Result (List Step) ℕ → Fault
 fault_of_rest place (Ok steps) = fault.Refused place
 fault_of_rest place (Err behind) = fault.Trace (place + behind)
 
--- The fault of a text by that of the last step that was read of it.
+-- The fault of a text, by the fault of the last step that was read.
 abbrev pub fault_behind : Ahead → StepFault → Fault
 fault_behind ahead NoMemory = fault.NoMemory
 fault_behind ahead (Refused reason) = fault_of_rest ahead.read (steps_of ahead.rest)
 
--- A trace of so many steps has passed its audit.
+-- The line of an audit that a trace of so many steps passed.
 abbrev pub passed_line : (steps : ℕ) → Ending → List ℕ
 passed_line steps ending = line_of_words (codes "passed" ∷ decimal steps ∷ ending_word ending ∷ [])
 
 -- Where a step is not possible
 
--- It is told of where one of both is asked for.
+-- A refused step is told of where the report or the explanation is asked for.
 abbrev pub tells_refusals : Judged → Bool
 tells_refusals judged = judged.report || judged.explain
 
--- The report of a world that these steps lead to, and why a step is not possible there, where they
--- are asked for.
+-- The report of the world that these steps lead to, and why a step is not possible there, each
+-- where it is asked for.
 
 abbrev pub report_where : (asked : Bool) → Machine → World → List Step → Ending → List ℕ
 report_where asked m w h ending =
@@ -60,8 +60,8 @@ report_where asked m w h ending =
 abbrev pub explanation_where : (asked : Bool) → Machine → World → Reason → List ℕ
 explanation_where asked m w r = if asked then explanation m w r else []
 
--- Each line is that of a step. The first `taken` lead to this world, and the one behind them is not
--- possible there, for this reason. These are the lines that tell of it.
+-- Each line spells a step. The first `taken` steps lead to this world, and the next is not possible
+-- there, for this reason. These lines tell of it.
 pub record IsRefused (judged : Judged) (m : Machine) (trace lines : List ℕ) : Type 0 where
   pub asked : tells_refusals judged ≡ true
   pub steps : List Step

@@ -1,4 +1,4 @@
--- What a chart of a trace shows, and why there is none.
+-- What a chart of a trace shows, and its faults.
 use Rattle.std.specs.Prelude.{◌≡◌, ◌==◌, ℕ, if◌then◌else◌, Option, Some, None, Result, Ok, Err, List}
 use Rattle.std.specs.Option.{option_copied}
 use Rattle.l4_model.specs.Words.{GlobalId}
@@ -35,7 +35,7 @@ chosen_by m chart = chosen_threads m (option_copied chart.threads)
 abbrev pub part_of : ChartJob → Option (List GlobalId) → Part
 part_of chart threads = record { first = chart.first; last = chart.last; threads = threads }
 
--- The columns of a terminal: where none are given, 80.
+-- The width of a text in columns. 0 stands for 80.
 abbrev pub width_of : ChartJob → ℕ
 width_of chart = if chart.width == 0 then 80 else chart.width
 
@@ -47,13 +47,13 @@ drawing_form Svg = drawing.Svg
 drawing_form Html = drawing.Html
 drawing_form Mermaid = drawing.Mermaid
 
--- The exit status where each step is possible, and where one is not.
+-- The exit status by the first step that is not possible, if there is one.
 abbrev pub status_of_refused : Option ℕ → ℕ
 status_of_refused None = 0
 status_of_refused (Some number) = 1
 
--- These are the lines of the chart: of the steps before the first that is not possible, and of the
--- chosen threads.
+-- These lines are the chart of the chosen threads, with the steps before the first that is not
+-- possible.
 pub record IsCharted (chart : ChartJob) (m : Machine) (trace lines : List ℕ) (status : ℕ) :
     Type 0 where
   pub threads : Option (List GlobalId)
@@ -64,8 +64,7 @@ pub record IsCharted (chart : ChartJob) (m : Machine) (trace lines : List ℕ) (
       (rows_of m (until_refused (refused_place m steps) (part_of chart threads)) steps) lines
   pub status_is : status ≡ status_of_refused (refused_place m steps)
 
--- Its fault on a list of threads, and on a trace whose lines are not those of steps. The list is
--- judged first.
+-- The fault of a chart: that of its list of threads, else that of a line that spells no step.
 abbrev pub fault_of_list : ThreadsFault → Fault
 fault_of_list threads_fault.NoMemory = fault.NoMemory
 fault_of_list (threads_fault.Item number) = fault.Threads number

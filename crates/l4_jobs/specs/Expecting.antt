@@ -1,4 +1,4 @@
--- What is expected of a run, a replay or of each ending, and what is told of that.
+-- What is expected of a run, of a replay or of each ending, and what is not met.
 use Rattle.std.specs.Prelude.{◌≡◌, ◌⊎◌, ℕ, Bool, true, false, Option, Some, None, Result, Ok, Err, List, [], ◌∷◌}
 use Rattle.std.specs.declared.io.ErrorKind.{ErrorKind}
 use Rattle.l4_model.specs.Machine.{Machine}
@@ -25,8 +25,8 @@ use Rattle.l4_jobs.specs.Streams.{FileGives}
 use Rattle.l4_jobs.specs.declared.fault.Fault.{Fault}
 use Rattle.l4_jobs.specs.declared.fault.Fault.TheVariants as fault
 
--- These are what is shown of a core run of which something is expected, what is told of that, and
--- the exit status. Its report is judged, whether it is shown or not.
+-- These lines are printed of a core run, `told` is what its report does not meet, and this is the
+-- exit status. The report is judged whether it is printed or not.
 pub record IsRunExpected (printed : Printed) (m : Machine) (IsAsked : CoreRun → Type 0)
     (expected : List Expected) (lines told : List ℕ) (status : ℕ) : Type 0 where
   pub findings : Findings
@@ -40,7 +40,8 @@ pub record IsRunExpected (printed : Printed) (m : Machine) (IsAsked : CoreRun �
       ≡ expected_status (are_met (lines_of_outcome true findings) expected)
       (status_of_ending findings.ending)
 
--- The same of what has to meet expectations. Of a search each ending that is printed has to.
+-- The same for each job that may have expectations. In a search, each ending that is printed has to
+-- meet them.
 abbrev pub IsExpectedOn : Course → Machine → List Expected → (list lines told : List ℕ) →
     (status : ℕ) → Type 0
 IsExpectedOn (course.Run turns printed) m expected list lines told status =
@@ -50,13 +51,13 @@ IsExpectedOn (course.Replay schedule rest printed) m expected list lines told st
 IsExpectedOn (course.Endings search) m expected list lines told status =
     IsAnsweredBeside m (question_of search) search.waits (Some expected) lines told status
 
--- All runs to one ending may differ in what a report tells of one of them.
+-- Runs to one ending may differ in parts of their reports, so a search can't expect these.
 abbrev pub scope_of : Course → Scope
 scope_of (course.Endings search) = scope.Endings
 scope_of _ = scope.OneRun
 
 -- The readers gave a text that declares a machine, a text of expectations without a fault, and the
--- list where it is in a file; and these are what is shown and told.
+-- list where it is in a file. These are what is printed and what is not met.
 pub record IsExpectedFor (e : Expecting)
     (machine list expectations : Result (List ℕ) ErrorKind → Type 0)
     (lines told : List ℕ) (status : ℕ) : Type 0 where
@@ -72,7 +73,7 @@ pub record IsExpectedFor (e : Expecting)
   pub goes_by : IsRead (list_file_of e.course) list entries
   pub is : IsExpectedOn e.course on expected entries lines told status
 
--- Why nothing is shown. The text is judged first, then the expectations, and then the turns, the
+-- Why nothing is printed. The text is judged first, then the expectations, and then the turns, the
 -- list or the limits of the search.
 
 abbrev pub fault_of_expect : ExpectFault → Fault
@@ -111,14 +112,14 @@ IsExpectFault e machine list expectations f =
     ⊎ ((text : List ℕ) × machine (Ok text)
     × IsExpectedFault e (machine_of_text text) list expectations f)
 
--- What does not hold was written to the faults once, behind the lines; or all holds, and nothing
--- was. The status tells the rest where the writer did not take all of it.
+-- What is not met was written to the faults once, behind the lines, or all is met and nothing was
+-- written. If the writer did not take all of it, only the status tells.
 abbrev pub IsSaidOf : (told : List ℕ) → (takes : (bytes : List ℕ) → (all : Bool) → Type 0) →
     (keeps : Type 0) → Type 0
 IsSaidOf [] takes keeps = keeps
 IsSaidOf (byte ∷ told) takes keeps = (all : Bool) × takes (byte ∷ told) all
 
--- The lines were written, and then what does not hold.
+-- The lines were written, and then what is not met.
 abbrev pub IsExpectDone : Expecting →
     (machine list expectations : Result (List ℕ) ErrorKind → Type 0) →
     (out : List ℕ → Bool → Type 0) → (keeps_faults : Type 0) →
@@ -128,8 +129,8 @@ IsExpectDone e machine list expectations out keeps_faults faults status =
     × IsExpectedFor e machine list expectations lines told status × out lines true
     × IsSaidOf told faults keeps_faults
 
--- Nothing was written, and the fault was reported; or the lines were not written whole, which was
--- reported, and nothing was told.
+-- Nothing was written, and the fault was reported; or the lines were not written whole, and only
+-- that was reported.
 abbrev pub IsNotExpected : Expecting →
     (machine list expectations : Result (List ℕ) ErrorKind → Type 0) →
     (is_fault : Fault → Type 0) → (out : List ℕ → Bool → Type 0) → (keeps_out : Type 0) →
@@ -140,13 +141,13 @@ IsNotExpected e machine list expectations is_fault out keeps_out faults =
     × IsExpectedFor e machine list expectations lines told status × out lines false
     × IsReported faults fault.Write)
 
--- Its exit status: 4 only where something does not hold, or an ending was found that there should
--- not be.
+-- The exit statuses of a job with expectations. 4 stands for an expectation that is not met, or for
+-- an ending that should not exist.
 abbrev pub IsExpectStatus : (status : ℕ) → Type 0
 IsExpectStatus status = (status ≡ 0) ⊎ (status ≡ 1) ⊎ (status ≡ 3) ⊎ (status ≡ 4)
 
--- The same on files, which are opened one by one: that of the machine text, that of the list where
--- there is one, and that of the expectations. Nothing is read of them before.
+-- The same on files. The machine text is opened first, then the list where it is in a file, then
+-- the expectations. Nothing is read before.
 
 abbrev pub ListGives : {File : Type 0} → (opens : List ℕ → Result File ErrorKind → Type 0) →
     (gives : File → Result (List ℕ) ErrorKind → Type 0) → (name : Option (List ℕ)) →
@@ -154,7 +155,7 @@ abbrev pub ListGives : {File : Type 0} → (opens : List ℕ → Result File Err
 ListGives opens gives None given = ⊥
 ListGives opens gives (Some name) given = FileGives opens gives name given
 
--- This file can't be opened, or it was opened and this is the fault.
+-- This file can't be opened, or what was opened has this fault.
 abbrev pub IsOpenFault : {File : Type 0} → (opens : List ℕ → Result File ErrorKind → Type 0) →
     (name : List ℕ) → (behind : File → Fault → Type 0) → Fault → Type 0
 IsOpenFault {File} opens name behind f =

@@ -7,8 +7,8 @@ use Rattle.l4_counts.specs.Lines.{counts_text}
 use Rattle.l4_waits.specs.Lines.{waits_text}
 use Rattle.l4_commands.specs.declared.job.Extras.{Extras}
 
--- Of a world and the steps that lead there: who waits for whom, and what each thread did, where
--- they are asked for.
+-- Who waits for whom in a world, and what each thread did in the steps that lead there, each where
+-- it is asked for.
 abbrev pub behind : Extras → Machine → World → (history : List Step) → List ℕ
 behind e m w h =
     (if e.waits then waits_text m w else []) ++ (if e.counts then counts_text m h else [])

@@ -27,7 +27,7 @@ wrong_word wrong.BadWord = codes "BadWord"
 wrong_word wrong.Deleted = codes "Deleted"
 wrong_word wrong.Number = codes "Number"
 
--- What is said of a fault, and its line.
+-- The words of a fault, and its line.
 abbrev pub fault_words : Fault → List ℕ
 fault_words (fault.Text line kind) = codes "line " ++ decimal line ++ codes ": " ++ kind_word kind
 fault_words fault.Turns = codes "turns out of range"
@@ -47,8 +47,8 @@ fault_words fault.Write = codes "cannot write"
 abbrev pub fault_line : Fault → List ℕ
 fault_line f = codes "l4run: " ++ fault_words f ++ codes "\n"
 
--- The fault's one line was handed to the writer, or where memory for it ran out, the line that says
--- so. The status tells the rest where the writer did not take all of it.
+-- The fault's one line was handed to the writer, or that of refused memory where the line had none.
+-- If the writer did not take all of it, only the status tells.
 abbrev pub IsReported : (takes : (bytes : List ℕ) → (all : Bool) → Type 0) → Fault → Type 0
 IsReported takes f = (line : List ℕ) × ((line ≡ fault_line f) ⊎
     (line ≡ fault_line fault.NoMemory)) × ((all : Bool) × takes line all)

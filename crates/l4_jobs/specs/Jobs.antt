@@ -1,4 +1,4 @@
--- What a job asks for, and what is shown for it.
+-- What a job asks for, and what it prints.
 use Rattle.std.specs.Prelude.{◌≡◌, ◌↔◌, ◌⊎◌, ℕ, Bool, true, false, Option, Some, None, IsSomeAnd, Result, Ok, Err, List, ◌++◌, length}
 use Rattle.std.specs.Option.{option_map}
 use Rattle.std.specs.declared.io.ErrorKind.{ErrorKind}
@@ -45,14 +45,14 @@ use Rattle.l4_commands.specs.declared.job.Printed.{Printed}
 use Rattle.l4_commands.specs.declared.job.Job.{Job}
 use Rattle.l4_commands.specs.declared.job.Job.TheVariants.{Run, Replay, Audit, Chart, Endings, Lint}
 
--- The text that is read of a file of this name is what its reader gives. Where there is none,
+-- The text that is read of the file of this name is one that its reader may give. Without a name,
 -- nothing is read.
 abbrev pub IsRead : (name : Option (List ℕ)) → (gives : Result (List ℕ) ErrorKind → Type 0) →
     (text : List ℕ) → Type 0
 IsRead None gives text = Unit {0}
 IsRead (Some name) gives text = gives (Ok text)
 
--- The trace or the list that a job goes by.
+-- The trace or the list that a job reads.
 abbrev pub IsTold : Job → (gives : Result (List ℕ) ErrorKind → Type 0) → (told : List ℕ) → Type 0
 IsTold job gives told = IsRead (second_file_of job) gives told
 
@@ -65,16 +65,16 @@ abbrev pub IsUnread : (file : List ℕ) → ErrorKind → Fault → Type 0
 IsUnread file OutOfMemory f = f ≡ fault.NoMemory
 IsUnread file _ f = Names file f
 
--- A run of a machine for so many turns, its events in order of stamp. On several processors there
--- may be more than one.
+-- A run of a machine for so many turns, its events in order of stamp. Several processors may have
+-- more than one run.
 pub record IsRunAsked (m : Machine) (turns : ℕ) (r : CoreRun) : Type 0 where
   pub lawful : turns_fault turns ≡ None
   pub run : CoreRun
   pub is : IsRunFor m turns run
   pub sorted : r ≡ in_order run
 
--- The schedule that is asked for: that of the list itself, or where it names a file, that of the
--- text in the file.
+-- The schedule that is asked for: that of the list, or that of the text in the file which the list
+-- names.
 abbrev pub named_schedule : Machine → (name : Option (List ℕ)) → (list text : List ℕ) →
     Result (List Entry) RunFault
 named_schedule m None list text = schedule_of m list
@@ -83,8 +83,8 @@ named_schedule m (Some name) list text = schedule_in_file m text
 abbrev pub asked_schedule : Machine → (list text : List ℕ) → Result (List Entry) RunFault
 asked_schedule m list text = named_schedule m (list_name list) list text
 
--- The core run of a machine by entries, and where it goes on for so many turns, with the rest; or
--- why there is none.
+-- The core run of a machine by entries, and by so many more turns where it goes on; or why there is
+-- none.
 abbrev pub unless_fault : Option RunFault → CoreRun → Result CoreRun RunFault
 unless_fault None r = Ok r
 unless_fault (Some fault) r = Err fault
@@ -111,12 +111,12 @@ run_by_list m rest list text = replayed m rest (asked_schedule m list text)
 abbrev pub IsReplayAsked : Machine → (rest : Option ℕ) → (list text : List ℕ) → CoreRun → Type 0
 IsReplayAsked m rest list text r = run_by_list m rest list text ≡ Ok r
 
--- Its fault on a text. The text is judged first.
+-- The fault of a job on a text. The text is judged first.
 abbrev pub text_fault : (line : ℕ) → TextFaultKind → Fault
 text_fault line NoMemoryKind = fault.NoMemory
 text_fault line kind = fault.Text line kind
 
--- No job gathers processors, so that none finds strangers.
+-- No job gathers processors, so `Strangers` never comes.
 abbrev pub fault_of_run : RunFault → Fault
 fault_of_run run_fault.NoMemory = fault.NoMemory
 fault_of_run run_fault.Strangers = fault.NoMemory
@@ -134,7 +134,7 @@ abbrev pub fault_of_reading : TraceFault → Fault
 fault_of_reading trace_fault.NoMemory = fault.NoMemory
 fault_of_reading (trace_fault.Line line) = fault.Trace line
 
--- A trace has a line that is none, or a step that is not possible.
+-- The trace has a line that spells no step, or a step that is not possible.
 abbrev pub fault_of_steps : Machine → Result (List Step) ℕ → Option Fault
 fault_of_steps m (Err line) = Some (fault.Trace line)
 fault_of_steps m (Ok steps) = option_map fault.Refused (refused_place m steps)
@@ -142,7 +142,7 @@ fault_of_steps m (Ok steps) = option_map fault.Refused (refused_place m steps)
 abbrev pub fault_of_trace : Machine → (trace : List ℕ) → Option Fault
 fault_of_trace m trace = fault_of_steps m (steps_of trace)
 
--- The same of an audit. A refused step that it tells of is none.
+-- The fault of an audit. Where it tells of a refused step, that step is none.
 abbrev pub fault_of_audit : (tells : Bool) → Machine → (trace : List ℕ) → Option Fault
 fault_of_audit true m trace = fault_of_lines (steps_of trace)
 fault_of_audit false m trace = fault_of_trace m trace
@@ -163,16 +163,16 @@ fault_on job (Ok m) trace = fault_of_job job m trace
 abbrev pub fault_of : Job → (text trace : List ℕ) → Option Fault
 fault_of job text trace = fault_on job (machine_of_text text) trace
 
--- Why a job prints nothing, by what its readers gave: memory ran out, the file of its machine text
--- can't be read, or this fault is that of the text or of the job on its machine. A trace is read
--- where there is a machine to audit it on.
+-- Why a job prints nothing: memory was refused, the machine text can't be read, or the text, or the
+-- job on its machine, has this fault. A trace is read only where there is a machine to audit it on.
 abbrev pub IsTraceFault : Machine → (name : List ℕ) → (gives : Result (List ℕ) ErrorKind → Type 0) →
     Fault → Type 0
 IsTraceFault m name gives f =
     ((kind : ErrorKind) × gives (Err kind) × IsUnread name kind f) ⊎
     ((trace : List ℕ) × gives (Ok trace) × (fault_of_trace m trace ≡ Some f))
 
--- The same where a refused step is told of, and of a chart, whose list of threads is right.
+-- The same where an audit tells of a refused step, and for a chart whose list of threads has no
+-- fault.
 abbrev pub IsLinesFault : (name : List ℕ) → (gives : Result (List ℕ) ErrorKind → Type 0) →
     Fault → Type 0
 IsLinesFault name gives f =
@@ -190,8 +190,8 @@ IsChartFault chart m gives f =
     (fault_of_threads (chosen_by m chart) ≡ Some f)
     ⊎ ((fault_of_threads (chosen_by m chart) ≡ None) × IsLinesFault chart.trace.now gives f)
 
--- The same of the schedule of a replay. A file of this name with its list is read where there is a
--- machine to judge it on.
+-- The fault of a replay's schedule. A list in a file is read only where there is a machine to judge
+-- it on.
 
 abbrev pub IsListFault : Machine → (name : List ℕ) →
     (gives : Result (List ℕ) ErrorKind → Type 0) → Fault → Type 0
@@ -206,7 +206,7 @@ IsScheduleFault m list None gives f = fault_of_result (replayed m None (schedule
     Some f
 IsScheduleFault m list (Some name) gives f = IsListFault m name gives f
 
--- The same of a rest, where the schedule is right.
+-- The fault of a replay's further turns, where its schedule has none.
 pub record IsRestFault (m : Machine) (rest : Option ℕ) (list : List ℕ)
     (gives : Result (List ℕ) ErrorKind → Type 0) (f : Fault) : Type 0 where
   pub text : List ℕ
@@ -239,15 +239,15 @@ IsJobFault job machine trace f =
     ⊎ ((kind : ErrorKind) × machine (Err kind) × IsUnread (file_of job) kind f)
     ⊎ ((text : List ℕ) × machine (Ok text) × IsFaultOf job (machine_of_text text) trace f)
 
--- What reading the trace or the list of a job that reads one may come to.
+-- What reading the trace or the list of a job may give, where it has one.
 abbrev pub TraceGives : {File : Type 0} → (opens : List ℕ → Result File ErrorKind → Type 0) →
     (gives : File → Result (List ℕ) ErrorKind → Type 0) →
     Job → Result (List ℕ) ErrorKind → Type 0
 TraceGives opens gives job trace = IsSomeAnd (second_file_of job) (λ name.
     FileGives opens gives name trace)
 
--- Why a job whose machine text was opened prints nothing: the trace or list of this name can't be
--- opened, or it was opened too.
+-- Why a job whose machine text was opened prints nothing. The trace or the list of this name can't
+-- be opened, or was opened and has a fault.
 abbrev pub IsFaultBehind : {File : Type 0} → (opens : List ℕ → Result File ErrorKind → Type 0) →
     (gives : File → Result (List ℕ) ErrorKind → Type 0) →
     (trace : Option (List ℕ)) → Job → (machine : Result (List ℕ) ErrorKind → Type 0) →
@@ -257,8 +257,8 @@ IsFaultBehind {File} opens gives (Some name) job machine f =
     ((kind : ErrorKind) × opens name (Err kind) × IsUnread name kind f)
     ⊎ ((file : File) × opens name (Ok file) × IsJobFault job machine (gives file) f)
 
--- Why a job on files prints nothing. They are opened one by one, that of the machine text first,
--- and nothing is read of them before.
+-- Why a job on files prints nothing. The files are opened before anything is read, that of the
+-- machine text first.
 abbrev pub IsOpenedFault : {File : Type 0} → (opens : List ℕ → Result File ErrorKind → Type 0) →
     (gives : File → Result (List ℕ) ErrorKind → Type 0) →
     Job → Fault → Type 0
@@ -267,13 +267,13 @@ IsOpenedFault {File} opens gives job f =
     ⊎ ((file : File) × opens (file_of job) (Ok file) ×
     IsFaultBehind opens gives (second_file_of job) job (gives file) f)
 
--- The exit status of a run that ends at rest, and of one that does not.
+-- The exit status by whether a run ends at rest.
 abbrev pub status_at_rest : Bool → ℕ
 status_at_rest true = 0
 status_at_rest false = 3
 
--- The report of a core run: the threads and the undecided sends of this world, and its ending. Or
--- its trace.
+-- The report of a core run in this world, or its trace. The report has the threads, the undecided
+-- sends and the ending.
 abbrev pub lines_of_run : (report : Bool) → Machine → CoreRun → World → List ℕ
 lines_of_run true m r w =
     report_text (view m w) (undecided_sends m w (told r.events))
@@ -300,12 +300,12 @@ pub record IsWritten (printed : Printed) (m : Machine) (o : Findings) (lines : L
   pub lines_are : lines ≡
       lines_of_outcome printed.report o ++ behind printed.extras m world o.history
 
--- Its exit status.
+-- The exit status by the ending.
 abbrev pub status_of_ending : Ending → ℕ
 status_of_ending Quiet = 0
 status_of_ending Spent = 3
 
--- These lines and this status are of findings that are true of the machine. Nothing here names a
+-- These lines and this status are of findings that are true of the machine. The statement names no
 -- run of processors.
 pub record IsTrueShown (printed : Printed) (m : Machine) (lines : List ℕ) (status : ℕ) :
     Type 0 where
@@ -314,7 +314,7 @@ pub record IsTrueShown (printed : Printed) (m : Machine) (lines : List ℕ) (sta
   pub written : IsWritten printed m findings lines
   pub status_is : status ≡ status_of_ending findings.ending
 
--- These are what is shown of a core run on a machine that is asked for, and the exit status.
+-- These lines and this exit status are of a core run that is asked for on a machine.
 pub record IsRunShown (printed : Printed) (machine : Machine) (IsAsked : CoreRun → Type 0)
     (lines : List ℕ) (status : ℕ) : Type 0 where
   pub is_true : IsTrueShown printed machine lines status
@@ -323,8 +323,8 @@ pub record IsRunShown (printed : Printed) (machine : Machine) (IsAsked : CoreRun
   pub shows : Shows printed machine run lines
   pub status_is : status ≡ status_at_rest (at_rest machine run.system)
 
--- This is what is shown of a trace that is a history: how many steps it has, whether nothing but
--- clocks can go on behind them, and what is asked for behind that.
+-- The lines of a trace that passes tell how many steps it has, and whether only clocks can go on
+-- behind them. What is asked for follows.
 pub record IsPassed (judged : Judged) (machine : Machine) (trace lines : List ℕ) : Type 0 where
   pub steps : List Step
   pub reads : steps_of trace ≡ Ok steps
@@ -336,12 +336,12 @@ pub record IsPassed (judged : Judged) (machine : Machine) (trace lines : List �
       passed_line (length steps) ending ++ report_where judged.report machine world steps ending
       ++ behind judged.extras machine world steps
 
--- The trace is a history, or what is told of its first step that is not possible is shown.
+-- The trace is a history, or the lines tell of its first step that is not possible.
 abbrev pub IsAudited : Judged → Machine → (trace lines : List ℕ) → (status : ℕ) → Type 0
 IsAudited judged m trace lines status =
     (IsPassed judged m trace lines × (status ≡ 0)) ⊎ (IsRefused judged m trace lines × (status ≡ 1))
 
--- These are what a job shows of a text on the machine that it declares, and the exit status.
+-- What a job prints for a text on the machine that it declares, and the exit status.
 abbrev pub IsShownOn : Job → (text : List ℕ) → Machine → (told lines : List ℕ) → (status : ℕ) →
     Type 0
 IsShownOn (Run file turns printed record_to expected) text m told lines status =
@@ -355,7 +355,7 @@ IsShownOn (Endings search) text m told lines status =
 IsShownOn (Lint file schedule) text m told lines status =
     (lines ≡ doubts_text (doubts_of text)) × (status ≡ 0)
 
--- They are true of the machine.
+-- What a job prints is true of the machine.
 abbrev pub IsTrueOn : Job → (text : List ℕ) → Machine → (told lines : List ℕ) → (status : ℕ) →
     Type 0
 IsTrueOn (Run file turns printed record_to expected) text m told lines status =
@@ -369,7 +369,7 @@ IsTrueOn (Endings search) text m told lines status =
 IsTrueOn (Lint file schedule) text m told lines status =
     (lines ≡ doubts_text (doubts_of text)) × (status ≡ 0)
 
--- An exit status. Only a search that is to find nothing may have status 4.
+-- Only a search that should find nothing may have status 4.
 abbrev pub IsNoneAsked : Job → Type 0
 IsNoneAsked (Endings search) = search.none ≡ true
 IsNoneAsked _ = ⊥
@@ -378,15 +378,14 @@ abbrev pub IsStatusOf : Job → (status : ℕ) → Type 0
 IsStatusOf job status = (status ≡ 0) ⊎ (status ≡ 1) ⊎ (status ≡ 3) ⊎
     ((status ≡ 4) × IsNoneAsked job)
 
--- The text declares a machine, and these are what the job shows there.
+-- The text declares a machine, and the job prints these lines for it.
 pub record IsShown (job : Job) (text trace lines : List ℕ) (status : ℕ) : Type 0 where
   pub machine : Machine
   pub declares : machine_of_text text ≡ Ok machine
   pub shown : IsShownOn job text machine trace lines status
 
--- What a job did that printed all of its lines: the reader of its machine text gave a text that
--- declares a machine, these are the lines of what the job shows there, they were written once, and
--- nothing was reported. The status is that of what is shown.
+-- A job printed all of its lines. Its reader gave a text that declares a machine, the lines for
+-- that machine were written once, and nothing was reported. The status is that of the job there.
 abbrev pub IsDone : Job → (machine trace : Result (List ℕ) ErrorKind → Type 0) →
     (out : List ℕ → Bool → Type 0) → (keeps_faults : Type 0) →
     (status : ℕ) → Type 0
@@ -395,8 +394,8 @@ IsDone job machine trace out keeps_faults status =
     IsTold job trace told × IsShown job text told lines status
     × out lines true × keeps_faults
 
--- The reader of its machine text gave a text that declares a machine, and the lines that a job
--- wrote once are true of that machine.
+-- The reader gave a text that declares a machine, and the lines that the job wrote once are true of
+-- that machine.
 abbrev pub IsTrulyDone : Job → (machine trace : Result (List ℕ) ErrorKind → Type 0) →
     (out : List ℕ → Bool → Type 0) → (status : ℕ) → Type 0
 IsTrulyDone job machine trace out status =
@@ -404,8 +403,8 @@ IsTrulyDone job machine trace out status =
     × (machine_of_text text ≡ Ok m) × IsTold job trace read
     × IsTrueOn job text m read lines status × out lines true
 
--- The first step that is not possible, of a trace that is drawn, or audited where such a step is
--- told of. No other job shows anything of one.
+-- The first step that is not possible, of a trace that is drawn or whose audit tells of such a
+-- step. No other job prints anything of one.
 abbrev pub refused_of_audit : (tells : Bool) → Machine → (trace : List ℕ) → Option ℕ
 refused_of_audit true m trace = refused_of_steps m (steps_of trace)
 refused_of_audit false m trace = None
@@ -422,9 +421,9 @@ abbrev pub refused_in : Job → Result Machine TextFault → (trace : List ℕ) 
 refused_in job (Err f) trace = None
 refused_in job (Ok m) trace = refused_on job m trace
 
--- What a job did that has status 1: either nothing was written and its fault was reported; or its
--- lines were written once, which failed, and that was reported; or they were written, and the first
--- step of the trace that is not possible was reported.
+-- A job ended with status 1. Either nothing was written, and its fault was reported. Or writing its
+-- lines failed, and that was reported. Or they were written, and then the first step that is not
+-- possible was reported.
 abbrev pub IsNotDone : Job → (machine trace : Result (List ℕ) ErrorKind → Type 0) →
     (is_fault : Fault → Type 0) → (out : List ℕ → Bool → Type 0) →
     (keeps_out : Type 0) → (faults : List ℕ → Bool → Type 0) → Type 0
@@ -443,8 +442,8 @@ abbrev pub refusal_line : (refused : Option ℕ) → Option (List ℕ)
 refusal_line None = None
 refusal_line (Some number) = Some (fault_line (fault.Refused number))
 
--- What is answered once the lines are written: the status, or that a step is not possible is
--- reported.
+-- What follows once the lines are written: the status, or the report of a step that is not
+-- possible.
 abbrev pub IsEnded : (refused : Option ℕ) → (status result : ℕ) → (keeps_faults : Type 0) →
     (faults : List ℕ → Bool → Type 0) → Type 0
 IsEnded None status result keeps_faults faults = (result ≡ status) × keeps_faults

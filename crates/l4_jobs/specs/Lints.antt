@@ -1,4 +1,4 @@
--- What is said of a machine text, and what saying it comes to.
+-- What a lint prints for a machine text, and how it ends.
 use Rattle.std.specs.Prelude.{◌≡◌, ◌⊎◌, ℕ, Bool, true, false, Result, Ok, Err, List}
 use Rattle.std.specs.declared.io.ErrorKind.{ErrorKind}
 use Rattle.l4_lint.specs.Doubts.{lint_text}
@@ -17,14 +17,14 @@ abbrev pub IsLintOf : (text lines : List ℕ) → (status : ℕ) → Type 0
 IsLintOf text lines status =
     (lines ≡ lint_text text) × (status ≡ status_of (faults_of text))
 
--- Why nothing is said: memory ran out, or the file of this name can't be read.
+-- Why nothing is printed: memory was refused, or the file of this name can't be read.
 abbrev pub IsLintFault : (file : List ℕ) → (machine : Result (List ℕ) ErrorKind → Type 0) →
     Fault → Type 0
 IsLintFault file machine f = (f ≡ fault.NoMemory) ⊎
     ((kind : ErrorKind) × machine (Err kind) × IsUnread file kind f)
 
--- The lines were written once, and the status is that of the text; or they were not written whole,
--- which was reported with status 1.
+-- The lines were written once, and the status is that of the text. Or they were not written whole,
+-- and that was reported with status 1.
 abbrev pub IsSaid : (lines : List ℕ) → (said status : ℕ) → (out : List ℕ → Bool → Type 0) →
     (keeps_faults : Type 0) →
     (faults : List ℕ → Bool → Type 0) → Type 0
@@ -32,7 +32,7 @@ IsSaid lines said status out keeps_faults faults =
     ((status ≡ said) × out lines true × keeps_faults) ⊎
     ((status ≡ 1) × out lines false × IsReported faults fault.Write)
 
--- What was said of what the reader gave; or a fault was reported, with status 1.
+-- The lint of what the reader gave was printed, or a fault was reported with status 1.
 abbrev pub IsLinted : (file : List ℕ) → (machine : Result (List ℕ) ErrorKind → Type 0) →
     (out : List ℕ → Bool → Type 0) → (keeps_out : Type 0) →
     (keeps_faults : Type 0) → (faults : List ℕ → Bool → Type 0) → (status : ℕ) → Type 0
@@ -41,7 +41,7 @@ IsLinted file machine out keeps_out keeps_faults faults status =
     IsLintOf text lines said × IsSaid lines said status out keeps_faults faults)
     ⊎ ((f : Fault) × IsLintFault file machine f × (status ≡ 1) × keeps_out × IsReported faults f)
 
--- The same of a job that asks for it, where something is wrong or the lines were not written.
+-- A job of kind `Lint` had status 1, as the text has a fault or the lines were not written.
 abbrev pub IsLintEnded : Job → (machine : Result (List ℕ) ErrorKind → Type 0) →
     (out : List ℕ → Bool → Type 0) → (keeps_faults : Type 0) →
     (faults : List ℕ → Bool → Type 0) → Type 0

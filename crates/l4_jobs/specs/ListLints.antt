@@ -1,4 +1,4 @@
--- What is said of a machine text and of a list of items for it.
+-- What a lint prints for a machine text and for a list of items for it.
 use Rattle.std.specs.Prelude.{◌≡◌, ◌⊎◌, ℕ, Bool, Option, Some, None, IsSomeAnd, Result, Ok, Err, List, ◌++◌, ◌==◌, if◌then◌else◌, length}
 use Rattle.std.specs.declared.io.ErrorKind.{ErrorKind}
 use Rattle.l4_model.specs.Machine.{Machine}
@@ -15,7 +15,7 @@ use Rattle.l4_jobs.specs.Lints.{IsLintOf, IsSaid}
 use Rattle.l4_jobs.specs.declared.fault.Fault.{Fault}
 use Rattle.l4_jobs.specs.declared.fault.Fault.TheVariants as fault
 
--- The faults of a list by itself, or of that in a file.
+-- The faults of a list, or of the list in a file.
 abbrev pub named_faults : Machine → (name : Option (List ℕ)) → (list told : List ℕ) → List ListFault
 named_faults m None list told = list_faults m list
 named_faults m (Some name) list told = file_faults m told
@@ -26,8 +26,8 @@ asked_faults m list told = named_faults m (list_name list) list told
 abbrev pub status_of_list : List ListFault → ℕ
 status_of_list found = if length found == 0 then 0 else 1
 
--- Of a text that declares a machine its doubts are said, and behind them the faults of the list,
--- which is read where it is in a file. Of another its faults alone are.
+-- Of a text that declares a machine, the doubts are printed, and behind them the faults of the
+-- list. The list is read where it is in a file. Of another text only the faults are printed.
 abbrev pub IsListLintOn : Result Machine TextFault → (text list : List ℕ) →
     (gives : Result (List ℕ) ErrorKind → Type 0) → (lines : List ℕ) → (status : ℕ) → Type 0
 IsListLintOn (Err f) text list gives lines status = IsLintOf text lines status
@@ -41,8 +41,8 @@ abbrev pub IsListLintOf : (text list : List ℕ) →
 IsListLintOf text list gives lines status =
     IsListLintOn (machine_of_text text) text list gives lines status
 
--- Why nothing is said: memory ran out, or the file of the text can't be read; or the text declares
--- a machine, and that of the list can't be read.
+-- Why nothing is printed: memory was refused, the text can't be read, or it declares a machine and
+-- the list can't be read.
 abbrev pub IsListUnread : (list : List ℕ) → (gives : Result (List ℕ) ErrorKind → Type 0) →
     Fault → Type 0
 IsListUnread list gives f =
@@ -57,7 +57,7 @@ IsListLintFault file list machine gives f =
     ⊎ ((text : List ℕ) × (m : Machine) × machine (Ok text) × (machine_of_text text ≡ Ok m)
     × IsListUnread list gives f)
 
--- What was said of what the readers gave; or a fault was reported, with status 1.
+-- The lint of what the readers gave was printed, or a fault was reported with status 1.
 abbrev pub IsListLinted : (list : List ℕ) →
     (machine gives : Result (List ℕ) ErrorKind → Type 0) → (is_fault : Fault → Type 0) →
     (out : List ℕ → Bool → Type 0) → (keeps_out keeps_faults : Type 0) →
@@ -67,7 +67,7 @@ IsListLinted list machine gives is_fault out keeps_out keeps_faults faults statu
     × IsListLintOf text list gives lines said × IsSaid lines said status out keeps_faults faults)
     ⊎ ((f : Fault) × is_fault f × (status ≡ 1) × keeps_out × IsReported faults f)
 
--- The same on files: that of the text is opened first, then that of the list.
+-- The same on files: the text is opened first, then the list.
 abbrev pub IsLintBehindText : {File : Type 0} →
     (opens : List ℕ → Result File ErrorKind → Type 0) →
     (gives : File → Result (List ℕ) ErrorKind → Type 0) → (file list : List ℕ) →

@@ -4,7 +4,7 @@ use Rattle.l4_script.specs.Texts.{machine_of_text}
 use Rattle.l4_lint.specs.Doubts.{doubts_of}
 use Rattle.l4_lint.specs.Faults.{faults_of}
 
--- All that is said of this text is said of all of it.
+-- What was read of a text has the same machine, faults and doubts as all of it.
 pub record IsReadAs (read all : List ℕ) : Type 0 where
   pub machine : machine_of_text read ≡ machine_of_text all
   pub faults : faults_of read ≡ faults_of all

@@ -17,8 +17,8 @@ use Rattle.l4_commands.specs.declared.job.Job.{Job}
 use Rattle.l4_commands.specs.declared.job.Printed.{Printed}
 use Rattle.l4_commands.specs.declared.job.Job.TheVariants.{Run}
 
--- These are the lines and the status that are shown of a run, and this text is recorded of it: that
--- of entries which are read back, and by which a replay has the very findings that are shown.
+-- These lines and this status are shown of a run, and this text is recorded. It is read back as
+-- entries by which a replay has exactly the findings that are shown.
 pub record IsRecorded (printed : Printed) (m : Machine) (turns : ℕ) (lines text : List ℕ)
     (status : ℕ) : Type 0 where
   pub lawful : turns_fault turns ≡ None
@@ -31,14 +31,13 @@ pub record IsRecorded (printed : Printed) (m : Machine) (turns : ℕ) (lines tex
   pub written : IsWritten printed m findings lines
   pub status_is : status ≡ status_of_ending findings.ending
 
--- The same of what a job asks for. No other job records.
+-- The same for the job that asks for it. No other job records.
 abbrev pub IsRecordedBy : Job → Machine → (lines text : List ℕ) → (status : ℕ) → Type 0
 IsRecordedBy (Run file turns printed record_to expected) m lines text status =
     IsRecorded printed m turns lines text status
 IsRecordedBy _ m lines text status = ⊥
 
--- The reader of its machine text gave one that declares a machine, and this is shown and recorded
--- there.
+-- The reader gave a text that declares a machine, and this is shown and recorded of a run there.
 pub record IsMade (job : Job) (machine : Result (List ℕ) ErrorKind → Type 0) (lines list : List ℕ)
     (status : ℕ) : Type 0 where
   pub text : List ℕ
@@ -47,7 +46,7 @@ pub record IsMade (job : Job) (machine : Result (List ℕ) ErrorKind → Type 0)
   pub declares : machine_of_text text ≡ Ok on
   pub recorded : IsRecordedBy job on lines list status
 
--- What a job that records did: the record and the lines were written, each once, and nothing was
+-- A job recorded its run: the record and the lines were each written once, and nothing was
 -- reported.
 abbrev pub IsRecordDone : Job → (machine : Result (List ℕ) ErrorKind → Type 0) →
     (keeps out : List ℕ → Bool → Type 0) → (keeps_faults : Type 0) → (status : ℕ) → Type 0
@@ -60,16 +59,16 @@ abbrev pub IsUnwritten : (name : List ℕ) → Fault → Type 0
 IsUnwritten name (fault.Unwritten file) = file.now ≡ name
 IsUnwritten name _ = ⊥
 
--- Why a record was not written: all of it was made, and its file took not all of it.
+-- Why a record was not written: all of it was made, but its file did not take all of it.
 abbrev pub IsRecordFault : Job → (machine : Result (List ℕ) ErrorKind → Type 0) →
     (keeps : (name : List ℕ) → List ℕ → Bool → Type 0) → Fault → Type 0
 IsRecordFault job machine keeps f =
     IsSomeAnd (record_of job) (λ name. (lines : List ℕ) × (list : List ℕ) × (status : ℕ)
     × IsMade job machine lines list status × keeps name list false × IsUnwritten name f)
 
--- What a job that records did that has status 1: nothing was written at all, and its fault was
--- reported; or the record was not written whole, and nothing else was, and that was reported; or
--- the record was, and its lines were not, which was reported.
+-- A job that records ended with status 1. Either nothing was written, and its fault was reported.
+-- Or the record was not written whole, and only that was reported. Or the record was written and
+-- the lines were not, which was reported.
 abbrev pub IsNotRecorded : Job → (machine : Result (List ℕ) ErrorKind → Type 0) →
     (keeps : List ℕ → Bool → Type 0) → (keeps_file : Type 0) → (out : List ℕ → Bool → Type 0) →
     (keeps_out : Type 0) → (faults : List ℕ → Bool → Type 0) → Type 0

@@ -1,4 +1,4 @@
--- What words that ask for no job come to.
+-- How words that ask for no job are answered.
 use Rattle.std.specs.Prelude.{◌≡◌, ◌⊎◌, ℕ, Bool, true, false, List}
 use Rattle.std.specs.String.{string_bytes}
 use Rattle.l4_commands.specs.declared.words.WordsFault.{WordsFault}
@@ -6,9 +6,9 @@ use Rattle.l4_commands.specs.declared.words.WordsFault.TheVariants.{Help, Usage,
 use Rattle.l4_jobs.specs.FaultLines.{IsReported}
 use Rattle.l4_jobs.specs.declared.fault.Fault.TheVariants as fault
 
--- They are answered once and on one stream: the help is written to the output with status 0, or
--- where that fails, that is reported with status 1; the usage is written to the faults with status
--- 2; want of memory is reported with status 1.
+-- One answer is written, to one stream. Help goes to the output with status 0; where that fails, it
+-- is reported with status 1. Usage goes to the faults with status 2. Refused memory is reported
+-- with status 1.
 abbrev pub Refuses : WordsFault → (out : List ℕ → Bool →
     Type 0) (keeps_out : Type 0) (faults : List ℕ → Bool → Type 0) (keeps_faults : Type 0) →
     (status : ℕ) → Type 0

@@ -21,8 +21,8 @@ question_of e = record {
   none = e.none;
 }
 
--- What is printed of a search: the answer, and where that is asked for, behind each ending who
--- waits for whom there. Nothing is expected of them.
+-- What a search without expectations prints: the answer, and behind each ending who waits for whom,
+-- where that is asked for.
 abbrev pub IsFound : (waits : Bool) → Machine → Question → (lines : List ℕ) → (status : ℕ) → Type 0
 IsFound false m q lines status = IsAnswered m q lines status
 IsFound true m q lines status =

@@ -1,4 +1,4 @@
--- What is read and written, as far as a reader and a writer of bytes tell.
+-- What is read and written, as far as the contracts of byte readers and writers tell.
 use Rattle.std.specs.Prelude.{◌≡◌, ◌⊎◌, ℕ, Bool, true, false, Option, Some, None, Result, Ok, Err, List, ◌++◌}
 use Rattle.std.specs.Io.KnownBytes.{Appends}
 use Rattle.std.specs.declared.io.ErrorKind.{ErrorKind}
@@ -11,7 +11,7 @@ abbrev pub IsGiven : (known : Option (List ℕ)) → (text : List ℕ) → Type 
 IsGiven None text = Unit {0}
 IsGiven (Some bytes) text = text ≡ bytes
 
--- What reading it to its end may come to. A reader of bytes does not tell whether a read fails.
+-- What reading to the end may give. A reader of bytes does not tell whether a read fails.
 abbrev pub MayGive : (known : Option (List ℕ)) → Result (List ℕ) ErrorKind → Type 0
 MayGive known (Ok text) = IsGiven known text
 MayGive known (Err kind) = Unit {0}
@@ -45,7 +45,7 @@ FileGives {File} opens gives name (Ok text) = (file : File) × opens name (Ok fi
 FileGives {File} opens gives name (Err kind) = opens name (Err kind) ⊎
     ((file : File) × opens name (Ok file) × gives file (Err kind))
 
--- What reading what was opened may come to.
+-- What reading an opened file or input may give.
 abbrev pub OpenedGives : {File Input : Type 0} →
     (file : File → Result (List ℕ) ErrorKind → Type 0) →
     (input : Input → Result (List ℕ) ErrorKind → Type 0) → Opened File Input →
@@ -53,8 +53,8 @@ abbrev pub OpenedGives : {File Input : Type 0} →
 OpenedGives file input (FileOpened f) read = file f read
 OpenedGives file input (InputOpened i) read = input i read
 
--- What opening a name may give where `-` is that of an input: this input, which is always there.
--- All others are those of files.
+-- What opening a name may give, where `-` names an input that is always there. All other names are
+-- those of files.
 abbrev pub OpensWithInput : {File Input : Type 0} →
     (opens : List ℕ → Result File ErrorKind → Type 0) → Input → (name : List ℕ) →
     Result (Opened File Input) ErrorKind → Type 0

@@ -1,4 +1,4 @@
-//! The audit of the text of a trace, and its line.
+//! The audit of a trace, and the line that it prints.
 ghost use Rattle.std.specs.Prelude.{◌≡◌, ◌⊎◌, ◌++◌, ℕ, List, false, true, length, IfOk, IfErr, Ok, Some};
 ghost use Rattle.l4_jobs.specs.Audits.{HasPassed, fault_behind, passed_line, tells_refusals};
 ghost use Rattle.l4_jobs.specs.ChartJobs.{fault_of_lines, refused_of_steps};
@@ -34,12 +34,12 @@ pub struct PassedTrace {
     pub ending: Ending,
 }
 
-/// Audits the text of a trace. Each step is judged as it is read, and none is kept.
+/// Audits the text of a trace. It judges each step as it reads it, and keeps none.
 ///
-/// `Trace`: this line, counted from 1, is the first that spells no step, or has no line end, also
-/// where a step before it is not possible: the text is read to its end in any case. `Refused`: no
-/// line is faulty, and this step, counted from 1, is the first that is not possible. `NoMemory`
-/// only where memory was refused; then it says nothing of the text.
+/// `Trace`: this line, counted from 1, is the first that spells no step or has no line end. The
+/// text is read to its end even where an earlier step is not possible.
+/// `Refused`: no line is faulty, and this step, counted from 1, is the first that is not possible.
+/// `NoMemory`: memory was refused, which says nothing about the text.
 pub fn audit_text<'a>(
     alloc: Global,
     machine: &Machine,
@@ -64,7 +64,7 @@ pub fn audit_text<'a>(
     })
 }
 
-// The fault of a text of which a step was refused: a faulty line after it comes first.
+// The fault of a trace with a refused step. A faulty line after that step comes first.
 fn fault_behind<'a>(reader: Reader<'_>, refused: StepFault) -> Fault<'a>
     ensures { result ≡ fault_behind reader.entry refused }
 {
@@ -80,8 +80,8 @@ fn fault_behind<'a>(reader: Reader<'_>, refused: StepFault) -> Fault<'a>
     }
 }
 
-// What is printed of the audit of a trace that passes, where no refused step is told of. Its steps
-// are kept only where something is asked for behind its line.
+// What an audit prints without `--report` and `--explain`. It keeps the steps only where `--waits`
+// or `--counts` needs them.
 pub(crate) fn audited<'a>(
     alloc: Global,
     machine: &Machine,
@@ -103,8 +103,8 @@ pub(crate) fn audited<'a>(
     Ok(lines)
 }
 
-// What is printed of steps that are all possible: the line of the audit, what was told of them, and
-// what is asked for behind that.
+// What is printed where all steps are possible: the line of the audit, its report, and what is
+// asked for behind that.
 fn passed_lines(
     alloc: Global,
     machine: &Machine,
@@ -124,7 +124,7 @@ fn passed_lines(
     Ok(lines)
 }
 
-// What the audit of a history prints, where a refused step is told of.
+// What an audit with `--report` or `--explain` prints of a history.
 fn told(
     alloc: Global,
     machine: &Machine,
@@ -157,7 +157,7 @@ fn told(
     }
 }
 
-// What the audit of a trace prints, where a refused step is told of. Its steps are kept.
+// What an audit with `--report` or `--explain` prints of a trace. It keeps the steps.
 pub(crate) fn told_output<'a>(
     alloc: Global,
     machine: &Machine,

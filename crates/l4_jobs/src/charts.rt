@@ -27,7 +27,7 @@ use l4_types::errors::NoMemory;
 use l4_types::ids::GlobalId;
 use std::alloc::Global;
 
-// As wide as a terminal that does not say how wide it is.
+// The width in columns, where neither the job nor the terminal tells one.
 const DEFAULT_WIDTH: usize = 80;
 
 // The threads that are shown, where there is a list of them.
@@ -47,7 +47,7 @@ fn listed_threads<'a>(
     }
 }
 
-// The same threads, looked at.
+// The same threads, borrowed.
 fn list_of<'v>(threads: &'v Option<Vec<GlobalId>>) -> Option<&'v [GlobalId]>
     ensures { option_copied result ≡ option_map (λ listed. listed.items) threads.now }
 {
@@ -57,7 +57,7 @@ fn list_of<'v>(threads: &'v Option<Vec<GlobalId>>) -> Option<&'v [GlobalId]>
     }
 }
 
-// For how many columns a text is laid out.
+// The width of a text in columns.
 fn width_of(chart: &ChartJob<'_>) -> usize
     ensures { result ≡ width_of chart.now }
 {
@@ -130,7 +130,7 @@ fn drawn(
     })
 }
 
-// What the chart of the trace in the file of its name prints.
+// What a chart prints, for the trace that its source gives.
 pub(crate) fn chart_output<'a, T: Source>(
     alloc: Global,
     machine: &Machine,

@@ -1,4 +1,4 @@
-//! Doing a job of which something is expected.
+//! Doing a job with expectations.
 ghost use Rattle.std.specs.Prelude.{◌≡◌, ◌≢◌, ◌⊎◌, ℕ, List, IfOk, IfErr, Ok, Some, map, true};
 ghost use Rattle.l4_model.specs.History.{IsHistory};
 ghost use Rattle.l4_model.specs.Machine.{Machine as ModelMachine};
@@ -35,7 +35,7 @@ use l4_types::errors::NoMemory;
 use std::alloc::Global;
 use std::thread::Threads;
 
-// What is printed, what is told of the expectations, and the exit status.
+// The lines that are printed, the expectations that are not met, and the exit status.
 #[derive(Drop)]
 struct Verdict {
     lines: Vec<u8>,
@@ -43,14 +43,14 @@ struct Verdict {
     status: u8,
 }
 
-// The exit status, where that of the run is this.
+// The exit status of a job with expectations, by that of its run.
 fn status_of(are_met: bool, status: u8) -> u8
     ensures { result ≡ expected_status are_met status }
 {
     if are_met { status } else { 4 }
 }
 
-// What is printed of an outcome, and what it does not meet. Its report is judged in any case.
+// The verdict on an outcome. The report is judged even where it is not printed.
 fn verdict_on(
     alloc: Global,
     printed: Printed,
@@ -79,7 +79,7 @@ fn verdict_on(
     })
 }
 
-// What comes of a run.
+// The verdict on a run.
 fn run_verdict<'a, R: Threads + Sync>(
     rt: &R,
     alloc: Global,
@@ -98,7 +98,7 @@ fn run_verdict<'a, R: Threads + Sync>(
     Ok(verdict_on(alloc, printed, machine, outcome, expected)?)
 }
 
-// What comes of a replay.
+// The verdict on a replay.
 fn replay_verdict<'a, L: Source>(
     alloc: Global,
     machine: &Machine,
@@ -120,7 +120,7 @@ fn replay_verdict<'a, L: Source>(
     Ok(verdict_on(alloc, printed, machine, outcome, expected)?)
 }
 
-// What comes of a search, of which each ending that is printed has to meet the expectations.
+// The verdict on a search. Each ending that is printed has to meet the expectations.
 fn search_verdict<'a, P: Progress>(
     alloc: Global,
     machine: &Machine,
@@ -147,7 +147,7 @@ fn search_verdict<'a, P: Progress>(
     })
 }
 
-// What comes of a job on a machine.
+// The verdict on a job for a machine.
 fn verdict_of<'a, R: Threads + Sync, L: Source, P: Progress>(
     rt: &R,
     alloc: Global,
@@ -177,7 +177,7 @@ fn verdict_of<'a, R: Threads + Sync, L: Source, P: Progress>(
     }
 }
 
-// Whose reports have to meet them.
+// Whether the report of one run or those of all endings have to meet the expectations.
 fn scope_of(course: &Course<'_>) -> Scope
     ensures { result ≡ scope_of course.now }
 {
@@ -187,7 +187,7 @@ fn scope_of(course: &Course<'_>) -> Scope
     }
 }
 
-// The same by a text of expectations, which is judged before the job.
+// The verdict by a text of expectations, which is parsed before the job begins.
 fn verdict_by<'a, R: Threads + Sync, L: Source, P: Progress>(
     rt: &R,
     alloc: Global,
@@ -210,7 +210,7 @@ fn verdict_by<'a, R: Threads + Sync, L: Source, P: Progress>(
     verdict_of(rt, alloc, course, machine, &expected, list, progress)
 }
 
-// The same for what the reader of the expectations gives.
+// The verdict by the expectations that their source gives.
 fn verdict_for<'a, R: Threads + Sync, L: Source, X: Source, P: Progress>(
     rt: &R,
     alloc: Global,
@@ -236,7 +236,7 @@ fn verdict_for<'a, R: Threads + Sync, L: Source, X: Source, P: Progress>(
     verdict_by(rt, alloc, course, machine, asked.as_slice(), list, progress)
 }
 
-// The same for a machine text, which is judged first.
+// The verdict on a machine text, which is parsed before the expectations are read.
 fn verdict_on_text<'a, R: Threads + Sync, L: Source, X: Source, P: Progress>(
     rt: &R,
     alloc: Global,
@@ -261,7 +261,7 @@ fn verdict_on_text<'a, R: Threads + Sync, L: Source, X: Source, P: Progress>(
     verdict_for(rt, alloc, expecting, &machine, list, expectations, progress)
 }
 
-// The same for what all readers give.
+// The verdict on what all sources give.
 fn judge<'a, R: Threads + Sync, M: Source, L: Source, X: Source, P: Progress>(
     rt: &R,
     alloc: Global,
@@ -282,7 +282,7 @@ fn judge<'a, R: Threads + Sync, M: Source, L: Source, X: Source, P: Progress>(
     verdict_on_text(rt, alloc, expecting, text, list, expectations, progress)
 }
 
-// Writes what does not hold.
+// Writes which expectations are not met.
 fn tell<E: Sink>(faults: &mut E, told: &[u8])
     ensures { IsSaidOf told.now (E.takes faults.old faults.new) (faults.new ≡ faults.old) }
 {
@@ -292,13 +292,16 @@ fn tell<E: Sink>(faults: &mut E, told: &[u8])
     }
 }
 
-/// Does a job of which something is expected, and returns the exit status: 4 where a report does
-/// not meet the expectations, or a search found what it should not; else that of the job, or 1
-/// where a fault was reported instead. What is printed is what is printed without expectations. A
-/// report is judged, whether it is printed or not. What does not hold is written to `faults`, once,
-/// behind it. The machine text is judged before anything is read of the expectations, and these
-/// before the turns, the list or the limits of a search. All of it is made whole before anything is
-/// written. Of a search the listener hears how far it has come, and that it has ended.
+/// Does a job with expectations, and returns the exit status. It is 4 where a report does not meet
+/// the expectations, or a search found what it should not. Else it is that of the job, or 1 where a
+/// fault was reported.
+///
+/// It prints what the job prints without expectations, and judges a report whether it is printed or
+/// not. Behind that it writes to `faults`, once, which expectations are not met.
+///
+/// The machine text is judged before the expectations are read, and these before the turns, the
+/// list or the limits of a search. Everything is made before anything is written. In a search,
+/// `progress` hears how far the search has come, and that it has ended.
 pub fn perform_expected<
     R: Threads + Sync,
     M: Source,

@@ -1,4 +1,4 @@
-//! Doing a job of which something is expected over the files that it names.
+//! Doing a job with expectations over the files that it names.
 ghost use Rattle.std.specs.Prelude.{◌≡◌, ◌≢◌, ◌⊎◌};
 ghost use Rattle.l4_commands.specs.Files.{list_file_of};
 ghost use Rattle.l4_jobs.specs.Expecting.{IsExpectDone, IsExpectOpened, IsExpectStatus};
@@ -55,7 +55,7 @@ fn on_list<R: Threads + Sync, F: Folder, M: Source, L: Source, W: Sink, E: Sink,
     }
 }
 
-// Opens the list before, where it is in a file.
+// Opens the list, where it is in a file, and then goes on with the expectations.
 fn on_text<R: Threads + Sync, F: Folder, M: Source, W: Sink, E: Sink, P: Progress>(
     rt: &R,
     alloc: Global,
@@ -95,9 +95,9 @@ fn on_text<R: Threads + Sync, F: Folder, M: Source, W: Sink, E: Sink, P: Progres
     }
 }
 
-/// Opens the files of a job of which something is expected: that of the machine text, that of a
-/// list, and that of the expectations, all before it reads anything. Then it does the job. The exit
-/// status is that of `perform_expected`, and 1 where a file can't be opened.
+/// Opens the files of a job with expectations, and does the job. It opens the machine text, the
+/// list and the expectations, in this order, before it reads anything. The exit status is that of
+/// `perform_expected`, or 1 where a file can't be opened.
 pub fn perform_expected_on_files<R: Threads + Sync, F: Folder, W: Sink, E: Sink, P: Progress>(
     rt: &R,
     alloc: Global,

@@ -12,8 +12,8 @@ use l4_types::errors::NoMemory;
 use l4_waits::lines::write_waits_after;
 use std::alloc::Global;
 
-/// Appends what is asked for of the steps of a history: who waits for whom once they are done, and
-/// then what each thread did.
+/// Appends what is asked for about the steps of a history: who waits for whom behind them, and then
+/// what each thread did.
 pub(crate) fn write_extras(
     alloc: Global,
     extras: Extras,

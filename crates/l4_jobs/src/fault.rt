@@ -33,8 +33,8 @@ pub enum Fault<'a> {
         /// What is wrong there.
         kind: TextFaultKind,
     },
-    /// The number of turns is 0 or above 1,000,000, or the list of a schedule has more than
-    /// 1,000,000 items, or the file that it is in more than 1,000,015, or more than 32 MiB.
+    /// The number of turns is 0 or above 1,000,000, or a schedule is too long. Without a file, that
+    /// is above 1,000,000 items. In a file, it is above 1,000,015 items or 32 MiB.
     Turns,
     /// The depth of a search is 0 or above 1,000,000.
     Depth,
@@ -206,8 +206,8 @@ pub(crate) fn line_of(alloc: Global, fault: &Fault<'_>) -> Result<String, AllocE
     format!(in alloc; "l4run: {fault}\n")
 }
 
-/// Writes the line of a fault and returns the exit status of a fault, 1. Where there is no memory
-/// for the line, it writes that of `NoMemory`.
+/// Writes the line of a fault and returns the exit status 1. If memory for the line is refused, it
+/// writes that of `NoMemory`.
 pub fn report<E: Sink>(alloc: Global, faults: &mut E, fault: &Fault<'_>) -> u8
     ensures told { IsReported (E.takes faults.old faults.new) fault.now }
     ensures status { result ≡ 1 }

@@ -106,7 +106,7 @@ fn on_machine<R: Threads + Sync, F: Folder, M: Source, W: Sink, E: Sink, P: Prog
     }
 }
 
-// Does a job whose machine text was opened, or says what is wrong there.
+// Does a job whose machine text was opened, or lints that text.
 fn on_opened<R: Threads + Sync, F: Folder, M: Source, W: Sink, E: Sink, P: Progress>(
     rt: &R,
     alloc: Global,
@@ -142,11 +142,13 @@ fn on_opened<R: Threads + Sync, F: Folder, M: Source, W: Sink, E: Sink, P: Progr
     }
 }
 
-/// Opens the files of a job, FILE before the trace or the list of a schedule, and both before it
-/// reads anything. Then it does the job. A run is recorded where the job asks for it: what is
-/// printed and what is recorded are made whole, then the file is created and written, and then the
-/// lines are. The exit status is that of `perform` or `perform_recorded`, and 1 where a file can't
-/// be opened.
+/// Opens the files of a job, and does the job. It opens FILE, and then the trace or the list of a
+/// schedule, before it reads anything.
+///
+/// A job may ask to record its run. Then the lines and the record are made whole, the record's file
+/// is created and written, and then the lines are written.
+///
+/// The exit status is that of `perform` or `perform_recorded`, or 1 where a file can't be opened.
 pub fn perform_on_files<R: Threads + Sync, F: Folder, W: Sink, E: Sink>(
     rt: &R,
     alloc: Global,
@@ -180,8 +182,8 @@ pub fn perform_on_files<R: Threads + Sync, F: Folder, W: Sink, E: Sink>(
     perform_on_files_heard(rt, alloc, folder, job, out, faults, &mut Unheard)
 }
 
-/// Does a job over files as `perform_on_files` does it. Where it is a search for endings, the
-/// listener hears how far it has come, and that it has ended before anything is written.
+/// Does a job over files as `perform_on_files` does it. In a search for endings, `progress` hears
+/// how far the search has come. It hears that the search has ended before anything is written.
 pub fn perform_on_files_heard<R: Threads + Sync, F: Folder, W: Sink, E: Sink, P: Progress>(
     rt: &R,
     alloc: Global,

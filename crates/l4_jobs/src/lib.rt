@@ -1,19 +1,20 @@
 //! The program `l4run` without its streams: it reads the words of a command line, and does what
 //! they ask for.
 //!
-//! `job_of` reads words, `perform` does a job over two sources and two sinks, `perform_recorded` a
-//! run that is recorded in a third sink, `perform_on_files` opens its files first.
-//! `perform_expected` judges what is expected of a job, `perform_list_lint` a list beside its text,
-//! and what ends in `_on_files` opens their files. Contracts see bytes: the lines written once are
-//! exactly the trace, report or verdict that the job asks for, with who waits for whom and what
-//! each thread did behind it where that is asked for, or what is told of a step that is not
-//! possible; else one fault line is written, and the status is 1. By what is recorded a replay is
-//! that run. They also say which file is which, and which fault comes first. What the `.._heard` of
-//! these tell their listener of a search, none says.
+//! `job_of` reads the words. `perform` does a job over two sources and two sinks, and
+//! `perform_recorded` also records a run in a third sink. `perform_expected` judges what a job
+//! expects, and `perform_list_lint` a list beside its text. The variants with `_on_files` open the
+//! files first.
 //!
-//! What the system's files and streams do is believed in `streams` and tried by
-//! `.ci/command-lines`. `l4_host_tests` has streams that fail and refused memory, `l4_cases` what
-//! each command prints.
+//! Contracts speak of bytes. The lines are written once: exactly the trace, report or verdict that
+//! the job asks for, and what it asks for behind that. Else one line of a fault is written, and the
+//! status is 1. Contracts also say which file is which, and which fault comes first. A replay of a
+//! record repeats the recorded run. No contract says what the variants with `_heard` tell their
+//! listener of a search.
+//!
+//! `streams` assumes what the system's files and streams do, and `.ci/command-lines` tries it.
+//! `l4_host_tests` tries streams that fail, and refused memory. `l4_cases` has what each command
+//! prints.
 //!
 //! ```rust
 //! let job = job_of(alloc, &["l4run", "run", "examples/first.l4"])?;

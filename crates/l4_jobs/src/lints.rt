@@ -1,4 +1,4 @@
-//! Saying all that is wrong in a machine text.
+//! Reporting all faults of a machine text.
 ghost use Rattle.std.specs.Prelude.{◌≡◌, [], ℕ, List, None, IfOk, IfErr, Ok};
 ghost use Rattle.l4_lint.specs.Doubts.{doubts_of, doubts_text};
 ghost use Rattle.l4_lint.specs.Faults.{faults_of};
@@ -13,7 +13,7 @@ use l4_lint::printed::Lint;
 use l4_types::errors::NoMemory;
 use std::alloc::Global;
 
-// What is said of what the reader gives.
+// The lint of the text that the source gives.
 fn linted<'a, M: Source>(alloc: Global, name: &'a str, machine: &mut M) -> Result<Lint, Fault<'a>>
     ensures ok { IfOk result (λ lint. (text : List ℕ) × M.gives machine.old (Ok text) ×
         IsLintOf text lint.lines.items lint.status) }
@@ -23,7 +23,7 @@ fn linted<'a, M: Source>(alloc: Global, name: &'a str, machine: &mut M) -> Resul
     Ok(lint_with_doubts(alloc, text.as_slice())?)
 }
 
-// What is printed of a text without a fault: all that is doubtful there.
+// What is printed for a text without a fault: all that is doubtful in it.
 pub(crate) fn doubts_output(alloc: Global, text: &[u8]) -> Result<Output, NoMemory>
     requires { faults_of text.now ≡ [] }
     ensures lines { IfOk result (λ output.
@@ -38,7 +38,7 @@ pub(crate) fn doubts_output(alloc: Global, text: &[u8]) -> Result<Output, NoMemo
     })
 }
 
-// Prints what is said, and returns the exit status.
+// Prints a lint, and returns the exit status.
 pub(crate) fn said<W: Sink, E: Sink>(alloc: Global, lint: &Lint, out: &mut W, faults: &mut E) -> u8
     ensures { IsSaid lint.now.lines.items lint.now.status result (W.takes out.old out.new)
         (faults.new ≡ faults.old) (E.takes faults.old faults.new) }
@@ -49,10 +49,10 @@ pub(crate) fn said<W: Sink, E: Sink>(alloc: Global, lint: &Lint, out: &mut W, fa
     }
 }
 
-/// Says all that is wrong in a machine text, a line for each fault, and returns the exit status: 0
-/// where nothing is wrong, 1 where something is. Where nothing is, it says what is doubtful. The
-/// lines are written once. Where the text can't be read, the output can't be written or memory is
-/// refused, that is reported with status 1.
+/// Reports all faults of a machine text, a line for each, and returns the exit status: 1 where
+/// there is one, else 0. Where there is none, it tells what is doubtful. It writes the lines once.
+/// If the text can't be read, the output can't be written or memory is refused, it reports that
+/// with status 1.
 pub fn perform_lint<M: Source, W: Sink, E: Sink>(
     alloc: Global,
     file: &str,

@@ -1,4 +1,4 @@
-//! Saying all that is wrong in a machine text, and in a list of items for its machine.
+//! Reporting all faults of a machine text, and of a list of items for its machine.
 ghost use Rattle.std.specs.Prelude.{◌≡◌, ◌==◌, ◌++◌, ◌⊎◌, ℕ, List, IfOk, IfErr, Ok, Err, length};
 ghost use Rattle.std.specs.Prelude.{if◌then◌else◌};
 ghost use Rattle.std.specs.declared.io.ErrorKind.{ErrorKind as Kind};
@@ -24,7 +24,7 @@ use l4_schedules::faulty::{write_file_faults, write_list_faults};
 use l4_script::machine::Machine;
 use std::alloc::Global;
 
-// Appends the faults of the list in the file of this name, and says whether it has none.
+// Appends the faults of the list in the file of this name, and returns whether it has none.
 fn write_named_faults<'a, L: Source>(
     alloc: Global,
     machine: &Machine,
@@ -42,7 +42,7 @@ fn write_named_faults<'a, L: Source>(
     Ok(write_file_faults(alloc, machine, text.as_slice(), lines)?)
 }
 
-// Appends the faults of a list for this machine, and says whether it has none.
+// Appends the faults of a list for this machine, and returns whether it has none.
 fn write_asked_faults<'a, L: Source>(
     alloc: Global,
     machine: &Machine,
@@ -71,7 +71,7 @@ fn list_status(none: bool) -> u8
     if none { 0 } else { 1 }
 }
 
-// What is said of a text and of a list. A text with a fault declares no machine to judge it for.
+// The lint of a text and of a list. A list is judged only where the text declares a machine.
 fn list_linted<'a, L: Source>(
     alloc: Global,
     lint: &ListLint<'a>,
@@ -94,7 +94,7 @@ fn list_linted<'a, L: Source>(
     Ok(said)
 }
 
-// The same for what the readers give.
+// The lint of what the sources give.
 fn all_linted<'a, M: Source, L: Source>(
     alloc: Global,
     lint: &ListLint<'a>,
@@ -111,9 +111,9 @@ fn all_linted<'a, M: Source, L: Source>(
     list_linted(alloc, lint, text.as_slice(), list)
 }
 
-/// Says all that is wrong in a machine text, as `perform_lint` does, and behind that in a list of
-/// items for its machine, where the text has no fault. The status is 1 where something is wrong in
-/// one of them. A list in a file is read where there is a machine to judge it for.
+/// Reports all faults of a machine text, as `perform_lint` does. Where it has none, it reports
+/// those of a list of items for its machine behind what is doubtful. Only then it reads a list in a
+/// file. The status is 1 where either has a fault.
 pub fn perform_list_lint<M: Source, L: Source, W: Sink, E: Sink>(
     alloc: Global,
     lint: &ListLint<'_>,
@@ -134,7 +134,7 @@ pub fn perform_list_lint<M: Source, L: Source, W: Sink, E: Sink>(
     }
 }
 
-// Opens the list, where it is in a file, and says what is wrong.
+// Opens the list, where it is in a file, and lints both.
 fn on_lint_text<F: Folder, M: Source, W: Sink, E: Sink>(
     alloc: Global,
     folder: &F,
@@ -160,9 +160,8 @@ fn on_lint_text<F: Folder, M: Source, W: Sink, E: Sink>(
     }
 }
 
-/// Opens the file of the machine text and then that of the list, where it is in one, before it
-/// reads anything. Then it says what is wrong, as `perform_list_lint`. The status is 1 where a file
-/// can't be opened.
+/// Opens the machine text, and then the list where it is in a file, before it reads anything. Then
+/// it does what `perform_list_lint` does. The status is 1 where a file can't be opened.
 pub fn perform_list_lint_on_files<F: Folder, W: Sink, E: Sink>(
     alloc: Global,
     folder: &F,

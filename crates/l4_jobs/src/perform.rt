@@ -42,8 +42,8 @@ use l4_types::reports::Ending;
 use std::alloc::Global;
 use std::thread::Threads;
 
-/// What a job prints, its exit status, and the first step of a trace that is not possible, where
-/// something is printed of it.
+/// What a job prints, its exit status, and the first step of a trace that is not possible, if
+/// anything is printed of that trace.
 #[derive(Drop)]
 pub(crate) struct Output {
     pub(crate) lines: Vec<u8>,
@@ -69,8 +69,8 @@ fn entries_in_file<'a, L: Source>(
     Ok(schedule_in_file(alloc, machine, text.as_slice())?)
 }
 
-// The entries of the schedule that is asked for: those of the list itself, or of that in the file
-// which it names.
+// The entries of the schedule that a job asks for, from its list or from the file that the list
+// names.
 pub(crate) fn asked_entries<'a, L: Source>(
     alloc: Global,
     machine: &Machine,
@@ -93,7 +93,7 @@ pub(crate) fn asked_entries<'a, L: Source>(
     }
 }
 
-// The outcome of the replay of entries of the machine.
+// The outcome of a replay of these entries on the machine.
 fn replayed<'m>(
     alloc: Global,
     machine: &'m Machine,
@@ -130,8 +130,8 @@ pub(crate) fn lines_of(
     Ok(lines)
 }
 
-// What is printed of an outcome. Where nothing is asked for behind its lines, its history stays as
-// it is kept.
+// What is printed of an outcome. Its compact history is expanded only where `--waits` or `--counts`
+// needs it.
 fn printed_lines(
     alloc: Global,
     printed: Printed,
@@ -200,7 +200,7 @@ fn run_output<'a, R: Threads + Sync>(
     Ok(output_of_run(alloc, printed, machine, outcome)?)
 }
 
-// The outcome of the replay of entries of the machine, with the rest where it goes on.
+// The outcome of a replay of these entries, which may go on in rounds.
 pub(crate) fn gone_on<'m>(
     alloc: Global,
     machine: &'m Machine,
@@ -243,7 +243,7 @@ fn replay_output<'a, L: Source>(
     Ok(output_of_run(alloc, printed, machine, outcome)?)
 }
 
-// What the audit of the trace in the file of this name prints.
+// What an audit prints, for the trace that its source gives.
 fn audit_output<'a, T: Source>(
     alloc: Global,
     machine: &Machine,
@@ -272,8 +272,8 @@ fn audit_output<'a, T: Source>(
     })
 }
 
-// What a job prints for a text that declares a machine. Only an audit and a chart read a trace, and
-// only a replay may read a list in its place.
+// What a job prints for the machine of a text. The source `trace` gives the trace of an audit or of
+// a chart, or the list of a replay.
 fn output_on<'a, R: Threads + Sync, T: Source, P: Progress>(
     rt: &R,
     alloc: Global,
@@ -306,7 +306,7 @@ fn output_on<'a, R: Threads + Sync, T: Source, P: Progress>(
         } => audit_output(alloc, machine, name, judged, trace),
         Job::Chart(chart) => chart_output(alloc, machine, &chart, trace),
         Job::Endings(search) => search_output(alloc, machine, &search, progress),
-        // A text with a fault did not come so far.
+        // A text with a fault is reported before this place.
         Job::Lint { .. } => Ok(doubts_output(alloc, text)?),
     }
 }
@@ -331,7 +331,7 @@ fn output_of<'a, R: Threads + Sync, T: Source, P: Progress>(
     output_on(rt, alloc, job, text, &machine, trace, progress)
 }
 
-// What a job prints for what its readers give.
+// What a job prints, for what its sources give.
 fn job_output<'a, R: Threads + Sync, M: Source, T: Source, P: Progress>(
     rt: &R,
     alloc: Global,
@@ -352,7 +352,7 @@ fn job_output<'a, R: Threads + Sync, M: Source, T: Source, P: Progress>(
     output_of(rt, alloc, job, text.as_slice(), trace, progress)
 }
 
-// What a job prints, and the line of a step that is not possible: all that is written.
+// All that is written: what a job prints, and the line of a step that is not possible.
 #[derive(Drop)]
 struct Prepared {
     output: Output,
@@ -369,7 +369,7 @@ fn refusal(alloc: Global, refused: Option<usize>) -> Result<Option<String>, NoMe
     }
 }
 
-// All that a job writes, for what its readers give.
+// All that a job writes, for what its sources give.
 fn prepare<'a, R: Threads + Sync, M: Source, T: Source, P: Progress>(
     rt: &R,
     alloc: Global,
@@ -395,7 +395,7 @@ fn prepare<'a, R: Threads + Sync, M: Source, T: Source, P: Progress>(
     })
 }
 
-// What is answered once the lines are written. A step that is not possible is reported then.
+// The exit status once the lines are written. It reports a step that is not possible.
 fn ended<E: Sink>(faults: &mut E, prepared: &Prepared) -> u8
     requires { option_map string_bytes prepared.now.refusal ≡ refusal_line prepared.now.output.refused }
     ensures { IsEnded prepared.now.output.refused prepared.now.output.status result
@@ -411,20 +411,26 @@ fn ended<E: Sink>(faults: &mut E, prepared: &Prepared) -> u8
     }
 }
 
-/// Does a job, and returns the exit status: 0 where a run came to rest, a trace passed or all of it
-/// was drawn, 3 where a run did not come to rest or a search was cut, 4 where a search found what
-/// it should not, 1 where a fault was reported instead. Where a step of a trace that is drawn is
-/// not possible, the steps before it are, and then the fault is reported. So it is where an audit
-/// is to tell of such a step: what it tells comes first. The machine text is judged before anything
-/// is read of the trace. An audit and a chart read a trace, and a replay whose list is in a file
-/// reads that list in its place. The output is made whole before any of it is written, and it is
-/// written once. A fault is reported by its one line. Nothing is recorded: `perform_recorded` does
-/// that. Nothing is expected: `perform_expected` does that. A text is only judged where all that is
-/// wrong in it is asked for, and what is doubtful is told: `perform_lint` tells the faults.
+/// Does a job, and returns the exit status.
+///
+/// 0: a run came to rest, or a trace passed or was drawn whole.
+/// 3: a run did not come to rest, or a search was cut.
+/// 4: a search found what it should not.
+/// 1: a fault was reported.
+///
+/// Where a step of a trace is not possible, a chart draws the steps before it, and then the fault
+/// is reported. An audit that is to tell of such a step prints that first.
+///
+/// The machine text is judged before the trace is read. An audit and a chart read a trace, and a
+/// replay whose list is in a file reads that list in its place. The output is made whole before any
+/// of it is written, and is written once. A fault is reported by one line.
+///
+/// Nothing is recorded and nothing is expected here: `perform_recorded` and `perform_expected` do
+/// that. Of a `Lint` only the doubts are printed: `perform_lint` reports the faults.
 ///
 /// In a run several processors may work at the same time, each in a host thread. So two runs of
 /// several processors may differ, and each is lawful. A replay does what the items of its schedule
-/// ask for, in their order. Each history that a run may have is that of some items.
+/// ask for, in their order. Each history that a run may have is that of some replay.
 pub fn perform<R: Threads + Sync, M: Source, T: Source, W: Sink, E: Sink>(
     rt: &R,
     alloc: Global,
@@ -453,8 +459,8 @@ pub fn perform<R: Threads + Sync, M: Source, T: Source, W: Sink, E: Sink>(
     perform_heard(rt, alloc, job, machine, trace, out, faults, &mut Unheard)
 }
 
-/// Does a job as `perform` does it. Where it is a search for endings, the listener hears how far it
-/// has come, and that it has ended before anything is written.
+/// Does a job as `perform` does it. In a search for endings, `progress` hears how far the search
+/// has come. It hears that the search has ended before anything is written.
 #[tactic(auto, using(crate::proofs::Shown::truly_done))]
 pub fn perform_heard<R: Threads + Sync, M: Source, T: Source, W: Sink, E: Sink, P: Progress>(
     rt: &R,

@@ -11,7 +11,7 @@ use l4_schedules::files::MOST_FILE_BYTES;
 use l4_script::text::MOST_BYTES;
 use std::alloc::Global;
 
-// What the file of this name has, at most so many bytes of it.
+// The first `most` bytes of the file of this name, or all where it has fewer.
 fn read_most<'a, S: Source>(
     alloc: Global,
     name: &'a str,
@@ -30,7 +30,7 @@ fn read_most<'a, S: Source>(
     }
 }
 
-// All that the file of this name has.
+// All bytes of the file of this name.
 pub(crate) fn read_all<'a, S: Source>(
     alloc: Global,
     name: &'a str,
@@ -46,8 +46,8 @@ pub(crate) fn read_all<'a, S: Source>(
     }
 }
 
-// The machine text of this name. Of one that is too long, one byte more than a text may have is
-// read.
+// The machine text in the file of this name. Where it is too long, one byte above the limit is
+// enough to tell.
 pub(crate) fn read_text<'a, M: Source>(
     alloc: Global,
     name: &'a str,
@@ -61,8 +61,8 @@ pub(crate) fn read_text<'a, M: Source>(
     read_most(alloc, name, machine, MOST_BYTES as u64 + 1)
 }
 
-// The text of the list in the file of this name. Of one that is too long, one byte more than it may
-// have is read.
+// The list in the file of this name. Where it is too long, one byte above the limit is enough to
+// tell.
 pub(crate) fn read_list<'a, L: Source>(
     alloc: Global,
     name: &'a str,

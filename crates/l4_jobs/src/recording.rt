@@ -1,4 +1,4 @@
-//! Recording a run: what it prints, and the list by which a replay is that very run.
+//! Recording a run: what it prints, and the list by which a replay repeats it.
 ghost use Rattle.std.specs.Prelude.{◌≡◌, ◌≢◌, ◌⊎◌, ℕ, List, IfOk, IfErr, Ok, Some};
 ghost use Rattle.l4_model.specs.Machine.{Machine as ModelMachine};
 ghost use Rattle.l4_script.specs.Texts.{machine_of_text};
@@ -21,7 +21,7 @@ use l4_script::machine::Machine;
 use std::alloc::Global;
 use std::thread::Threads;
 
-// What a recorded run prints, and what is recorded of it.
+// What a recorded run prints, and the list that is recorded.
 #[derive(Drop)]
 struct Made {
     output: Output,
@@ -66,7 +66,7 @@ fn made_of<'a, R: Threads + Sync>(
     made_on(rt, alloc, recording, &machine)
 }
 
-// What is printed and recorded for what the reader of the machine text gives.
+// What is printed and recorded for the machine text that the source gives.
 fn all_made<'a, R: Threads + Sync, M: Source>(
     rt: &R,
     alloc: Global,
@@ -82,11 +82,13 @@ fn all_made<'a, R: Threads + Sync, M: Source>(
     made_of(rt, alloc, recording, text.as_slice())
 }
 
-/// Does a run and records it, and returns the exit status: that of the run, or 1 where a fault was
-/// reported instead. What is printed and what is recorded are made whole, with all memory taken,
-/// before anything is written: so a fault leaves `list` as it was. Then the record is written into
-/// it, once, and then the lines, once. By the schedule in the record a replay has the very findings
-/// that are shown.
+/// Does a run, records it, and returns the exit status: that of the run, or 1 where a fault was
+/// reported.
+///
+/// All that is printed and recorded is made before anything is written, and all memory is taken by
+/// then. So such a fault leaves `list` as it was. Then the record is written to `list`, once, and
+/// then the lines are written, once. A replay of the record has exactly the findings that are
+/// shown.
 pub fn perform_recorded<R: Threads + Sync, M: Source, L: Sink, W: Sink, E: Sink>(
     rt: &R,
     alloc: Global,
@@ -118,8 +120,8 @@ pub fn perform_recorded<R: Threads + Sync, M: Source, L: Sink, W: Sink, E: Sink>
     }
 }
 
-/// On the machine of a run that was recorded, a replay of the record prints the lines that the run
-/// printed, and no others, and has its status.
+/// On the machine of a recorded run, a replay of the record prints exactly the lines that the run
+/// printed, and has its status.
 pub fn law_recorded()
     ensures { (printed : Printed) (m : ModelMachine) (turns : ℕ) (lines text others : List ℕ)
         (status other : ℕ) (list name : List ℕ) → list_name list ≡ Some name →

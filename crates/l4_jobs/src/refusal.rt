@@ -7,8 +7,8 @@ use crate::streams::Sink;
 use crate::words::WordsFault;
 use std::alloc::Global;
 
-/// Answers words that ask for no job, with the exit status: 0 where help was written, 1 where it
-/// could not be written or memory was refused, 2 for wrong usage.
+/// Answers words that ask for no job, and returns the exit status. It is 0 where help was written,
+/// and 2 for wrong usage. It is 1 where help could not be written or memory was refused.
 pub fn refuse<W: Sink, E: Sink>(
     alloc: Global,
     fault: &WordsFault,

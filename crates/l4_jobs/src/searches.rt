@@ -29,7 +29,7 @@ pub(crate) fn question_of<'a>(search: &EndingsJob<'a>) -> Question<'a>
     }
 }
 
-// The answer alone.
+// The answer without who waits for whom.
 fn answer_output<P: Progress>(
     alloc: Global,
     machine: &Machine,
@@ -50,7 +50,7 @@ fn answer_output<P: Progress>(
     })
 }
 
-// With who waits for whom behind each ending.
+// The answer with who waits for whom behind each ending.
 fn waits_output<P: Progress>(
     alloc: Global,
     machine: &Machine,

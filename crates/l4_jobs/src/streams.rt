@@ -1,5 +1,5 @@
-//! What a job reads and what it writes to: sources, sinks and where files are opened. Unlike std's
-//! readers and writers, their contracts also say when a call failed.
+//! What a job reads from and writes to: sources, sinks, and folders that open files. Unlike those
+//! of std's readers and writers, their contracts also say when a call failed.
 ghost use Rattle.std.specs.Prelude.{◌≡◌, ◌⊎◌, ℕ, Bool, List, take, true, false, Result, Ok, Err};
 ghost use Rattle.std.specs.Prelude.{IfOk, OnErr, MatchResult};
 ghost use Rattle.std.specs.declared.io.ErrorKind.{ErrorKind as Kind};
@@ -12,7 +12,7 @@ use std::fs;
 use std::io::{ErrorKind, Read, Write};
 use std::rt::Files;
 
-/// A source of a text.
+/// A source of a text. A failed read gives the kind of its error.
 pub trait Source {
     // What reading it to its end may give.
     ghost gives: { Self → Result (List ℕ) Kind → Type 0 };
@@ -145,8 +145,8 @@ impl<F: Source, I: Source> Source for Opened<F, I> {
     }
 }
 
-/// A folder where the name `-` is that of an input, as the standard input of a program. Words that
-/// name it twice ask for no job.
+/// A folder in which the name `-` stands for an input, such as the standard input. `job_of` refuses
+/// words that name it twice.
 #[derive(Clone, Copy)]
 pub struct WithInput<'a, F, I> {
     /// The folder.
@@ -179,7 +179,7 @@ impl<F: Folder, I: Source + Copy + Drop> Folder for WithInput<'_, F, I> {
     }
 }
 
-/// A new file of a folder. It is created where something is put into it, and not before.
+/// A new file of a folder. It is created only when something is put into it.
 #[derive(Clone, Copy)]
 pub struct NewFile<'a, F> {
     /// The folder.

@@ -1,4 +1,4 @@
-//! The trace of a run, written as its history tells the steps.
+//! Writing the trace of a run directly from its history.
 ghost use Rattle.std.specs.Prelude.{◌≡◌, ◌++◌, List, IfOk};
 ghost use Rattle.std.proofs.Common.{◌∙◌, ap, append-nil, append_assoc, sym};
 ghost use Rattle.std.proofs.lemmas.Grind.{flat_map-append};
@@ -11,7 +11,7 @@ use l4_trace::traces::TraceWriter;
 use l4_types::errors::NoMemory;
 use std::alloc::Global;
 
-// Writes the lines of the steps that it hears.
+// Writes a line for each step that the history passes to it.
 #[derive(Drop)]
 struct Writer {
     trace: TraceWriter,

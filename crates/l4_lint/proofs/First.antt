@@ -1,4 +1,4 @@
--- The first fault is the one that the reader of machine texts answers.
+-- The first fault is the one that the reader of machine texts returns.
 use Rattle.std.proofs.Common.{◌≡◌, ℕ, ◌+◌, Bool, true, false, cond, List, [], ◌∷◌, length, map, Option, Some, Result, Ok, Err, refl, sym, ap, ◌∙◌}
 use Rattle.std.specs.Prelude.{◌==◌, nat_lt, filter, find}
 use Rattle.l4_model.specs.Machine.{Machine}

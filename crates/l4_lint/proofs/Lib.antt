@@ -1,4 +1,9 @@
+pub mod Changes
 pub mod Doubting
 pub mod First
+pub mod Named
+pub mod Never
+pub mod Silent
 pub mod Sizes
 pub mod Steps
+pub mod Sure

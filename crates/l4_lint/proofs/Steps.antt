@@ -30,7 +30,7 @@ pub faults_last : (whole : List (List ℕ)) (rest : List ℕ) (r : Reader) (numb
     → faults_from whole (parts_of rest) r number ≡ cond (length rest == 0) (ended whole r.stage r.faulty number) (unended number rest ∷ [])
 faults_last whole rest r number e = ap (λ (ps : List (List ℕ)). faults_from whole ps r number) e
 
--- What is found and what follows, behind one line more.
+-- What was found, and what follows, behind one more line.
 pub going : (whole : List (List ℕ)) (line rest : List ℕ) (parts : List (List ℕ)) (r r' : Reader) (number : ℕ) (found found' total : List Fault) (on : Bool)
     → parts ≡ line ∷ parts_of rest → found ++ faults_from whole parts r number ≡ total
     → ((follow : Reader → List Fault) → found' ++ cond on (follow r') [] ≡ found ++ followed (step number r line) follow)

@@ -15,7 +15,7 @@ word_of line = before_first is_space line
 abbrev pub behind : (line : List ℕ) → List ℕ
 behind line = after_first is_space line
 
--- Where the first byte stands that is not printable ASCII.
+-- The place of the first byte that is not printable ASCII.
 abbrev pub bad_byte : (line : List ℕ) → Option ℕ
 bad_byte line = position (λ byte. not (nat_le 0x20 byte && nat_le byte 0x7e)) line
 
@@ -27,8 +27,8 @@ byte_hint number line byte =
     else (if byte == 9 then hints.Tab
     else hints.Unprintable))
 
--- How many bytes stand in front of the first space too many: one that stands in front of all words,
--- behind a space or behind all words.
+-- The number of bytes before the first surplus space: one in front of all words, behind a space or
+-- behind all words.
 abbrev pub clear : (spaced : Bool) → (line : List ℕ) → ℕ
 clear spaced [] = 0
 clear spaced (byte ∷ others) = if spaced && byte == 32 then 0 else 1 + clear (byte == 32) others

@@ -1,4 +1,4 @@
--- What the lines before say of a line.
+-- What the lines before a line say about it.
 use Rattle.std.specs.Prelude.{ℕ, Bool, not, ◌||◌, ◌==◌, if◌then◌else◌, length}
 use Rattle.l4_model.specs.Words.{Format, W64}
 use Rattle.l4_script.specs.Texts.{Stage, Start, Processors, Threads}
@@ -17,8 +17,8 @@ context which format cpus = record { lines = which; format = format; cpus = cpus
 abbrev pub lines_in : (begun : Bool) → Lines
 lines_in begun = if begun then these.Script else these.Thread
 
--- An instruction may stand behind a thread line, also behind a faulty one. Neither the first line
--- nor the second has a word of a format.
+-- An instruction may stand behind a `thread` line, even a faulty one. The first two lines have no
+-- words of a format.
 abbrev pub context_at : Stage → (lost : Bool) → Context
 context_at Start lost = context these.Format W64 0
 context_at (Processors heading) lost = context these.Processors heading.format 0

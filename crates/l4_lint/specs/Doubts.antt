@@ -1,8 +1,8 @@
--- What is doubtful in a text that declares a machine. Each doubt may be meant so.
+-- What is doubtful in a text that declares a machine. Each doubtful word may be intended.
 use Rattle.std.specs.Prelude.{ℕ, ◌+◌, ◌-◌, ◌/◌, ◌%◌, ◌^◌, ◌==◌, Bool, true, false, not, ◌&&◌, ◌||◌, nat_le, if◌then◌else◌, Option, Some, None, is_none, is_some, unwrap_or, Result, Ok, Err, List, [], ◌∷◌, ◌++◌, codes, flat_map, length, slice_get}
 use Rattle.std.specs.List.{list_any}
 use Rattle.std.specs.Str.{bytes_eq}
-use Rattle.l4_model.specs.Words.{GlobalId, Id, NilThread, GlobalThread, Period}
+use Rattle.l4_model.specs.Words.{GlobalId, Id, NilThread, Period}
 use Rattle.l4_model.specs.Machine.{Declaration, Instr, Copy, Tag, Vs, Ipc, Machine, place_of}
 use Rattle.l4_model.specs.Rules.{permitted}
 use Rattle.l4_words.specs.Lines.{parts_of}
@@ -13,20 +13,22 @@ use Rattle.l4_script.specs.Texts.{machine_of_text}
 use Rattle.l4_script.specs.declared.text.fault.TextFault.{TextFault}
 use Rattle.l4_lint.specs.declared.doubts.Doubt.{Doubt}
 use Rattle.l4_lint.specs.declared.doubts.Doubt.TheVariants.{NoThread, NoLimit, NotSent, NotPropagated}
+use Rattle.l4_lint.specs.declared.doubts.Mark.{Mark}
+use Rattle.l4_lint.specs.declared.doubts.Mark.TheVariants.{Always, Perhaps}
 use Rattle.l4_lint.specs.Bytes.{behind, word_of}
 use Rattle.l4_lint.specs.Faults.{faults_of}
 use Rattle.l4_lint.specs.Reading.{begins_script}
 use Rattle.l4_lint.specs.Spelling.{faults_text, place_text}
 
--- Its line and the column of its first byte, both counted from 1, the word that stands there, and
--- what is doubted.
+-- The line and the column of its first byte, both counted from 1, the word that stands there, and
+-- why it is doubtful.
 pub record Doubtful : Type 0 where
   pub line : ℕ
   pub column : ℕ
   pub word : List ℕ
   pub doubt : Doubt
 
--- The word with which the rest of a line begins is doubted, or it is not.
+-- The doubt about the first word of the rest of a line, where there is one.
 
 abbrev pub doubtful_at : (number : ℕ) → (line rest : List ℕ) → Doubt → Doubtful
 doubtful_at number line rest doubt =
@@ -41,7 +43,7 @@ abbrev pub doubted : Bool → Doubtful → List Doubtful
 doubted false d = []
 doubted true d = d ∷ []
 
--- An id that no thread has: what is sent there is refused, and nobody is received from.
+-- An id that no thread has, so a send to it or a receive from it is refused.
 
 abbrev pub is_no_thread : Machine → Option GlobalId → Bool
 is_no_thread m None = false
@@ -51,8 +53,8 @@ abbrev pub id_doubts : Machine → (number : ℕ) → (line rest : List ℕ) →
 id_doubts m number line rest =
     doubted (is_no_thread m (thread_of (word_of rest))) (doubtful_at number line rest NoThread)
 
--- An answer, to the last sender, whose send phase has no time limit: where the client does not wait
--- for it, the server waits.
+-- A send to the last sender, as the answer of a server, without time limit. If the client does not
+-- wait for it, the server is held up.
 
 abbrev pub is_endless : Judged Period → Bool
 is_endless (Ok None) = true
@@ -68,8 +70,8 @@ ipc_doubts m number line to =
     id_doubts m number line to ++ id_doubts m number line (behind to)
     ++ answer_doubts number line to (behind (behind to))
 
--- A register that is written, where no tag of the script sends it and nothing copies it. A script
--- that receives may send as many as its last message had.
+-- A register that is written, but neither sent by a tag of the script nor copied. A script that
+-- receives may send as many registers as its last message had.
 
 abbrev pub receives : Id → Bool
 receives NilThread = false
@@ -89,7 +91,7 @@ write_doubts d number line rest =
     doubted (not (list_any (uses (number_in rest)) d.script)) (doubtful_at number line rest NotSent)
 
 -- A tag that asks for propagation, by bit 12, where the script receives nothing and `vs` names no
--- thread of its address space. So the message is the sender's own.
+-- thread of its address space. The message is sent as the sender's own.
 
 abbrev pub asks_to_propagate : (word : ℕ) → Bool
 asks_to_propagate word = (word / 2 ^ 12) % 2 == 1
@@ -139,7 +141,7 @@ without_last (line ∷ next ∷ parts) = line ∷ without_last (next ∷ parts)
 abbrev pub lines_of : (text : List ℕ) → List (List ℕ)
 lines_of text = without_last (parts_of text)
 
--- The thread in whose script a line stands: the last of those that so many lines have begun.
+-- The thread whose script has a line: the one that the last `thread` line before it declares.
 abbrev pub thread_after : Machine → (begun : ℕ) → Option Declaration
 thread_after m begun = slice_get m.threads (begun - 1)
 
@@ -152,7 +154,7 @@ doubts_from m (line ∷ lines) begun number =
     line_doubts m (thread_after m begun) number line
     ++ doubts_from m lines (begun_behind begun line) (number + 1)
 
--- All doubts of a text, in order of its lines. Where a line is faulty, nothing is doubted.
+-- All doubts of a text, in order of its lines. A text with a faulty line has none.
 abbrev pub doubts_on : Result Machine TextFault → (lines : List (List ℕ)) → List Doubtful
 doubts_on (Err fault) lines = []
 doubts_on (Ok m) lines = doubts_from m lines 0 1
@@ -160,23 +162,35 @@ doubts_on (Ok m) lines = doubts_from m lines 0 1
 abbrev pub doubts_of : (text : List ℕ) → List Doubtful
 doubts_of text = doubts_on (machine_of_text text) (lines_of text)
 
--- What is printed of them: a line for each.
+-- How a doubt is marked. What `always` says is in `Says`.
+
+abbrev pub marked : Doubt → Mark
+marked NoThread = Always
+marked NotSent = Always
+marked NotPropagated = Always
+marked NoLimit = Perhaps
+
+abbrev pub mark_word : Mark → List ℕ
+mark_word Always = codes "always"
+mark_word Perhaps = codes "perhaps"
+
+-- What is printed for the doubts: a line for each.
 
 abbrev pub doubt_text : Doubt → List ℕ
-doubt_text NoThread = codes "no thread has this id"
+doubt_text NoThread = codes "no thread has this id; nothing reaches it or comes from it"
 doubt_text NoLimit = codes "an answer has no time limit; a server that must not wait says zero"
-doubt_text NotSent = codes "no tag of this script sends this register, and nothing copies it"
+doubt_text NotSent = codes "this register is never delivered, and nothing copies it"
 doubt_text NotPropagated =
-    codes "propagation is asked for, and vs names no thread of this address space"
+    codes "vs names no thread of this address space, so no message is propagated"
 
 abbrev pub doubt_line : Doubtful → List ℕ
 doubt_line d =
-    place_text d.line d.column ++ codes "perhaps: `" ++ d.word ++ codes "`: " ++ doubt_text d.doubt
-    ++ codes "\n"
+    place_text d.line d.column ++ mark_word (marked d.doubt) ++ codes ": `" ++ d.word ++ codes "`: "
+    ++ doubt_text d.doubt ++ codes "\n"
 
 abbrev pub doubts_text : List Doubtful → List ℕ
 doubts_text found = flat_map doubt_line found
 
--- All that is said of a text: its faults, or its doubts.
+-- What is printed for a text: its faults, or its doubts.
 abbrev pub lint_text : (text : List ℕ) → List ℕ
 lint_text text = faults_text (faults_of text) ++ doubts_text (doubts_of text)

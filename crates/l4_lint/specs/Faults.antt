@@ -19,8 +19,8 @@ use Rattle.l4_lint.specs.Forms.{line_place}
 use Rattle.l4_lint.specs.Places.{Place, placed, place_at}
 use Rattle.l4_lint.specs.Reading.{Reader, reader, judged, led_on, left_out, goes_on}
 
--- Its line, counted from 1 with the skipped ones (0 where it is in no line), its kind and its
--- place.
+-- The line, counted from 1 with the skipped ones (0 where the fault is of no line), the kind and
+-- the place.
 pub record Fault : Type 0 where
   pub line : ℕ
   pub kind : TextFaultKind
@@ -29,7 +29,7 @@ pub record Fault : Type 0 where
 abbrev pub fault : (line : ℕ) → TextFaultKind → Place → Fault
 fault line k at = record { line = line; kind = k; place = at }
 
--- The text ends in front of its first line or its second, the line of this number.
+-- The fault of a text that ends in front of its first or its second line, the line of this number.
 abbrev pub text_ends : (number : ℕ) → Stage → Fault
 text_ends number stage =
     fault number kinds.BadLine (placed 1 [] (hints.Begins (context_at stage false).lines))
@@ -47,7 +47,7 @@ missed_fault parts t =
     fault t.line kinds.BadTarget
     (line_place (context_at Start false) t.line (line_at parts t.line) kinds.BadTarget)
 
--- They are judged where no line is faulty: one that is left out would move the places behind it.
+-- Places are judged only where no line is faulty, as a line that is left out would shift them.
 abbrev pub missed_unless : (faulty : Bool) → (parts : List (List ℕ)) → texts.Reading → List Fault
 missed_unless faulty parts r =
     if faulty then [] else map (missed_fault parts) (filter (is_missed r.machine) r.targets)
@@ -60,7 +60,7 @@ ended parts stage faulty number = text_ends number stage ∷ []
 abbrev pub line_fault : (number : ℕ) → Reader → (line : List ℕ) → TextFaultKind → Fault
 line_fault number r line k = fault number k (line_place (context_at r.stage r.lost) number line k)
 
--- What comes behind a line, and its fault: a line leads on, or it is faulty and left out.
+-- The reader behind a line, and the fault of the line. A faulty line is left out.
 pub record Step : Type 0 where
   pub after : Reader
   pub found : Option Fault
@@ -100,7 +100,7 @@ faults_of text =
     if nat_lt 0x100000 (length text) then too_long ∷ []
     else faults_from (parts_of text) (parts_of text) not_read 1
 
--- The first of them, and the fault of what was read.
+-- The first fault of a list, and that of a reading.
 abbrev pub first_in : List Fault → Option TextFault
 first_in [] = None
 first_in (f ∷ others) = Some (fault_at f.line f.kind)

@@ -18,7 +18,7 @@ use Rattle.l4_lint.specs.Judging.{operand_hint}
 use Rattle.l4_lint.specs.Places.{Place, placed, place_at}
 use Rattle.l4_lint.specs.Walks.{Walked, walk}
 
--- What is said of a first word that begins none of these lines.
+-- The hint for a first word that begins none of these lines.
 abbrev pub first_hint : Lines → (word : List ℕ) → Hint
 first_hint which word =
     if starts_with nat_eq word (codes "#") || starts_with nat_eq word (codes "//")
@@ -29,7 +29,7 @@ abbrev pub surplus_hint : (rest : List ℕ) → Hint
 surplus_hint rest =
     if starts_with nat_eq rest (codes ";") then hints.CommentBehind else hints.Surplus
 
--- All words are there and no more: a keyword is another word.
+-- The number of words is right, but a keyword is wrong.
 abbrev pub keyword_place : Context → (line rest : List ℕ) → (failed : Option Operand) → Place
 keyword_place c line rest None = place_at line line (hints.Begins c.lines)
 keyword_place c line rest (Some wanted) = place_at line rest (hints.Wanted wanted)
@@ -37,7 +37,7 @@ keyword_place c line rest (Some wanted) = place_at line rest (hints.Wanted wante
 abbrev pub keywords_place : Context → (line : List ℕ) → Walked → Place
 keywords_place c line w = keyword_place c line w.rest w.failed
 
--- A word is missing, or one is too many, or a keyword is another word.
+-- A word is missing or surplus, or else a keyword is wrong.
 abbrev pub count_place : Context → (line : List ℕ) → List Operand → (rest : List ℕ) →
     (failed : Option Operand) → Place
 count_place c line operands rest (Some wanted) = place_at line rest (hints.Wanted wanted)
@@ -53,20 +53,20 @@ words_place c line None = place_at line line (first_hint c.lines (word_of line))
 words_place c line (Some operands) =
     counted_place c line operands (walk test.Present c operands (behind line))
 
--- A space is too many, or the words are wrong.
+-- A space is surplus, or else the words are wrong.
 abbrev pub spaced_place : Context → (line : List ℕ) → Place
 spaced_place c line =
     if has_empty_word line then placed (clear true line + 1) [] hints.Space
     else words_place c line (operands_of c.lines (word_of line))
 
--- A byte is not printable, or the spaces or the words are wrong.
+-- A byte is not printable, or else the spaces or the words are wrong.
 abbrev pub form_place : Context → (number : ℕ) → (line : List ℕ) → (bad : Option ℕ) → Place
 form_place c number line None = spaced_place c line
 form_place c number line (Some index) =
     placed (index + 1) (slice_range line index (index + 1))
     (byte_hint number line (slice_index line index))
 
--- An operand is wrong: the first from the left.
+-- The first wrong operand from the left.
 abbrev pub operand_place : Context → TextFaultKind → (line rest : List ℕ) →
     (failed : Option Operand) → Place
 operand_place c k line rest None = place_at line line (hints.Begins c.lines)

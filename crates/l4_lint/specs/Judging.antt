@@ -29,7 +29,7 @@ abbrev pub is_untyped : Judged ℕ → Bool
 is_untyped (Ok word) = word / 64 % 64 == 0
 is_untyped (Err k) = false
 
--- Whether the word may stand where this is wanted.
+-- Whether the word is right for this operand.
 abbrev pub is_right : Context → Operand → (word : List ℕ) → Bool
 is_right c operand.Profile word = is_one_of 1 2 (number_of word)
 is_right c operand.Width word = is_one_of 64 32 (number_of word)
@@ -66,14 +66,14 @@ has_no_thread word =
     is_threadless (words.number_of 10 (before_first is_dot word))
     (words.number_of 10 (after_first is_dot word))
 
--- What is said of a word that is no id.
+-- The hint for a word that is no id.
 abbrev pub id_hint : Operand → (word : List ℕ) → Hint
 id_hint wanted word =
     if bytes_eq word (codes "last") then hints.Last
     else (if has_no_thread word then hints.Version
     else hints.Wanted wanted)
 
--- What is said of a word where this is wanted, by the kind of the fault.
+-- The hint for a word in the place of this operand, by the kind of its fault.
 abbrev pub operand_hint : TextFaultKind → Operand → (word : List ℕ) → Hint
 operand_hint kinds.TypedItems wanted word = hints.TypedItems
 operand_hint kinds.BadId wanted word = id_hint wanted word

@@ -1,3 +1,4 @@
+pub mod Always
 pub mod Bytes
 pub mod Commands
 pub mod Contexts

@@ -3,8 +3,8 @@ use Rattle.std.specs.Prelude.{ℕ, ◌+◌, ◌-◌, List, [], ◌∷◌, length
 use Rattle.l4_lint.specs.declared.hints.Hint.{Hint}
 use Rattle.l4_lint.specs.Bytes.{word_of}
 
--- The column of its first byte, counted from 1 (0 where it is in no line), the word that stands
--- there (empty where none does), and what is said of it.
+-- The column of the first byte, counted from 1, or 0 where the fault is of no line. The word that
+-- stands there, empty where none does. What is said about it.
 pub record Place : Type 0 where
   pub column : ℕ
   pub word : List ℕ

@@ -9,8 +9,8 @@ use Rattle.l4_script.specs.Statements.{instruction_of}
 use Rattle.l4_script.specs.Texts.{Stage, Start, Processors, Threads, after_line}
 use Rattle.l4_lint.specs.Bytes.{word_of}
 
--- What comes next; whether the last line that began with `thread` was faulty, so that what follows
--- is a script of no thread; and whether any line was faulty.
+-- What comes next; whether the last `thread` line was faulty, so that a script of no thread
+-- follows; and whether any line was faulty.
 pub record Reader : Type 0 where
   pub stage : Stage
   pub lost : Bool
@@ -22,7 +22,7 @@ reader stage lost faulty = record { stage = stage; lost = lost; faulty = faulty 
 abbrev pub begins_script : (line : List ℕ) → Bool
 begins_script line = bytes_eq (word_of line) (codes "thread")
 
--- A line of a script of no thread is judged as an instruction, and adds nothing.
+-- A line of a script of no thread is judged as an instruction, and changes nothing.
 abbrev pub words_form : Format → List (List ℕ) → Judged (Unit {0})
 words_form f [] = Ok tt
 words_form f (name ∷ operands) = instruction_of f name operands >>= λ instr. Ok tt
@@ -47,11 +47,11 @@ judged number r line =
     if is_lost r line then lost_form r.stage line >>= (λ said. Ok r.stage)
     else after_line number r.stage line
 
--- A line without a fault leads on.
+-- The reader behind a line without a fault.
 abbrev pub led_on : Reader → (line : List ℕ) → (after : Stage) → Reader
 led_on r line after = reader after (is_lost r line) r.faulty
 
--- A faulty line is left out.
+-- The reader behind a faulty line.
 abbrev pub left_out : Reader → (line : List ℕ) → Reader
 left_out r line = reader r.stage (r.lost || begins_script line) true
 

@@ -1,4 +1,4 @@
--- The lines that say what was found.
+-- The lines of faults.
 use Rattle.std.specs.Prelude.{ℕ, ◌==◌, if◌then◌else◌, List, [], ◌∷◌, ◌++◌, length, flat_map, codes}
 use Rattle.std.specs.Prelude.{decimal}
 use Rattle.std.specs.Char.Escape.{escape_ascii}
@@ -72,8 +72,7 @@ hint_text hints.DoubleNumber = codes "a thread before has this number"
 hint_text hints.ManyThreads = codes "a machine has at most 1024 threads"
 hint_text hints.ManyInstructions = codes "a script has at most 1024 instructions"
 
--- What stands there, its bytes escaped as Rust escapes them in ASCII. Nothing where nothing stands
--- there.
+-- What stands there, its bytes escaped as Rust escapes them in ASCII, if anything stands there.
 abbrev pub shown_word : (word : List ℕ) → List ℕ
 shown_word word =
     if length word == 0 then [] else (codes "`" ++ flat_map escape_ascii word ++ codes "`: ")
@@ -87,7 +86,7 @@ fault_line f =
     place_text f.line f.place.column ++ kind_word f.kind ++ codes ": " ++ shown_word f.place.word
     ++ hint_text f.place.hint ++ codes "\n"
 
--- What is printed of a text: a line for each fault. The status is 1 where there is one.
+-- What is printed for the faults of a text: a line for each. The status is 1 where there is one.
 abbrev pub faults_text : List Fault → List ℕ
 faults_text found = flat_map fault_line found
 

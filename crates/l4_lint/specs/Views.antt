@@ -1,4 +1,4 @@
--- What the code keeps, as the definitions have it.
+-- The values of the code, as the definitions have them.
 use Rattle.std.specs.Prelude.{Option}
 use Rattle.std.specs.Option.{option_map}
 use Rattle.l4_types.specs.FormatView.{format_of}

@@ -8,7 +8,7 @@ use Rattle.l4_lint.specs.Bytes.{word_of, behind}
 use Rattle.l4_lint.specs.Contexts.{Context}
 use Rattle.l4_lint.specs.Judging.{is_right, is_keyword}
 
--- A word is there; it is right where a keyword is wanted; it is right.
+-- A word is there; where a keyword is wanted, the word is right; the word is right.
 abbrev pub passes : Test → Context → Operand → (word : List ℕ) → Bool
 passes test.Present c operand word = not (length word == 0)
 passes test.Keyword c operand word = not (is_keyword operand) || is_right c operand word

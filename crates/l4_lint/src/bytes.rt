@@ -8,7 +8,7 @@ use l4_words::lines::find_byte;
 
 const BYTE_ORDER_MARK: &[u8] = b"\xef\xbb\xbf";
 
-/// What stands in front of the first such byte, or all where there is none, and what follows it.
+/// The bytes before the first `byte`, or all where there is none, and the bytes behind it.
 pub(crate) fn split_at_byte(byte: u8, bytes: &[u8]) -> (&[u8], &[u8])
     ensures front { result.0.now ≡ before_first (λ other. other == byte) bytes.now }
     ensures rest { result.1.now ≡ after_first (λ other. other == byte) bytes.now }
@@ -29,7 +29,7 @@ pub(crate) fn split_word(line: &[u8]) -> (&[u8], &[u8])
     split_at_byte(b' ', line)
 }
 
-/// Where the first byte stands that is not printable ASCII.
+/// The place of the first byte that is not printable ASCII.
 pub(crate) fn bad_byte(line: &[u8]) -> Option<usize>
     ensures value { result ≡ bad_byte line.now }
     ensures within { IfSome result (λ index. index < length line.now) }
@@ -37,7 +37,7 @@ pub(crate) fn bad_byte(line: &[u8]) -> Option<usize>
     line.iter().position(|byte| !matches!(byte, b' '..=b'~'))
 }
 
-/// What is said of such a byte, in the line of this number.
+/// The hint for such a byte, in the line of this number.
 pub(crate) fn byte_hint(number: usize, line: &[u8], byte: u8) -> Hint
     ensures { result ≡ byte_hint number line.now byte }
 {
@@ -51,7 +51,7 @@ pub(crate) fn byte_hint(number: usize, line: &[u8], byte: u8) -> Hint
     }
 }
 
-/// How many bytes stand in front of the first space too many, at most all.
+/// The number of bytes before the first surplus space, or of all bytes where there is none.
 pub(crate) fn clear(line: &[u8]) -> usize
     ensures value { result ≡ clear true line.now }
     ensures within { result ≤ length line.now }

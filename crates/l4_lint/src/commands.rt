@@ -121,7 +121,7 @@ fn operands_behind(
     }
 }
 
-/// The operands of such a line of this name. None where no line of these begins with it.
+/// The operands of one of these lines, by its first word. None where no such line begins with it.
 pub(crate) fn operands_of(lines: Lines, name: &[u8]) -> Option<&'static [Operand]>
     ensures { option_copied result ≡ operands_of lines name.now }
 {

@@ -1,4 +1,4 @@
-//! What the lines before say of a line.
+//! What the lines before a line say about it.
 ghost use Rattle.std.specs.Prelude.{◌≡◌};
 ghost use Rattle.l4_script.specs.Stages.{stage_of};
 ghost use Rattle.l4_lint.specs.Contexts.{lines_in, context_at};
@@ -23,8 +23,8 @@ fn lines_in(begun: bool) -> Lines
 }
 
 impl Context {
-    /// What this stage says of the line that comes next. `lost` says that it may be an instruction
-    /// of a faulty thread line.
+    /// What this stage says about the next line. `lost` tells that the line may belong to a script
+    /// whose `thread` line was faulty.
     pub(crate) fn at(stage: &Stage, lost: bool) -> Context
         ensures { context_of result ≡ context_at (stage_of stage.now) lost }
     {

@@ -1,16 +1,18 @@
 //! What is doubtful in a text that declares a machine.
-ghost use Rattle.std.specs.Prelude.{◌≡◌, ◌≤◌, ◌++◌, length, map, IfOk, OnOk};
+ghost use Rattle.std.specs.Prelude.{ℕ, List, ◌≡◌, ◌≤◌, ◌++◌, length, map, IfOk, OnOk};
 ghost use Rattle.std.specs.List.{list_any};
 ghost use Rattle.std.specs.Option.{option_copied};
 ghost use Rattle.std.specs.Str.{bytes_eq};
 ghost use Rattle.l4_script.specs.Scripts.{instr_of};
 ghost use Rattle.l4_script.specs.Numbers.{time_from};
 ghost use Rattle.l4_script.specs.Texts.{machine_of_text};
+ghost use Rattle.l4_lint.specs.Always.{AreAlwaysSo};
 ghost use Rattle.l4_lint.specs.Doubts.{answer_doubts, asks_to_propagate, doubt_line, doubt_text};
 ghost use Rattle.l4_lint.specs.Doubts.{doubted, doubts_text, lines_of};
 ghost use Rattle.l4_lint.specs.Doubts.{doubtful_at, doubts_from, doubts_of, id_doubts, ipc_doubts};
 ghost use Rattle.l4_lint.specs.Doubts.{is_endless, is_no_thread, is_one_of_ids, is_write};
-ghost use Rattle.l4_lint.specs.Doubts.{line_doubts, names_originator, number_in, receives};
+ghost use Rattle.l4_lint.specs.Doubts.{line_doubts, mark_word, marked, names_originator, number_in};
+ghost use Rattle.l4_lint.specs.Doubts.{receives};
 ghost use Rattle.l4_lint.specs.Doubts.{script_doubts, tag_doubts, thread_after, uses, write_doubts};
 ghost use Rattle.l4_lint.specs.Reading.{begins_script};
 ghost use Rattle.l4_lint.specs.Views.{doubtful_of};
@@ -27,23 +29,45 @@ use l4_words::lines::split_line;
 use l4_words::threads::thread;
 use std::alloc::Global;
 
-/// What is doubted of a word.
+/// How sure a doubt is.
+#[derive(Clone, Copy, Debug, PartialEq, Eq)]
+pub enum Mark {
+    /// What it says holds in every history of the machine (`law_always`).
+    Always,
+    /// It says what may happen.
+    Perhaps,
+}
+
+/// Why a word is doubtful.
 #[derive(Clone, Copy, Debug, PartialEq, Eq)]
 pub enum Doubt {
-    /// No thread has this id: what is sent there is refused, and nobody is received from.
+    /// No thread has this id. No step of any history names it: what is sent there is not
+    /// delivered, and nothing is received from it.
     NoThread,
-    /// The send phase of an answer, to the last sender, has no time limit. Where its client does
-    /// not wait for it, the server waits.
+    /// A send to the last sender, as the answer of a server, has no time limit. If the client does
+    /// not wait for it, the server is held up.
     NoLimit,
     /// A register is written that no tag of the script sends and nothing copies, in a script that
-    /// receives nothing.
+    /// receives nothing. No delivered message of the thread has it.
     NotSent,
     /// A tag asks for propagation in a script that receives nothing and names no thread of its
-    /// address space by `vs`.
+    /// address space by `vs`. No delivered message of the thread is propagated.
     NotPropagated,
 }
 
-/// A word that is doubted. It may be meant so.
+impl Doubt {
+    /// Whether what it says holds always.
+    pub fn mark(self) -> Mark
+        ensures { result ≡ marked self }
+    {
+        match self {
+            Doubt::NoThread | Doubt::NotSent | Doubt::NotPropagated => Mark::Always,
+            Doubt::NoLimit => Mark::Perhaps,
+        }
+    }
+}
+
+/// A doubtful word. It may be intended.
 #[derive(Clone, Copy, Debug)]
 pub struct Doubtful<'a> {
     /// The line, counted from 1, skipped lines too.
@@ -52,7 +76,7 @@ pub struct Doubtful<'a> {
     pub column: usize,
     /// The word.
     pub word: &'a [u8],
-    /// What is doubted.
+    /// Why it is doubtful.
     pub doubt: Doubt,
 }
 
@@ -62,7 +86,7 @@ fn is(word: &[u8], other: &[u8]) -> bool
     word == other
 }
 
-// The word with which the rest of a line begins, and what is doubted of it.
+// The first word of the rest of a line, with its doubt.
 fn doubtful_at<'a>(number: usize, line: &'a [u8], rest: &'a [u8], doubt: Doubt) -> Doubtful<'a>
     requires { length rest.now ≤ length line.now }
     ensures { doubtful_of result ≡ doubtful_at number line.now rest.now doubt }
@@ -170,7 +194,7 @@ fn receives(from: ThreadId) -> bool
     from != ThreadId::NIL
 }
 
-// Whether an instruction sends what a register has, or may, or copies it.
+// Whether an instruction copies this register, or sends or may send it.
 fn uses(register: u64, instruction: &Instr) -> bool
     ensures { result ≡ uses register (instr_of instruction.now) }
 {
@@ -219,7 +243,7 @@ fn push_write<'a>(
     )
 }
 
-// Whether an instruction names an originator, or may.
+// Whether an instruction names, or may name, an originator.
 fn names_originator(machine: &Machine, sender: GlobalId, instruction: &Instr) -> bool
     ensures { result ≡ names_originator machine.now sender (instr_of instruction.now) }
 {
@@ -332,7 +356,7 @@ fn begins_script(line: &[u8]) -> bool
     is(split_word(line).0, b"thread")
 }
 
-// The thread in whose script a line stands, behind so many lines that begin one.
+// The thread whose script has a line, by the number of `thread` lines before it.
 fn thread_after(machine: &Machine, begun: usize) -> Option<&Declaration>
     ensures { option_copied result ≡ thread_after machine.now begun }
 {
@@ -367,11 +391,19 @@ fn doubts_in<'a>(
     Ok(found)
 }
 
+/// What a doubt says that is marked `Always` holds in every history of the machine that the text
+/// declares.
+pub fn law_always()
+    ensures { (text : List ℕ) → AreAlwaysSo text (doubts_of text) }
+{}
+
 /// What is doubtful in a text that declares a machine, in order of its lines and from left to
-/// right. A text with a fault has no doubts.
+/// right. A text with a fault has no doubts. What is marked `Always` holds in every history.
 pub fn doubts<'a>(alloc: Global, text: &'a [u8]) -> Result<Vec<Doubtful<'a>>, NoMemory>
-    ensures { IfOk result (λ found. map doubtful_of found.items ≡ doubts_of text.now) }
+    ensures value { IfOk result (λ found. map doubtful_of found.items ≡ doubts_of text.now) }
+    ensures always { IfOk result (λ found. AreAlwaysSo text.now (map doubtful_of found.items)) }
 {
+    law_always();
     match Machine::parse(alloc, text) {
         Ok(machine) => doubts_in(alloc, &machine, text),
         Err(fault) if fault.kind == TextFaultKind::NoMemory => Err(NoMemory),
@@ -383,12 +415,21 @@ fn doubt_text(doubt: Doubt) -> &'static str
     ensures { result.now ≡ doubt_text doubt }
 {
     match doubt {
-        Doubt::NoThread => "no thread has this id",
+        Doubt::NoThread => "no thread has this id; nothing reaches it or comes from it",
         Doubt::NoLimit => "an answer has no time limit; a server that must not wait says zero",
-        Doubt::NotSent => "no tag of this script sends this register, and nothing copies it",
+        Doubt::NotSent => "this register is never delivered, and nothing copies it",
         Doubt::NotPropagated => {
-            "propagation is asked for, and vs names no thread of this address space"
+            "vs names no thread of this address space, so no message is propagated"
         }
+    }
+}
+
+fn mark_word(mark: Mark) -> &'static str
+    ensures { result.now ≡ mark_word mark }
+{
+    match mark {
+        Mark::Always => "always",
+        Mark::Perhaps => "perhaps",
     }
 }
 
@@ -397,7 +438,8 @@ fn push_doubt(doubtful: &Doubtful<'_>, out: &mut Vec<u8>) -> Result<(), NoMemory
     ensures { OnOk result (out.new.items ≡ out.old.items ++ doubt_line (doubtful_of doubtful.now)) }
 {
     push_place(doubtful.line, doubtful.column, out)?;
-    out.extend_from_slice(b"perhaps: `")?;
+    out.extend_from_slice(mark_word(doubtful.doubt.mark()).as_bytes())?;
+    out.extend_from_slice(b": `")?;
     out.extend_from_slice(doubtful.word)?;
     out.extend_from_slice(b"`: ")?;
     out.extend_from_slice(doubt_text(doubtful.doubt).as_bytes())?;

@@ -26,18 +26,18 @@ use std::alloc::Global;
 pub struct Fault<'a> {
     /// The line, counted from 1, skipped lines too. 0 where the fault is of no line.
     pub line: usize,
-    /// What is wrong there, as `Machine::parse` answers it.
+    /// What is wrong there, as `Machine::parse` returns it.
     pub kind: TextFaultKind,
     /// Where it is in its line.
     pub place: Place<'a>,
 }
 
 /// All faults of a text, in order of their lines; none where it declares a machine. The first is
-/// the one that `Machine::parse` answers.
+/// the one that `Machine::parse` returns.
 ///
-/// A faulty line is left out, and the rest is judged on. What stands behind a faulty line that
-/// begins with `thread` is judged as a script of no thread. Behind a fault in front of the lines of
-/// threads nothing is judged. The places of `jump` and `onerr` are judged where no line is faulty.
+/// A faulty line is left out, and the lines behind it are judged. Those behind a faulty `thread`
+/// line are judged as a script of no thread. Behind a fault in front of the `thread` lines nothing
+/// is judged. The places of `jump` and `onerr` are judged only where no line is faulty.
 #[tactic(auto, using(crate::proofs::First::first_fault))]
 pub fn faults<'a>(alloc: Global, text: &'a [u8]) -> Result<Vec<Fault<'a>>, NoMemory>
     ensures all { IfOk result (λ found. map fault_of found.items ≡ faults_of text.now) }
@@ -61,7 +61,7 @@ pub(crate) fn keep<'a>(found: &mut Vec<Fault<'a>>, fault: Fault<'a>) -> Result<(
     Ok(())
 }
 
-/// The text has more bytes than a text may have.
+/// The fault of a text that has too many bytes.
 fn too_long<'a>() -> Fault<'a>
     ensures { fault_of result ≡ too_long }
 {
@@ -72,7 +72,7 @@ fn too_long<'a>() -> Fault<'a>
     }
 }
 
-/// The last line has no line end.
+/// The fault of a last line without a line end.
 fn unended<'a>(number: usize, line: &[u8]) -> Fault<'a>
     requires { length line.now ≤ 0x10_0000 }
     ensures { fault_of result ≡ unended number line.now }
@@ -84,7 +84,7 @@ fn unended<'a>(number: usize, line: &[u8]) -> Fault<'a>
     }
 }
 
-/// The text ends in front of its first line or its second.
+/// The fault of a text that ends in front of its first or its second line.
 fn text_ends<'a>(number: usize, stage: &Stage) -> Fault<'a>
     ensures { fault_of result ≡ text_ends number (stage_of stage.now) }
 {
@@ -139,7 +139,8 @@ impl Reader {
     }
 }
 
-/// Reads the line of this number and keeps its fault. Whether what stands behind it is judged.
+/// Reads the line of this number and keeps its fault. Returns whether the lines behind it are
+/// judged.
 fn read_on<'a>(
     alloc: Global,
     reader: &mut Reader,

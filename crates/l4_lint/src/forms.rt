@@ -15,7 +15,7 @@ use crate::places::Place;
 use crate::walks::{Test, Walked, walk};
 use l4_script::text::{TextFaultKind, has_empty_word};
 
-/// What is said of a first word that begins none of these lines.
+/// The hint for a first word that begins none of these lines.
 fn first_hint(lines: Lines, word: &[u8]) -> Hint
     ensures { result ≡ first_hint lines word.now }
 {
@@ -26,7 +26,7 @@ fn first_hint(lines: Lines, word: &[u8]) -> Hint
     }
 }
 
-/// What is said of a word too many. A comment begins with `;` and stands on a line of its own.
+/// The hint for a surplus word. A comment begins with `;` and stands on a line of its own.
 fn surplus_hint(rest: &[u8]) -> Hint
     ensures { result ≡ surplus_hint rest.now }
 {
@@ -37,7 +37,7 @@ fn surplus_hint(rest: &[u8]) -> Hint
     }
 }
 
-/// The first keyword that is another word.
+/// The place of the first word that is not the keyword wanted there.
 fn keywords_place<'a>(context: Context, line: &'a [u8], walked: Walked<'a>) -> Place<'a>
     requires short { length line.now ≤ 0x10_0000 }
     requires rest { length walked.rest.now ≤ length line.now }
@@ -50,7 +50,7 @@ fn keywords_place<'a>(context: Context, line: &'a [u8], walked: Walked<'a>) -> P
     }
 }
 
-/// A word that is missing or too many, or else a keyword that is another word.
+/// The place of a missing or surplus word, or else of a wrong keyword.
 fn counted_place<'a>(
     context: Context,
     line: &'a [u8],
@@ -72,7 +72,7 @@ fn counted_place<'a>(
     keywords_place(context, line, walk(Test::Keyword, context, operands, words))
 }
 
-/// The word that is wrong in the form of its line.
+/// The place of the word that breaks the form of its line.
 fn words_place<'a>(context: Context, line: &'a [u8], operands: Option<&[Operand]>) -> Place<'a>
     requires { length line.now ≤ 0x10_0000 }
     ensures { place_of result
@@ -88,7 +88,7 @@ fn words_place<'a>(context: Context, line: &'a [u8], operands: Option<&[Operand]
     }
 }
 
-/// A space too many, or a word that is wrong in the form of its line.
+/// The place of a surplus space, or else of the word that breaks the form of its line.
 fn spaced_place<'a>(context: Context, line: &'a [u8]) -> Place<'a>
     requires { length line.now ≤ 0x10_0000 }
     ensures { place_of result ≡ spaced_place (context_of context) line.now }
@@ -103,7 +103,7 @@ fn spaced_place<'a>(context: Context, line: &'a [u8]) -> Place<'a>
     )
 }
 
-/// What is wrong in the form of a line. `bad` is the place of a byte that is not printable.
+/// The place of what breaks the form of a line. `bad` is the place of a byte that is not printable.
 fn form_place<'a>(context: Context, number: usize, line: &'a [u8], bad: Option<usize>) -> Place<'a>
     requires short { length line.now ≤ 0x10_0000 }
     requires within { IfSome bad (λ index. index < length line.now) }
@@ -118,7 +118,7 @@ fn form_place<'a>(context: Context, number: usize, line: &'a [u8], bad: Option<u
     }
 }
 
-/// The first operand from the left that is wrong, by the kind of its fault.
+/// The place of the first wrong operand from the left, by the kind of its fault.
 fn walked_place<'a>(
     context: Context,
     kind: TextFaultKind,
@@ -139,7 +139,7 @@ fn walked_place<'a>(
     }
 }
 
-/// The same of the operands of a line.
+/// The same for the operands of a line.
 fn operands_place<'a>(
     context: Context,
     kind: TextFaultKind,

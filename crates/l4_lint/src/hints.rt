@@ -1,4 +1,4 @@
-//! What is said of a place in a machine text.
+//! What is said about a place in a machine text.
 
 /// What may stand behind the first word of a line.
 #[derive(Clone, Copy)]
@@ -52,7 +52,7 @@ pub enum Lines {
     Script,
 }
 
-/// What is said of the place of a fault: what stands there, or what may stand there.
+/// The hint of a fault: what stands there, or what may stand there.
 #[derive(Clone, Copy)]
 pub enum Hint {
     /// The text has more bytes than a text may have.

@@ -45,7 +45,7 @@ fn is_untyped(format: Format, word: &[u8]) -> bool
     }
 }
 
-/// Whether the word may stand where this is wanted.
+/// Whether the word is right for this operand.
 pub(crate) fn is_right(context: Context, operand: Operand, word: &[u8]) -> bool
     ensures { result ≡ is_right (context_of context) operand word.now }
 {
@@ -70,7 +70,7 @@ pub(crate) fn is_right(context: Context, operand: Operand, word: &[u8]) -> bool
     }
 }
 
-/// Whether it is a keyword, which is judged with the form of its line.
+/// Whether the operand is a keyword, which is judged with the form of its line.
 pub(crate) fn is_keyword(operand: Operand) -> bool
     ensures { result ≡ is_keyword operand }
 {
@@ -80,7 +80,7 @@ pub(crate) fn is_keyword(operand: Operand) -> bool
     )
 }
 
-/// Whether no thread has this version, where there are both numbers.
+/// Whether both numbers are there, and no thread has this version.
 fn is_threadless(number: Option<u64>, version: Option<u64>) -> bool
     ensures { result ≡ is_threadless number version }
 {
@@ -98,7 +98,7 @@ fn has_no_thread(word: &[u8]) -> bool
     is_threadless(decimal(number), decimal(version))
 }
 
-/// What is said of a word that is no id.
+/// The hint for a word that is no id.
 fn id_hint(wanted: Operand, word: &[u8]) -> Hint
     ensures { result ≡ id_hint wanted word.now }
 {
@@ -111,7 +111,7 @@ fn id_hint(wanted: Operand, word: &[u8]) -> Hint
     }
 }
 
-/// What is said of a word where this is wanted, by the kind of the fault.
+/// The hint for a word in the place of this operand, by the kind of its fault.
 pub(crate) fn operand_hint(kind: TextFaultKind, wanted: Operand, word: &[u8]) -> Hint
     ensures { result ≡ operand_hint kind wanted word.now }
 {

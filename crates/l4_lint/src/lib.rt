@@ -1,11 +1,12 @@
-//! Every fault of a machine text with its place, where `Machine::parse` says the first line alone.
+//! Every fault of a machine text with its place. `Machine::parse` tells only the first faulty line.
 //!
-//! A line is judged by the reader of `l4_script` itself, so the first fault is the one that
-//! `Machine::parse` answers. A faulty line is left out and the rest is judged on. `Fault` has the
-//! line, the kind, the column and the word that stands there; its `Hint` says what may stand there.
-//! `lint` prints a line for each. Of a text without faults it prints what is doubtful: `doubts`.
+//! The reader of `l4_script` itself judges each line, so the first fault is the one that
+//! `Machine::parse` returns. A faulty line is left out, and the lines behind it are judged. `Fault`
+//! has the line, the kind, the column and the word that stands there; its `Hint` says what may
+//! stand there. `lint` prints a line for each. Where a text has no fault, `lint_with_doubts` prints
+//! what is doubtful (`doubts`), and marks what always holds (`law_always`).
 //!
-//! All memory is that of the list of faults and of what is printed.
+//! Memory is taken only for the list of faults and for what is printed.
 //!
 //! ```rust
 //! let text = b"l4 1 64\ncpus 1\nthread 1.1 cpu 0 space 1\nset 64 10\n";

@@ -1,4 +1,4 @@
-//! All that is said of a text.
+//! What is printed for a text.
 ghost use Rattle.std.specs.Prelude.{◌≡◌, IfOk};
 ghost use Rattle.l4_lint.specs.Doubts.{lint_text};
 ghost use Rattle.l4_lint.specs.Faults.{faults_of};
@@ -11,8 +11,8 @@ use crate::spelling::push_faults;
 use l4_types::errors::NoMemory;
 use std::alloc::Global;
 
-/// The lines and the status of a text: nothing and 0 where it declares a machine. `NoMemory` only
-/// where memory was refused.
+/// The faults of a text, a line for each, and the status. Where the text declares a machine, there
+/// is no line, and the status is 0. `NoMemory`: memory was refused.
 pub fn lint(alloc: Global, text: &[u8]) -> Result<Lint, NoMemory>
     ensures lines { IfOk result (λ lint. lint.lines.items ≡ faults_text (faults_of text.now)) }
     ensures status { IfOk result (λ lint. lint.status ≡ status_of (faults_of text.now)) }
@@ -24,7 +24,7 @@ pub fn lint(alloc: Global, text: &[u8]) -> Result<Lint, NoMemory>
     Ok(Lint { lines, status })
 }
 
-/// The same, and where the text declares a machine, a line for each doubt, with status 0.
+/// The same, with a line for each doubt where the text declares a machine. The status is 0 then.
 pub fn lint_with_doubts(alloc: Global, text: &[u8]) -> Result<Lint, NoMemory>
     ensures lines { IfOk result (λ lint. lint.lines.items ≡ lint_text text.now) }
     ensures status { IfOk result (λ lint. lint.status ≡ status_of (faults_of text.now)) }

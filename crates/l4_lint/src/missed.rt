@@ -1,4 +1,4 @@
-//! The places that lines name and that their scripts do not have.
+//! Lines that name a place which their script does not have.
 ghost use Rattle.std.specs.Prelude.{◌≡◌, ◌≤◌, ◌-◌, ◌++◌, All, filter, length, map, IfOk, OnOk};
 ghost use Rattle.l4_words.specs.Lines.{parts_of};
 ghost use Rattle.l4_script.specs.Texts.{is_missed};
@@ -43,7 +43,7 @@ fn line_at<'a>(parts: &[&'a [u8]], number: usize) -> &'a [u8]
     }
 }
 
-/// The fault of a line that names a place that its script does not have.
+/// The fault of a line that names a place which its script does not have.
 fn missed_fault<'a>(parts: &[&'a [u8]], target: &Target) -> Fault<'a>
     requires { All (λ part. length part.now ≤ 0x10_0000) parts.now }
     ensures { fault_of result ≡ missed_fault (map (λ part. part.now) parts.now) target.now }
@@ -56,7 +56,7 @@ fn missed_fault<'a>(parts: &[&'a [u8]], target: &Target) -> Fault<'a>
     }
 }
 
-/// Appends the fault of each line that names a place that its script does not have.
+/// Appends the fault of each line that names a place which its script does not have.
 pub(crate) fn push_missed<'a>(
     alloc: Global,
     text: &'a [u8],

@@ -13,12 +13,12 @@ pub struct Place<'a> {
     pub column: usize,
     /// The word that stands there, or the one byte that may not; empty where nothing stands.
     pub word: &'a [u8],
-    /// What is said of it.
+    /// What is wrong there, or what may stand there.
     pub hint: Hint,
 }
 
 impl<'a> Place<'a> {
-    /// This word in this column.
+    /// This word, in this column.
     pub(crate) fn new(column: usize, word: &'a [u8], hint: Hint) -> Place<'a>
         ensures { place_of result ≡ placed column word.now hint }
     {

@@ -1,6 +1,6 @@
 //! What is printed of a text.
 
-/// What is printed of a text, and the status with which a program ends.
+/// What is printed for a text, and the exit status.
 #[derive(Drop)]
 pub struct Lint {
     /// A line for each fault, in the order of the text.

@@ -62,7 +62,7 @@ fn lost_form(stage: &Stage, line: &[u8]) -> Result<(), TextFaultKind>
 }
 
 impl Reader {
-    /// No line was read.
+    /// A reader that has read no line.
     pub(crate) fn new() -> Reader
         ensures { reader_of result ≡ reader Start false false }
     {
@@ -73,7 +73,7 @@ impl Reader {
         }
     }
 
-    /// What the lines before say of the line that comes next.
+    /// What the lines before the next one say about it.
     pub(crate) fn context(&self) -> Context
         ensures { context_of result ≡ context_at (stage_of self.now.stage) self.now.lost }
     {
@@ -94,8 +94,8 @@ impl Reader {
         self.lost && !begins_script(line)
     }
 
-    /// Reads the line of this number. What is wrong with it leaves all as it was, but where memory
-    /// is refused.
+    /// Reads the line of this number. A faulty line leaves the reader as it was, unless memory is
+    /// refused.
     pub(crate) fn read(
         &mut self,
         number: usize,

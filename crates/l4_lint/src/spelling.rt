@@ -1,4 +1,4 @@
-//! The lines that say what was found.
+//! The lines of faults.
 ghost use Rattle.std.specs.Prelude.{◌≡◌, ◌++◌, codes, decimal, flat_map, map, OnOk};
 ghost use Rattle.std.specs.Char.Escape.{escape_ascii};
 ghost use Rattle.l4_lint.specs.Spelling.{kind_word, operand_text, lines_text, hint_text};

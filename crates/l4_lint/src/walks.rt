@@ -8,14 +8,14 @@ use crate::contexts::Context;
 use crate::hints::Operand;
 use crate::judging::{is_keyword, is_right};
 
-/// What is asked of each operand.
+/// What a walk tests of each operand.
 #[derive(Clone, Copy)]
 pub(crate) enum Test {
-    /// That a word is there.
+    /// A word is there.
     Present,
-    /// That it is right where a keyword is wanted.
+    /// Where a keyword is wanted, the word is right.
     Keyword,
-    /// That it is right.
+    /// The word is right.
     Right,
 }
 
@@ -37,7 +37,7 @@ fn passes(test: Test, context: Context, operand: Operand, word: &[u8]) -> bool
     }
 }
 
-/// Asks this of the operands one after another, until one does not pass.
+/// Tests the operands one after another, until one does not pass.
 pub(crate) fn walk<'a>(
     test: Test,
     context: Context,

@@ -1,6 +1,7 @@
 //! A processor with the letters that have arrived at it.
 ghost use Rattle.std.specs.Prelude.{◌≡◌, None};
 ghost use Rattle.l4_proc.specs.Logs.{IsClosed};
+ghost use Rattle.l4_machine.specs.Inboxes.{letters_in, TakesFirst};
 
 use crate::inbox::Inbox;
 use crate::workers::take_turn;
@@ -87,7 +88,7 @@ impl<'m> Station<'m> {
         ensures { IfOk result (λ taken. TakesTurn taken self.old self.new) }
     {
         self.worker.begin()?;
-        self.worker.take_in_hand(self.inbox.take());
+        take_mail(&mut self.inbox, &mut self.worker);
         Ok(take_turn(&mut self.worker))
     }
 
@@ -204,4 +205,28 @@ impl<'m> Station<'m> {
         }
         self.has_no_mail()
     }
+}
+
+// Takes the first letter of the lowest poster in hand, if one has come.
+fn take_mail(inbox: &mut Inbox, worker: &mut Worker<'_>)
+    requires { worker.old.hand ≡ None }
+    ensures core { worker.new.core ≡ worker.old.core }
+    ensures log { worker.new.log ≡ worker.old.log }
+    ensures mail { TakesFirst (letters_in inbox.old) worker.new.hand (letters_in inbox.new) }
+{
+    if !inbox.is_empty() {
+        take_next(inbox, worker);
+    }
+}
+
+// Takes the first letter of the lowest poster in hand. It is a call of its own: a turn without a
+// letter is spared the room for one.
+#[inline(never)]
+fn take_next(inbox: &mut Inbox, worker: &mut Worker<'_>)
+    requires { worker.old.hand ≡ None }
+    ensures core { worker.new.core ≡ worker.old.core }
+    ensures log { worker.new.log ≡ worker.old.log }
+    ensures mail { TakesFirst (letters_in inbox.old) worker.new.hand (letters_in inbox.new) }
+{
+    worker.take_in_hand(inbox.take());
 }

@@ -38,6 +38,7 @@ pub fn post(end: &mut Option<Outlet>, letter: Letter)
     outlet.post(letter);
 }
 
+#[inline(always)]
 pub fn flush(end: &mut Option<Outlet>)
     ensures ring { ring_out end.new ≡ ring_out end.old }
     ensures posted { posted end.new ≡ posted end.old }

@@ -50,15 +50,26 @@ impl Outlet {
 
     /// Moves letters on, in their order, while the ring has room. Those that still wait found no
     /// free place.
+    #[inline(always)]
     pub fn flush(&mut self)
         ensures ring { outlet_ring self.new ≡ outlet_ring self.old }
         ensures posted { outlet_posted self.new ≡ outlet_posted self.old }
         ensures room { outlet_room self.old ≤ outlet_room self.new }
         ensures moved { (outlet_waiting self.new ≡ []) ⊎ (outlet_free self.new ≡ 0) }
     {
-        if self.outbox.is_empty() {
-            return;
+        if !self.outbox.is_empty() {
+            self.move_on();
         }
+    }
+
+    // Moves letters from the outbox into the ring, as many as fit.
+    #[inline(never)]
+    fn move_on(&mut self)
+        ensures ring { outlet_ring self.new ≡ outlet_ring self.old }
+        ensures posted { outlet_posted self.new ≡ outlet_posted self.old }
+        ensures room { outlet_room self.old ≤ outlet_room self.new }
+        ensures moved { (outlet_waiting self.new ≡ []) ⊎ (outlet_free self.new ≡ 0) }
+    {
         for _ in 0..self.ring.slots() {
             let Some(letter) = self.outbox.pop_front() else {
                 return;

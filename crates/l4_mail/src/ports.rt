@@ -71,6 +71,7 @@ impl Port {
 
     /// Moves the letters of each outbox on, in their order, while its ring has room. A letter that
     /// still waits found no free place in its ring.
+    #[inline(always)]
     pub fn flush(&mut self)
         ensures same { IsAsBefore self.old self.new }
         ensures moved { (to : ℕ) → (waiting_to self.new to ≡ []) ⊎ (free_to self.new to ≡ 0) }

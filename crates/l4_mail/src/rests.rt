@@ -74,7 +74,7 @@ fn rest_to(ports: &mut [Port], to: usize) -> Result<(), AllocError>
 }
 
 // Moves all letters under way to the ports that they go to.
-fn settle(ports: &mut [Port]) -> Result<(), AllocError>
+fn rest_all(ports: &mut [Port]) -> Result<(), AllocError>
     requires { AreOneFabric ports.old }
     ensures same { map account ports.new ≡ map account ports.old }
     ensures whole { OnOk result (AreWhole ports.new) }
@@ -143,6 +143,6 @@ pub fn rest(alloc: Global, ports: &mut [Port]) -> Result<Rest, RestFault>
     if !are_all(ports) {
         return Err(RestFault::Numbers);
     }
-    settle(ports)?;
+    rest_all(ports)?;
     Ok(list(alloc, ports)?)
 }

@@ -75,7 +75,7 @@ fn pass(
 }
 
 // Moves the letters of the ring and then those of the outbox behind those that are kept.
-fn settle(
+fn drain(
     producer: &mut Producer<Letter>,
     outbox: &mut VecDeque<Letter>,
     consumer: &mut Consumer<Letter>,
@@ -114,7 +114,7 @@ fn rest_way(outlet: &mut Outlet, inlet: &mut Inlet) -> Result<(), AllocError>
     ensures all { OnOk result (outlet_posted outlet.new ≡
         inlet_taken inlet.new ++ inlet_kept inlet.new) }
 {
-    settle(
+    drain(
         &mut outlet.ring,
         &mut outlet.outbox,
         &mut inlet.ring,

@@ -2,8 +2,8 @@
 use Rattle.l4_model.specs.Options.{if_some}
 use Rattle.std.proofs.Common.{◌≡◌, ℕ, Option, Some, None, refl, ◌∙◌}
 use Rattle.l4_model.specs.Words.{GlobalId}
-use Rattle.l4_model.specs.Machine.{Machine, What, CancelSend, CancelReceive, CancelBoth, Delete, place_of, is_place}
-use Rattle.l4_model.specs.World.{Message, Send, Asked, is_deleted, Owed}
+use Rattle.l4_model.specs.Machine.{Machine, OrderKind, CancelSend, CancelReceive, CancelBoth, Delete, place_of, is_place}
+use Rattle.l4_model.specs.World.{Message, Send, PendingOrder, is_deleted, Owed}
 use Rattle.l4_model.specs.Effects.{orders}
 use Rattle.l4_model.specs.Rules.{Act, RunsAlone, Sends, Receives, Orders, owed_by}
 use Rattle.l4_model.specs.Steps.{Queue, Order}
@@ -84,7 +84,7 @@ retargets_clock o (Some j) x = refl
 
 -- orders
 
-asks_clock : (what : What) (i : ℕ) (l : Local) → (asks what i l).clock ≡ l.clock
+asks_clock : (what : OrderKind) (i : ℕ) (l : Local) → (asks what i l).clock ≡ l.clock
 asks_clock CancelSend i l = refl
 asks_clock CancelReceive i l = refl
 asks_clock CancelBoth i l = refl
@@ -94,18 +94,18 @@ withdraws_for_clock : (m : Machine) (cpu j : ℕ) (cause : Option Cause) → Kee
 withdraws_for_clock m cpu j None x = refl
 withdraws_for_clock m cpu j (Some cause) x = withdraws_clock m cause j _ x
 
-pub obeys_clock : (m : Machine) (cpu : ℕ) (caller : GlobalId) (what : What) (j : ℕ) → KeepsClock (obeys m cpu caller what j)
+pub obeys_clock : (m : Machine) (cpu : ℕ) (caller : GlobalId) (what : OrderKind) (j : ℕ) → KeepsClock (obeys m cpu caller what j)
 obeys_clock m cpu caller what j x =
     let asked = asks_clock what j x.local in
     cond_keeps (HasClock x.local.clock) (is_deleted (thread x.local j).phase) _ _ (λ gone. asked)
     (λ alive. withdraws_for_clock m cpu j (cause_of what) _ ∙ asked)
 
-order_goes_to_clock : (m : Machine) (cpu i : ℕ) (order : Asked) (to : Option ℕ) → KeepsClock (order_goes_to m cpu i order to)
+order_goes_to_clock : (m : Machine) (cpu i : ℕ) (order : PendingOrder) (to : Option ℕ) → KeepsClock (order_goes_to m cpu i order to)
 order_goes_to_clock m cpu i order None x = refl
 order_goes_to_clock m cpu i order (Some j) x =
     cond_keeps (HasClock x.local.clock) (is_own m cpu j) _ _ (λ yes. obeys_clock m cpu (declared m i).id order.what j x) (λ no. refl)
 
-gives_order_clock : (m : Machine) (cpu i : ℕ) (order : Asked) → KeepsClock (gives_order m cpu i order)
+gives_order_clock : (m : Machine) (cpu i : ℕ) (order : PendingOrder) → KeepsClock (gives_order m cpu i order)
 gives_order_clock m cpu i order x =
     order_goes_to_clock m cpu i order (place_of m order.target)
     (x ▷ does (comes_to i (orders order)) ▷ tells (Order (declared m i).id order.target order.what))

@@ -6,8 +6,8 @@ use Rattle.std.specs.Option.{IfSome}
 use Rattle.std.proofs.lemmas.Bool.{cases_lt}
 use Rattle.std.proofs.lemmas.List.{length-append, get_or_past}
 use Rattle.l4_model.specs.Words.{GlobalId}
-use Rattle.l4_model.specs.Machine.{Machine, What, place_of, is_place}
-use Rattle.l4_model.specs.World.{Message, Send, Asked, is_deleted, Owed}
+use Rattle.l4_model.specs.Machine.{Machine, OrderKind, place_of, is_place}
+use Rattle.l4_model.specs.World.{Message, Send, PendingOrder, is_deleted, Owed}
 use Rattle.l4_model.specs.Effects.{orders}
 use Rattle.l4_model.specs.Rules.{Act, RunsAlone, Sends, Receives, Orders, owed_by}
 use Rattle.l4_model.specs.Steps.{Step, Queue, Order}
@@ -157,19 +157,19 @@ withdraws_for_fits : (m : Machine) (cpu j : ℕ) (cause : Option Cause) → (s l
 withdraws_for_fits m cpu j None s l x h = less (omega arith) (omega arith) h
 withdraws_for_fits m cpu j (Some cause) s l x h = withdraws_fits m cpu cause j _ (split_is_foreign m cpu (thread x.local j).send) s l x h
 
-pub obeys_fits : (m : Machine) (cpu : ℕ) (caller : GlobalId) (what : What) (j : ℕ) → (l : ℕ) (x : Work) → HasRoom m cpu 1 (suc l) x →
+pub obeys_fits : (m : Machine) (cpu : ℕ) (caller : GlobalId) (what : OrderKind) (j : ℕ) → (l : ℕ) (x : Work) → HasRoom m cpu 1 (suc l) x →
     HasRoom m cpu 0 l (obeys m cpu caller what j x)
 obeys_fits m cpu caller what j l x h =
     cond_keeps (HasRoom m cpu 0 l) (is_deleted (thread x.local j).phase) _ _ (λ gone. with_local (tells_fits _ (less (omega arith) (omega arith) h)))
     (λ alive. withdraws_for_fits m cpu j (cause_of what) 0 l _ (with_local (tells_fits _ h)))
 
-order_goes_to_fits : (m : Machine) (cpu i : ℕ) (order : Asked) (to : Option ℕ) → Fits m cpu 1 1 (order_goes_to m cpu i order to)
+order_goes_to_fits : (m : Machine) (cpu i : ℕ) (order : PendingOrder) (to : Option ℕ) → Fits m cpu 1 1 (order_goes_to m cpu i order to)
 order_goes_to_fits m cpu i order None x h = at_end h
 order_goes_to_fits m cpu i order (Some j) x h =
     cond_keeps (HasRoom m cpu 0 0) (is_own m cpu j) _ _ (λ yes. with_local (obeys_fits m cpu (declared m i).id order.what j 0 x h))
     (λ no. posts_fits _ _ (home_elsewhere m cpu j no) (less (omega arith) (omega arith) h))
 
-gives_order_fits : (m : Machine) (cpu i : ℕ) (order : Asked) → Fits m cpu 2 1 (gives_order m cpu i order)
+gives_order_fits : (m : Machine) (cpu i : ℕ) (order : PendingOrder) → Fits m cpu 2 1 (gives_order m cpu i order)
 gives_order_fits m cpu i order x h =
     order_goes_to_fits m cpu i order (place_of m order.target)
     (x ▷ does (comes_to i (orders order)) ▷ tells (Order (declared m i).id order.target order.what)) (tells_fits _ (with_local h))

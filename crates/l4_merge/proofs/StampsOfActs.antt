@@ -3,8 +3,8 @@ use Rattle.l4_model.specs.Options.{if_some}
 use Rattle.std.proofs.Common.{◌≡◌, ℕ, Option, Some, None, refl, ◌∙◌}
 use Rattle.std.specs.List.{AllByRecursion}
 use Rattle.l4_model.specs.Words.{GlobalId}
-use Rattle.l4_model.specs.Machine.{Machine, What, CancelSend, CancelReceive, CancelBoth, Delete, place_of, is_place}
-use Rattle.l4_model.specs.World.{Message, Send, Asked, is_deleted, Owed}
+use Rattle.l4_model.specs.Machine.{Machine, OrderKind, CancelSend, CancelReceive, CancelBoth, Delete, place_of, is_place}
+use Rattle.l4_model.specs.World.{Message, Send, PendingOrder, is_deleted, Owed}
 use Rattle.l4_model.specs.Effects.{orders}
 use Rattle.l4_model.specs.Rules.{Act, RunsAlone, Sends, Receives, Orders, owed_by}
 use Rattle.l4_model.specs.Steps.{Step, Queue, Order}
@@ -100,7 +100,7 @@ retargets_stamped o (Some j) s x h = record { local = h.local; letters = h.lette
 
 -- orders
 
-asks_stamp : (what : What) (i : ℕ) (l : Local) → (asks what i l).stamp ≡ l.stamp
+asks_stamp : (what : OrderKind) (i : ℕ) (l : Local) → (asks what i l).stamp ≡ l.stamp
 asks_stamp CancelSend i l = refl
 asks_stamp CancelReceive i l = refl
 asks_stamp CancelBoth i l = refl
@@ -110,20 +110,20 @@ withdraws_for_stamped : (m : Machine) (cpu j : ℕ) (cause : Option Cause) → K
 withdraws_for_stamped m cpu j None s x h = h
 withdraws_for_stamped m cpu j (Some cause) s x h = withdraws_stamped m cause j _ s x h
 
-pub obeys_stamped : (m : Machine) (cpu : ℕ) (caller : GlobalId) (what : What) (j : ℕ) → KeepsStamp (obeys m cpu caller what j)
+pub obeys_stamped : (m : Machine) (cpu : ℕ) (caller : GlobalId) (what : OrderKind) (j : ℕ) → KeepsStamp (obeys m cpu caller what j)
 obeys_stamped m cpu caller what j s x h =
     let local = asks_stamp what j x.local ∙ h.local in
     cond_keeps (IsStamped s) (is_deleted (thread x.local j).phase) _ _ (λ gone. record { local = local; letters = h.letters })
     (λ alive. withdraws_for_stamped m cpu j (cause_of what) s _ (record { local = local; letters = h.letters }))
 
-order_goes_to_stamped : (m : Machine) (cpu i : ℕ) (order : Asked) (to : Option ℕ) → KeepsStamp (order_goes_to m cpu i order to)
+order_goes_to_stamped : (m : Machine) (cpu i : ℕ) (order : PendingOrder) (to : Option ℕ) → KeepsStamp (order_goes_to m cpu i order to)
 order_goes_to_stamped m cpu i order None s x h = h
 order_goes_to_stamped m cpu i order (Some j) s x h =
     cond_keeps (IsStamped s) (is_own m cpu j) _ _
     (λ yes. let o = obeys_stamped m cpu (declared m i).id order.what j s x h in record { local = o.local; letters = o.letters })
     (λ no. posts_stamped _ _ s x h)
 
-gives_order_stamped : (m : Machine) (cpu i : ℕ) (order : Asked) → KeepsStamp (gives_order m cpu i order)
+gives_order_stamped : (m : Machine) (cpu i : ℕ) (order : PendingOrder) → KeepsStamp (gives_order m cpu i order)
 gives_order_stamped m cpu i order s x h =
     order_goes_to_stamped m cpu i order (place_of m order.target) s
     (x ▷ does (comes_to i (orders order)) ▷ tells (Order (declared m i).id order.target order.what))

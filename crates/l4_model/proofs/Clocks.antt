@@ -4,7 +4,7 @@ use Rattle.std.proofs.lemmas.Bool.{leb-true, le-leb}
 use Rattle.std.specs.Prelude.{slice_get, slice_index, ◌==◌, is_some}
 use Rattle.std.specs.Option.{option_map}
 use Rattle.l4_model.specs.Words.{GlobalId, Id, NilThread, AnyThread, AnyLocalThread, LocalThread, GlobalThread, Period}
-use Rattle.l4_model.specs.Machine.{Machine, Declaration, What, Instr, Set, Copy, Add, Tag, Vs, Ipc, Ask, Jump, OnErr, End, place_of}
+use Rattle.l4_model.specs.Machine.{Machine, Declaration, OrderKind, Instr, Set, Copy, Add, Tag, Vs, Ipc, Ask, Jump, OnErr, End, place_of}
 use Rattle.l4_model.specs.World.{World, Thread, Context, Send, Receive, Phase, Ready, Sending, Receiving, Ordering, Ended, Deleted, Name}
 use Rattle.l4_model.specs.Rules.{Act, RunsAlone, Sends, Receives, Orders, act, ipc_act, ask_act, is_admitted, destination, receive_phase}
 use Rattle.l4_model.specs.Conditions.{Found, found, found_at, found_by, Pending, undecided, receiver_of, instruction, act_of, is_nobody, is_no_destination, has_passed, is_refusable, is_timed_out, ◌>>=◌, ◌>>◌}
@@ -114,7 +114,7 @@ ipc_retimed m id now later c AnyLocalThread period receive = refl
 ipc_retimed m id now later c (LocalThread word) period receive = refl
 ipc_retimed m id now later c (GlobalThread t) period receive = refl
 
-ask_retimed : (m : Machine) (id : GlobalId) (later : ℕ) (target : Id) (what : What) → ask_act m id target what ≡ retimed later (ask_act m id target what)
+ask_retimed : (m : Machine) (id : GlobalId) (later : ℕ) (target : Id) (what : OrderKind) → ask_act m id target what ≡ retimed later (ask_act m id target what)
 ask_retimed m id later NilThread what = refl
 ask_retimed m id later AnyThread what = refl
 ask_retimed m id later AnyLocalThread what = refl

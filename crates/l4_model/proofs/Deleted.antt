@@ -6,8 +6,8 @@ use Rattle.std.specs.Prelude.{slice_get, ◌==◌}
 use Rattle.std.specs.List.{AllByRecursion}
 use Rattle.std.specs.Option.{option_map}
 use Rattle.l4_model.specs.Words.{GlobalId, Id, NilThread, AnyThread, AnyLocalThread, LocalThread, GlobalThread, same_id}
-use Rattle.l4_model.specs.Machine.{Machine, What, CancelSend, CancelReceive, CancelBoth, Delete, place_of}
-use Rattle.l4_model.specs.World.{World, Thread, Asked, Owed, others_owed, Receive, Phase, Ready, Sending, Receiving, Ordering, Ended, Deleted, changed, change, is_ready, is_deleted, receive_now, unqueued}
+use Rattle.l4_model.specs.Machine.{Machine, OrderKind, CancelSend, CancelReceive, CancelBoth, Delete, place_of}
+use Rattle.l4_model.specs.World.{World, Thread, PendingOrder, Owed, others_owed, Receive, Phase, Ready, Sending, Receiving, Ordering, Ended, Deleted, changed, change, is_ready, is_deleted, receive_now, unqueued}
 use Rattle.l4_model.specs.Conditions.{Found, Pending, found, found_by}
 use Rattle.l4_model.specs.Steps.{Step, Local, Begin, Queue, Deliver, Wait, SendTimeout, ReceiveTimeout, SendNobody, ReceiveNobody, SendCancel, ReceiveCancel, Drop, Order, Obey, Tick, Retarget, next}
 use Rattle.l4_model.specs.Effects.{fails, decided, refused, receives as gets, delivered, asked, obeyed, turns_in, turns}
@@ -81,7 +81,7 @@ turns_stays o x d = by x.phase d
     by Ended h = d
     by Deleted h = d
 
-asked_stays : (what : What) (x : Thread) → is_deleted x.phase ≡ true → is_deleted (asked what x).phase ≡ true
+asked_stays : (what : OrderKind) (x : Thread) → is_deleted x.phase ≡ true → is_deleted (asked what x).phase ≡ true
 asked_stays CancelSend x d = d
 asked_stays CancelReceive x d = d
 asked_stays CancelBoth x d = d
@@ -180,16 +180,16 @@ deletes : (m : Machine) (w v : World) (caller target : GlobalId) (j : ℕ) → n
     undone m w caller ≡ Some (record { target = target; what = Delete }) → place_of m target ≡ Some j → gone_at v j ≡ true
 deletes m w v caller target j h asks place =
     let k = obey_taken m w v caller h in
-    let order : Asked = record { target = target; what = Delete } in
+    let order : PendingOrder = record { target = target; what = Delete } in
     let is : k.order ≡ order = some_is k.order order (sym k.ordered ∙ ask_of k.t k.found) in
-    let at : k.target ≡ j = some_is k.target j (sym k.target_is ∙ ap (λ (x : Asked). place_of m x.target) is ∙ place) in
+    let at : k.target ≡ j = some_is k.target j (sym k.target_is ∙ ap (λ (x : PendingOrder). place_of m x.target) is ∙ place) in
     subst (λ u. gone_at u j ≡ true) k.leads_to
-    (stays (change w k.target (asked k.order.what)) k.t.at obeyed j (λ x at. obeyed_stays x) (now_gone k.target k.order.what at (ap (λ (x : Asked). x.what) is)))
+    (stays (change w k.target (asked k.order.what)) k.t.at obeyed j (λ x at. obeyed_stays x) (now_gone k.target k.order.what at (ap (λ (x : PendingOrder). x.what) is)))
   where
     ask_of : (t : Found) → found m w caller ≡ Some t → t.now.order ≡ Some (record { target = target; what = Delete })
     ask_of t is = rw is at asks
 
-    now_gone : (i : ℕ) (what : What) → i ≡ j → what ≡ Delete → gone_at (change w i (asked what)) j ≡ true
+    now_gone : (i : ℕ) (what : OrderKind) → i ≡ j → what ≡ Delete → gone_at (change w i (asked what)) j ≡ true
     now_gone i what same delete =
         rw (same, delete) (ap is_gone_thread (get-changed_same (asked Delete) w.threads j) ∙ of (slice_get w.threads j))
       where
@@ -208,5 +208,5 @@ none_after_delete m before after caller target w v r u first asks =
     let asks' : undone m p.between caller ≡ Some (record { target = target; what = Delete }) = ap (λ y. undone m y caller) same ∙ asks in
     let ordered : k.t.now.order ≡ Some (record { target = target; what = Delete }) = rw k.found at asks' in
     let order_is : k.order ≡ record { target = target; what = Delete } = some_is _ _ (sym k.ordered ∙ ordered) in
-    let place : place_of m target ≡ Some k.target = ap (λ (y : Asked). place_of m y.target) (sym order_is) ∙ k.target_is in
+    let place : place_of m target ≡ Some k.target = ap (λ (y : PendingOrder). place_of m y.target) (sym order_is) ∙ k.target_is in
     run_no_delivery m target k.target after x v rest place (deletes m p.between x caller target k.target is asks' place)

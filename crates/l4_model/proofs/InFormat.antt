@@ -7,7 +7,7 @@ use Rattle.std.proofs.lemmas.Bool.{and_parts, and_from, ltb-true, lt-ltb, eqb-tr
 use Rattle.std.proofs.lemmas.List.Folds.{list_all-append}
 use Rattle.std.proofs.lemmas.Slice.Eq.{bytes_eq-Decides}
 use Rattle.l4_model.specs.Words.{Format, W64, W32, word_limit, label_limit_in, is_word_in, same_format, GlobalId}
-use Rattle.l4_model.specs.Machine.{Machine, Declaration, Instr, Set, Copy, Add, Tag, Vs, Ipc, Ask, Jump, OnErr, End, What, CancelSend, CancelReceive, CancelBoth, Delete, instruction_at}
+use Rattle.l4_model.specs.Machine.{Machine, Declaration, Instr, Set, Copy, Add, Tag, Vs, Ipc, Ask, Jump, OnErr, End, OrderKind, CancelSend, CancelReceive, CancelBoth, Delete, instruction_at}
 use Rattle.l4_model.specs.World.{Context, Thread, World, Message, Send, Receive, Owed, Phase, Ready, Sending, Receiving, Ordering, Ended, Deleted, opening, opening_thread, is_alive}
 use Rattle.l4_model.specs.Rules.{ran, received_tag, is_cross, message_of, bit}
 use Rattle.l4_model.specs.Steps.{Step, Deliver, next}
@@ -138,7 +138,7 @@ goes_on_keeps : (f : Format) (d : Declaration) (now : ℕ) (t : Thread) (receive
 goes_on_keeps f d now t None later h = record { script = h.script; registers = all_set f t.context.words 0 0 h.registers (zero_fits f); message = tt }
 goes_on_keeps f d now t (Some receive) later h = record { script = h.script; registers = h.registers; message = tt }
 
-asked_keeps : (f : Format) (d : Declaration) (now : ℕ) (t : Thread) (what : What) → Keeps f d now t → Keeps f d now (asked what t)
+asked_keeps : (f : Format) (d : Declaration) (now : ℕ) (t : Thread) (what : OrderKind) → Keeps f d now t → Keeps f d now (asked what t)
 asked_keeps f d now t CancelSend h = record { script = h.script; registers = h.registers; message = h.message }
 asked_keeps f d now t CancelReceive h = record { script = h.script; registers = h.registers; message = h.message }
 asked_keeps f d now t CancelBoth h = record { script = h.script; registers = h.registers; message = h.message }

@@ -3,11 +3,11 @@ use Rattle.std.proofs.Common.{◌≡◌, ℕ, ◌+◌, ◌^◌, true, Some, List
 use Rattle.std.specs.Prelude.{slice_get, slice_set, nat_lt, ◌==◌, not, ◌&&◌, is_none}
 use Rattle.std.specs.Str.{bytes_eq}
 use Rattle.l4_model.specs.Words.{GlobalId, same_id}
-use Rattle.l4_model.specs.Machine.{Machine, What, place_of}
-use Rattle.l4_model.specs.World.{Receive, Send, Asked, World, change, is_alive, is_ready, is_deleted, receive_now, queued, unqueued, Name, Owed, owed_of, others_owed, must_wait}
+use Rattle.l4_model.specs.Machine.{Machine, OrderKind, place_of}
+use Rattle.l4_model.specs.World.{Receive, Send, PendingOrder, World, change, is_alive, is_ready, is_deleted, receive_now, queued, unqueued, Name, Owed, owed_of, others_owed, must_wait}
 use Rattle.l4_model.specs.Conditions.{Found, found, Pending, undecided, receiver_of, instruction, act_of, is_waiting, first_accepted, is_nobody, found_by, is_no_destination, is_timed_out}
 use Rattle.l4_model.specs.Rules.{received_tag, is_cross, owed_by}
-use Rattle.l4_model.specs.Steps.{what_code, runs_alone, send_of, receive_of, order_of, after_local, after_begin, after_queue, after_deliver, after_wait, owing, without_send, after_send_timeout, after_send_nobody, after_send_cancel, after_drop, receive_passed, after_receive_timeout, after_receive_nobody, after_receive_cancel, after_order, after_obey, after_tick, after_retarget}
+use Rattle.l4_model.specs.Steps.{order_kind_code, runs_alone, send_of, receive_of, order_of, after_local, after_begin, after_queue, after_deliver, after_wait, owing, without_send, after_send_timeout, after_send_nobody, after_send_cancel, after_drop, receive_passed, after_receive_timeout, after_receive_nobody, after_receive_cancel, after_order, after_obey, after_tick, after_retarget}
 use Rattle.l4_model.specs.Effects.{runs, begins, waits, fails, decided, refused, receives, delivered, asked, orders, obeyed, turns}
 use Rattle.l4_model.proofs.Chains.{bind_then, guard_then, some_is}
 
@@ -214,27 +214,27 @@ receive_cancel_taken m w v id h =
     guard_then (t.now.cancel_receive) _ v rest λ wish rest.
     record { t = t; found = found; receive = receive; receiving = receiving; wish = wish; leads_to = some_is _ v rest }
 
-pub record OrderTaken (m : Machine) (w v : World) (caller target : GlobalId) (what : What) : Type 0 where
+pub record OrderTaken (m : Machine) (w v : World) (caller target : GlobalId) (what : OrderKind) : Type 0 where
   pub t : Found
   pub found : found m w caller ≡ Some t
   pub ready : (is_ready t.now.phase) ≡ true
-  pub order : Asked
+  pub order : PendingOrder
   pub ordered : order_of (act_of m t) ≡ Some order
-  pub same_order : (same_id target order.target && what_code what == what_code order.what) ≡ true
+  pub same_order : (same_id target order.target && order_kind_code what == order_kind_code order.what) ≡ true
   pub leads_to : change w t.at (orders order) ≡ v
 
-pub order_taken : (m : Machine) (w v : World) (caller target : GlobalId) (what : What) → after_order m w caller target what ≡ Some v → OrderTaken m w v caller target what
+pub order_taken : (m : Machine) (w v : World) (caller target : GlobalId) (what : OrderKind) → after_order m w caller target what ≡ Some v → OrderTaken m w v caller target what
 order_taken m w v caller target what h =
     bind_then (found m w caller) _ v h λ t found rest.
     guard_then (is_ready t.now.phase) _ v rest λ ready rest.
     bind_then (order_of (act_of m t)) _ v rest λ order ordered rest.
-    guard_then (same_id target order.target && what_code what == what_code order.what) _ v rest λ same_order rest.
+    guard_then (same_id target order.target && order_kind_code what == order_kind_code order.what) _ v rest λ same_order rest.
     record { t = t; found = found; ready = ready; order = order; ordered = ordered; same_order = same_order; leads_to = some_is _ v rest }
 
 pub record ObeyTaken (m : Machine) (w v : World) (caller : GlobalId) : Type 0 where
   pub t : Found
   pub found : found m w caller ≡ Some t
-  pub order : Asked
+  pub order : PendingOrder
   pub ordered : t.now.order ≡ Some order
   pub target : ℕ
   pub target_is : place_of m order.target ≡ Some target

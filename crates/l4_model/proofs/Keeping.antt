@@ -4,8 +4,8 @@ use Rattle.std.proofs.Common.{subst, ◌≡◌, ℕ, zero, suc, ◌≤◌, true,
 use Rattle.std.proofs.lemmas.Bool.{ltb-true, eqb-true}
 use Rattle.std.specs.Prelude.{slice_get, slice_set, slice_index, nat_lt, ◌⊎◌, Bool, is_some, ◌^◌}
 use Rattle.l4_model.specs.Words.{GlobalId, Id, NilThread, AnyThread, AnyLocalThread, LocalThread, GlobalThread}
-use Rattle.l4_model.specs.Machine.{Machine, Declaration, What, CancelSend, CancelReceive, CancelBoth, Delete, place_of, is_declared, instruction_at}
-use Rattle.l4_model.specs.World.{World, Thread, Send, Receive, Asked, changed, change, opening, opening_thread, is_ready, is_deleted, receive_now, unqueued, others_owed, Owed, Name}
+use Rattle.l4_model.specs.Machine.{Machine, Declaration, OrderKind, CancelSend, CancelReceive, CancelBoth, Delete, place_of, is_declared, instruction_at}
+use Rattle.l4_model.specs.World.{World, Thread, Send, Receive, PendingOrder, changed, change, opening, opening_thread, is_ready, is_deleted, receive_now, unqueued, others_owed, Owed, Name}
 use Rattle.l4_model.specs.Rules.{act, received_tag, is_cross}
 use Rattle.l4_model.specs.Conditions.{Found, found, found_by, Pending, undecided, instruction}
 use Rattle.l4_model.specs.Steps.{Step, Local, Begin, Queue, Deliver, Wait, SendTimeout, ReceiveTimeout, SendNobody, ReceiveNobody, SendCancel, ReceiveCancel, Drop, Order, Obey, Tick, Retarget, send_of, without_send, next}
@@ -27,19 +27,19 @@ pub record Maintained (m : Machine) (P : Fact) : Type 0 where
   pub at_begin : (d : Declaration) (now : ℕ) (t : Thread) (send : Send) → is_declared m d.id ≡ true → is_ready t.phase ≡ true →
       send_of (act m d.id now t.context (instruction_at d.script t.context.place)) ≡ Some send → P d now t → P d now (begins send t)
   pub at_wait : (d : Declaration) (now : ℕ) (t : Thread) (receive : Receive) → is_ready t.phase ≡ true → P d now t → P d now (waits receive now t)
-  pub at_order : (d : Declaration) (now : ℕ) (t : Thread) (order : Asked) → is_ready t.phase ≡ true → P d now t → P d now (orders order t)
+  pub at_order : (d : Declaration) (now : ℕ) (t : Thread) (order : PendingOrder) → is_ready t.phase ≡ true → P d now t → P d now (orders order t)
   pub at_failure : (d : Declaration) (now : ℕ) (t : Thread) (code : ℕ) (receive : Receive) → receive_now t.phase ≡ Some receive → P d now t → P d now (fails code t)
   pub at_refusal : (d : Declaration) (now : ℕ) (t : Thread) (code : ℕ) (send : Send) → t.send ≡ Some send → P d now t → P d now (refused code t)
   pub at_drop : (d : Declaration) (now : ℕ) (t : Thread) → is_deleted t.phase ≡ true → P d now t → P d now (decided t)
   pub at_receipt : (d sd : Declaration) (now sender_now : ℕ) (t sender : Thread) (receive : Receive) (send : Send) (cross : Bool) → receive_now t.phase ≡ Some receive →
       sender.send ≡ Some send → P sd sender_now sender → P d now t → P d now (receives send.message (received_tag cross send.message) t)
   pub at_delivery : (d : Declaration) (now : ℕ) (t : Thread) (send : Send) → t.send ≡ Some send → P d now t → P d now (delivered send now t)
-  pub at_asked : (d : Declaration) (now : ℕ) (t : Thread) (what : What) → P d now t → P d now (asked what t)
-  pub at_obedience : (d : Declaration) (now : ℕ) (t : Thread) (order : Asked) → t.order ≡ Some order → P d now t → P d now (obeyed t)
+  pub at_asked : (d : Declaration) (now : ℕ) (t : Thread) (what : OrderKind) → P d now t → P d now (asked what t)
+  pub at_obedience : (d : Declaration) (now : ℕ) (t : Thread) (order : PendingOrder) → t.order ≡ Some order → P d now t → P d now (obeyed t)
   pub at_turn : (d : Declaration) (now : ℕ) (t : Thread) (o : Owed) → P d now t → P d now (turns o t)
   pub at_tick : (d : Declaration) (now later : ℕ) (t : Thread) → now ≤ later → P d now t → P d later t
 
-pub order-asked : (what : What) (t : Thread) → (asked what t).order ≡ t.order
+pub order-asked : (what : OrderKind) (t : Thread) → (asked what t).order ≡ t.order
 order-asked CancelSend t = refl
 order-asked CancelReceive t = refl
 order-asked CancelBoth t = refl

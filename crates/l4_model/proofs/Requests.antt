@@ -5,7 +5,7 @@ use Rattle.std.proofs.lemmas.List.{length-take}
 use Rattle.std.specs.Prelude.{◌==◌, ◌/◌, ◌^◌, not, nat_lt, is_some, unwrap_or, find, position}
 use Rattle.std.specs.List.{position_or_len}
 use Rattle.l4_model.specs.Words.{GlobalId, Id, NilThread, AnyThread, AnyLocalThread, LocalThread, GlobalThread, Period, same_id}
-use Rattle.l4_model.specs.Machine.{Machine, Declaration, What, Instr, Set, Copy, Add, Tag, Vs, Ipc, Ask, Jump, OnErr, End, declaration_of, is_declared, agree, same_space}
+use Rattle.l4_model.specs.Machine.{Machine, Declaration, OrderKind, Instr, Set, Copy, Add, Tag, Vs, Ipc, Ask, Jump, OnErr, End, declaration_of, is_declared, agree, same_space}
 use Rattle.l4_model.specs.World.{Context, Receive, Send}
 use Rattle.l4_model.specs.Rules.{act, ipc_act, ask_act, is_admitted, message_of, destination, receive_phase, register, originator, permitted}
 use Rattle.l4_model.specs.Steps.{send_of}
@@ -25,7 +25,7 @@ ipc_request m id now c AnyLocalThread period receive send h = let is = some_is _
 ipc_request m id now c (LocalThread word) period receive send h = let is = some_is _ send h in record { since = ap (λ (s : Send). s.since) (sym is); message = ap (λ (s : Send). s.message) is }
 ipc_request m id now c (GlobalThread t) period receive send h = let is = some_is _ send h in record { since = ap (λ (s : Send). s.since) (sym is); message = ap (λ (s : Send). s.message) is }
 
-ask_sends_nothing : (m : Machine) (id : GlobalId) (target : Id) (what : What) → send_of (ask_act m id target what) ≡ None
+ask_sends_nothing : (m : Machine) (id : GlobalId) (target : Id) (what : OrderKind) → send_of (ask_act m id target what) ≡ None
 ask_sends_nothing m id NilThread what = refl
 ask_sends_nothing m id AnyThread what = refl
 ask_sends_nothing m id AnyLocalThread what = refl

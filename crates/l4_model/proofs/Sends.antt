@@ -4,7 +4,7 @@ use Rattle.std.proofs.lemmas.Bool.{eqb-true}
 use Rattle.std.specs.Prelude.{slice_get, ◌==◌}
 use Rattle.std.specs.Option.{option_map}
 use Rattle.l4_model.specs.Words.{GlobalId}
-use Rattle.l4_model.specs.Machine.{Machine, Instr, Set, Copy, Add, Tag, Vs, Ipc, Ask, Jump, OnErr, End, What, CancelSend, CancelReceive, CancelBoth, Delete, place_of}
+use Rattle.l4_model.specs.Machine.{Machine, Instr, Set, Copy, Add, Tag, Vs, Ipc, Ask, Jump, OnErr, End, OrderKind, CancelSend, CancelReceive, CancelBoth, Delete, place_of}
 use Rattle.l4_model.specs.World.{Context, Thread, World, Send, Receive, Owed, Phase, Ready, Sending, Receiving, Ordering, Ended, Deleted, changed, change, is_alive, is_ready, unqueued, others_owed, Name}
 use Rattle.l4_model.specs.Rules.{ran}
 use Rattle.l4_model.specs.Steps.{Step, Local, Begin, Queue, Deliver, Wait, SendTimeout, ReceiveTimeout, SendNobody, ReceiveNobody, SendCancel, ReceiveCancel, Drop, Order, Obey, Tick, Retarget, without_send, next}
@@ -67,7 +67,7 @@ status-turns o t = by t.phase
     by Ended = refl
     by Deleted = refl
 
-pub status-asked : (what : What) (t : Thread) → status (asked what t) ≡ status t
+pub status-asked : (what : OrderKind) (t : Thread) → status (asked what t) ≡ status t
 status-asked CancelSend t = refl
 status-asked CancelReceive t = refl
 status-asked CancelBoth t = refl

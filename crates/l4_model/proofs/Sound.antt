@@ -5,8 +5,8 @@ use Rattle.std.proofs.lemmas.List.{length-set, length-append, length-drop}
 use Rattle.std.specs.Prelude.{◌==◌, is_some, IfSome}
 use Rattle.std.specs.Option.{option_map}
 use Rattle.l4_model.specs.Words.{GlobalId}
-use Rattle.l4_model.specs.Machine.{Machine, Declaration, Instr, Set, Copy, Add, Tag, Vs, Ipc, Ask, Jump, OnErr, End, What, CancelSend, CancelReceive, CancelBoth, Delete, is_declared, instruction_at}
-use Rattle.l4_model.specs.World.{Context, Thread, World, Message, Send, Receive, Asked, Owed, Phase, Ready, Sending, Receiving, Ordering, Ended, Deleted, opening, is_alive, is_ready, is_sending, is_deleted, receive_now}
+use Rattle.l4_model.specs.Machine.{Machine, Declaration, Instr, Set, Copy, Add, Tag, Vs, Ipc, Ask, Jump, OnErr, End, OrderKind, CancelSend, CancelReceive, CancelBoth, Delete, is_declared, instruction_at}
+use Rattle.l4_model.specs.World.{Context, Thread, World, Message, Send, Receive, PendingOrder, Owed, Phase, Ready, Sending, Receiving, Ordering, Ended, Deleted, opening, is_alive, is_ready, is_sending, is_deleted, receive_now}
 use Rattle.l4_model.specs.Rules.{act, ran, received_tag}
 use Rattle.l4_model.specs.Steps.{Step, send_of, next}
 use Rattle.l4_model.specs.Effects.{phase_after, runs, begins, waits, fails, decided, refused, receives, goes_on, delivered, has_receive_phase, asked, asked_send, asked_receive, orders, obeyed, calls_to_receive, turned_receive, turned_send, turns_in, turns}
@@ -16,7 +16,7 @@ use Rattle.l4_model.proofs.Requests.{act_request, message_short, shown_declared}
 use Rattle.l4_model.proofs.Keeping.{Each, Maintained, step_each, opening_each}
 
 -- a ready or a receiving thread has no send and no order, and a ready one no wish
-pub ready_has_none : (p : Phase) (send : Option Send) (order : Option Asked) → is_ready p ≡ true → Suits p send order → (send ≡ None) × (order ≡ None)
+pub ready_has_none : (p : Phase) (send : Option Send) (order : Option PendingOrder) → is_ready p ≡ true → Suits p send order → (send ≡ None) × (order ≡ None)
 ready_has_none Ready send order h s = s
 ready_has_none Sending send order h s = cc
 ready_has_none (Receiving receive since) send order h s = cc
@@ -24,7 +24,7 @@ ready_has_none Ordering send order h s = cc
 ready_has_none Ended send order h s = cc
 ready_has_none Deleted send order h s = cc
 
-pub receiving_has_none : (p : Phase) (send : Option Send) (order : Option Asked) (receive : Receive) → receive_now p ≡ Some receive → Suits p send order → (send ≡ None) × (order ≡ None)
+pub receiving_has_none : (p : Phase) (send : Option Send) (order : Option PendingOrder) (receive : Receive) → receive_now p ≡ Some receive → Suits p send order → (send ≡ None) × (order ≡ None)
 receiving_has_none Ready send order receive h s = cc
 receiving_has_none Sending send order receive h s = cc
 receiving_has_none (Receiving r since) send order receive h s = s
@@ -41,7 +41,7 @@ no_receive_phase Ended send h r = cc
 no_receive_phase Deleted send h r = cc
 
 -- a thread that is alive and has an undecided send has no order, and one with an order no send and no receive phase
-sender_has_no_order : (p : Phase) (send : Send) (order : Option Asked) → is_alive p ≡ true → Suits p (Some send) order → order ≡ None
+sender_has_no_order : (p : Phase) (send : Send) (order : Option PendingOrder) → is_alive p ≡ true → Suits p (Some send) order → order ≡ None
 sender_has_no_order Ready send order h s = cc
 sender_has_no_order Sending send order h s = s.1
 sender_has_no_order (Receiving receive since) send order h s = cc
@@ -49,7 +49,7 @@ sender_has_no_order Ordering send order h s = cc
 sender_has_no_order Ended send order h s = cc
 sender_has_no_order Deleted send order h s = cc
 
-caller_has_none : (p : Phase) (send : Option Send) (order : Asked) → is_alive p ≡ true → Suits p send (Some order) → (send ≡ None) × (has_receive_phase p send ≡ false)
+caller_has_none : (p : Phase) (send : Option Send) (order : PendingOrder) → is_alive p ≡ true → Suits p send (Some order) → (send ≡ None) × (has_receive_phase p send ≡ false)
 caller_has_none Ready send order h s = cc
 caller_has_none Sending send order h s = cc
 caller_has_none (Receiving receive since) send order h s = cc
@@ -58,7 +58,7 @@ caller_has_none Ended send order h s = cc
 caller_has_none Deleted send order h s = cc
 
 -- a deleted thread may have both
-suits_deleted : (p : Phase) (send : Option Send) (order : Option Asked) → is_alive p ≡ false → Suits p send order
+suits_deleted : (p : Phase) (send : Option Send) (order : Option PendingOrder) → is_alive p ≡ false → Suits p send order
 suits_deleted Ready send order h = cc
 suits_deleted Sending send order h = cc
 suits_deleted (Receiving receive since) send order h = cc
@@ -66,7 +66,7 @@ suits_deleted Ordering send order h = cc
 suits_deleted Ended send order h = cc
 suits_deleted Deleted send order h = tt
 
-suits_gone : (p : Phase) (send : Option Send) (order : Option Asked) → is_deleted p ≡ true → Suits p send order
+suits_gone : (p : Phase) (send : Option Send) (order : Option PendingOrder) → is_deleted p ≡ true → Suits p send order
 suits_gone Ready send order h = cc
 suits_gone Sending send order h = cc
 suits_gone (Receiving receive since) send order h = cc
@@ -137,7 +137,7 @@ wait_keeps : (m : Machine) (d : Declaration) (now : ℕ) (t : Thread) (receive :
 wait_keeps m d now t receive ready h =
     record { suits = ready_has_none t.phase t.send t.order ready h.suits; send = h.send; began = omega arith; send_wish = h.send_wish; receive_wish = λ wish. refl; registers = h.registers }
 
-order_keeps : (m : Machine) (d : Declaration) (now : ℕ) (t : Thread) (order : Asked) → is_ready t.phase ≡ true → ThreadFacts m d now t → ThreadFacts m d now (orders order t)
+order_keeps : (m : Machine) (d : Declaration) (now : ℕ) (t : Thread) (order : PendingOrder) → is_ready t.phase ≡ true → ThreadFacts m d now t → ThreadFacts m d now (orders order t)
 order_keeps m d now t order ready h =
     record {
       suits = ((ready_has_none t.phase t.send t.order ready h.suits).0, refl);
@@ -205,7 +205,7 @@ delivery_keeps m d now t send has h =
     (λ alive. goes_on_keeps m d now t send.receive (sender_none t send has alive h.suits) h)
     (λ gone. decided_gone m d now t (suits_deleted t.phase None t.order gone) h)
 
-sending_has_one : (p : Phase) (send : Option Send) (order : Option Asked) → is_sending p ≡ true → Suits p send order → is_some send ≡ true
+sending_has_one : (p : Phase) (send : Option Send) (order : Option PendingOrder) → is_sending p ≡ true → Suits p send order → is_some send ≡ true
 sending_has_one Ready send order h s = cc
 sending_has_one Sending send order h s = s.0
 sending_has_one (Receiving receive since) send order h s = cc
@@ -235,13 +235,13 @@ asked_receive_keeps m d now t h =
       registers = h.registers;
     }
 
-asked_keeps : (m : Machine) (d : Declaration) (now : ℕ) (t : Thread) (what : What) → ThreadFacts m d now t → ThreadFacts m d now (asked what t)
+asked_keeps : (m : Machine) (d : Declaration) (now : ℕ) (t : Thread) (what : OrderKind) → ThreadFacts m d now t → ThreadFacts m d now (asked what t)
 asked_keeps m d now t CancelSend h = asked_send_keeps m d now t h
 asked_keeps m d now t CancelReceive h = asked_receive_keeps m d now t h
 asked_keeps m d now t CancelBoth h = asked_receive_keeps m d now (asked_send t) (asked_send_keeps m d now t h)
 asked_keeps m d now t Delete h = record { suits = tt; send = h.send; began = tt; send_wish = h.send_wish; receive_wish = λ wish. no_wish wish; registers = h.registers }
 
-obedience_keeps : (m : Machine) (d : Declaration) (now : ℕ) (t : Thread) (order : Asked) → t.order ≡ Some order → ThreadFacts m d now t → ThreadFacts m d now (obeyed t)
+obedience_keeps : (m : Machine) (d : Declaration) (now : ℕ) (t : Thread) (order : PendingOrder) → t.order ≡ Some order → ThreadFacts m d now t → ThreadFacts m d now (obeyed t)
 obedience_keeps m d now t order has h =
     cond_keeps (ThreadFacts m d now) (is_alive t.phase) _ _
     (λ alive.
@@ -250,7 +250,7 @@ obedience_keeps m d now t order has h =
     (λ gone. record { suits = suits_deleted t.phase t.send None gone; send = h.send; began = h.began; send_wish = h.send_wish; receive_wish = h.receive_wish; registers = h.registers })
 
 -- a send that turns to another partner has the same message, and a receive phase where it had one
-suits_turned : (o : Owed) (p : Phase) (send : Option Send) (order : Option Asked) → Suits p send order → Suits p (option_map (turned_send o) send) order
+suits_turned : (o : Owed) (p : Phase) (send : Option Send) (order : Option PendingOrder) → Suits p send order → Suits p (option_map (turned_send o) send) order
 suits_turned o Ready send order s = (ap (option_map (turned_send o)) s.0, s.1)
 suits_turned o Sending None order s = s
 suits_turned o Sending (Some send) order s = (refl, s.1)

@@ -7,11 +7,11 @@ use Rattle.std.proofs.lemmas.Slice.Eq.{bytes_eq-Decides}
 use Rattle.std.specs.Prelude.{slice_get, slice_set, ◌==◌, ◌&&◌, nat_lt, is_some, is_none, not, find, ◌↔◌}
 use Rattle.std.specs.List.{AllByRecursion, list_all}
 use Rattle.l4_model.specs.Words.{GlobalId, same_id}
-use Rattle.l4_model.specs.Machine.{Machine, Declaration, What, CancelSend, CancelReceive, CancelBoth, Delete}
-use Rattle.l4_model.specs.World.{World, Asked, Owed, same_name, Name}
+use Rattle.l4_model.specs.Machine.{Machine, Declaration, OrderKind, CancelSend, CancelReceive, CancelBoth, Delete}
+use Rattle.l4_model.specs.World.{World, PendingOrder, Owed, same_name, Name}
 use Rattle.l4_model.specs.Rules.{received_tag, is_cross}
 use Rattle.l4_model.specs.Conditions.{Found, found, Pending, undecided, receiver_of, act_of}
-use Rattle.l4_model.specs.Steps.{Step, Local, Begin, Queue, Deliver, Wait, SendTimeout, ReceiveTimeout, SendNobody, ReceiveNobody, SendCancel, ReceiveCancel, Drop, Order, Obey, Tick, Retarget, what_code, order_of, next}
+use Rattle.l4_model.specs.Steps.{Step, Local, Begin, Queue, Deliver, Wait, SendTimeout, ReceiveTimeout, SendNobody, ReceiveNobody, SendCancel, ReceiveCancel, Drop, Order, Obey, Tick, Retarget, order_kind_code, order_of, next}
 use Rattle.l4_model.specs.History.{run, reached}
 use Rattle.l4_model.specs.Still.{is_tick, IsStill, deliveries, orders, candidates, late, is_still_thread, is_still}
 use Rattle.l4_model.proofs.Chains.{bind_then, some_is}
@@ -146,7 +146,7 @@ last_is m w s p is =
     let k : p.sender.now.context.begun ≡ s.k = (known_send m w s p is).last in
     ap (λ x. record { thread = x; k = s.k }) (sym id) ∙ ap (λ n. record { thread = p.sender.declared.id; k = n }) (sym k)
 
-what_is : (a b : What) → (what_code a == what_code b) ≡ true → a ≡ b
+what_is : (a b : OrderKind) → (order_kind_code a == order_kind_code b) ≡ true → a ≡ b
 what_is CancelSend CancelSend h = refl
 what_is CancelSend CancelReceive h = cc
 what_is CancelSend CancelBoth h = cc
@@ -186,11 +186,11 @@ delivery_tried m w v s receiver shown actual tag words k none h =
     let at : slice_get (candidates m w (Some k.p.sender)) 12 ≡ Some tried = rw (is, k.to) refl in
     not_tried m w v k.p.sender (Deliver s receiver shown actual tag words) tried 12 none at same h
 
-order_tried : (m : Machine) (w v : World) (caller target : GlobalId) (what : What) (k : OrderTaken m w v caller target what) → NoneTried m w k.t → next m w (Order caller target what) ≡ Some v → ⊥
+order_tried : (m : Machine) (w v : World) (caller target : GlobalId) (what : OrderKind) (k : OrderTaken m w v caller target what) → NoneTried m w k.t → next m w (Order caller target what) ≡ Some v → ⊥
 order_tried m w v caller target what k none h =
     let p = λ (step : Step). is_none (next m w step) in
     let tried : Step = Order k.t.declared.id k.order.target k.order.what in
-    let both = and_true (same_id target k.order.target) (what_code what == what_code k.order.what) k.same_order in
+    let both = and_true (same_id target k.order.target) (order_kind_code what == order_kind_code k.order.what) k.same_order in
     let same : Order caller target what ≡ tried =
     ap (λ x. Order x target what) (thread_is m w caller k.t k.found)
     ∙ ap (λ x. Order k.t.declared.id x what) (same_id_is target k.order.target both.0)
@@ -328,7 +328,7 @@ deliveries_no_tick m w (Some p) s = by (receiver_of m w p) refl
     by None e = rw e
     by (Some r) e = rw e
 
-orders_no_tick : (id : GlobalId) (o : Option Asked) → list_all is_no_tick (orders id o) ≡ true
+orders_no_tick : (id : GlobalId) (o : Option PendingOrder) → list_all is_no_tick (orders id o) ≡ true
 orders_no_tick id None = refl
 orders_no_tick id (Some order) = refl
 

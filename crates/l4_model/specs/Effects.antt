@@ -1,8 +1,8 @@
 -- What each step does to one thread.
 use Rattle.std.specs.Prelude.{ℕ, ◌+◌, Bool, if◌then◌else◌, false, option_map, Option, Some, None, is_some, true, ◌||◌}
-use Rattle.l4_model.specs.Machine.{What, CancelSend, CancelReceive, CancelBoth, Delete, Instr, End}
+use Rattle.l4_model.specs.Machine.{OrderKind, CancelSend, CancelReceive, CancelBoth, Delete, Instr, End}
 use Rattle.l4_model.specs.Words.{GlobalThread, is_id_of}
-use Rattle.l4_model.specs.World.{Receive, Message, Send, Asked, Owed, Phase, Ready, Sending, Receiving, Ordering, Ended, Deleted, Thread, is_sending, is_alive}
+use Rattle.l4_model.specs.World.{Receive, Message, Send, PendingOrder, Owed, Phase, Ready, Sending, Receiving, Ordering, Ended, Deleted, Thread, is_sending, is_alive}
 use Rattle.l4_model.specs.Rules.{advanced, failed, sent, received, ordered, ran}
 
 -- At an `end` a thread has ended.
@@ -83,7 +83,7 @@ asked_receive t = record t { cancel_receive = t.cancel_receive || has_receive_ph
 
 -- An order to cancel it or to delete it (manual: ThreadControl) is done. Own: a deleted thread's
 -- registers stay, and its send goes on.
-abbrev pub asked : What → Thread → Thread
+abbrev pub asked : OrderKind → Thread → Thread
 asked CancelSend t = asked_send t
 asked CancelReceive t = asked_receive t
 asked CancelBoth t = asked_receive (asked_send t)
@@ -112,7 +112,7 @@ abbrev pub turns : Owed → Thread → Thread
 turns o t = turns_in t.phase o t
 
 -- It has given an order, and waits until it is done.
-abbrev pub orders : Asked → Thread → Thread
+abbrev pub orders : PendingOrder → Thread → Thread
 orders order t = record t { phase = Ordering; order = Some order }
 
 -- The order that it gave is done.

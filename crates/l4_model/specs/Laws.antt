@@ -4,7 +4,7 @@ use Rattle.std.specs.List.{AllByRecursion, before_first}
 use Rattle.l4_model.specs.Words.{GlobalId, same_id, tag_of_word}
 use Rattle.l4_model.specs.Machine.{Machine, Delete, is_declared}
 pub use Rattle.l4_model.specs.World.{same_name}
-use Rattle.l4_model.specs.World.{World, opening, Asked, Message, receive_now, Name}
+use Rattle.l4_model.specs.World.{World, opening, PendingOrder, Message, receive_now, Name}
 use Rattle.l4_model.specs.Rules.{accepts, message_of}
 use Rattle.l4_model.specs.Steps.{Step, Queue, Deliver, SendTimeout, SendNobody, SendCancel, Drop, Obey, next}
 use Rattle.l4_model.specs.Conditions.{found, undecided, receiver_of, ◌>>=◌, ◌>>◌}
@@ -127,7 +127,7 @@ is_delivered_to t (Deliver s receiver shown actual tag words) = same_id t receiv
 is_delivered_to t _ = false
 
 -- The order that a thread waits for.
-abbrev pub undone : Machine → World → GlobalId → Option Asked
+abbrev pub undone : Machine → World → GlobalId → Option PendingOrder
 undone m w caller = found m w caller >>= λ t. t.now.order
 
 -- A deleted thread receives nothing more.

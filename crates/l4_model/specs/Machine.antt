@@ -9,11 +9,11 @@ pub data To : Type 0 where
 
 -- What one thread may ask of another: a cancellation, by the bits S and R of the control word
 -- (manual: ExchangeRegisters), or a deletion (manual: ThreadControl).
-pub data What : Type 0 where
-  CancelSend : What
-  CancelReceive : What
-  CancelBoth : What
-  Delete : What
+pub data OrderKind : Type 0 where
+  CancelSend : OrderKind
+  CancelReceive : OrderKind
+  CancelBoth : OrderKind
+  Delete : OrderKind
 
 -- One instruction of a script. `Add` has the format of its text, whose words it counts by. `Vs`
 -- writes VirtualSender, `Ask` is an ExchangeRegisters or a deletion.
@@ -24,7 +24,7 @@ pub data Instr : Type 0 where
   Tag : (word : ℕ) → Instr
   Vs : Id → Instr
   Ipc : (to : To) (from : Id) (send_period receive_period : Period) → Instr
-  Ask : (target : Id) (what : What) → Instr
+  Ask : (target : Id) (what : OrderKind) → Instr
   Jump : (place : ℕ) → Instr
   OnErr : (place : ℕ) → Instr
   End : Instr

@@ -3,12 +3,12 @@ use Rattle.std.specs.Prelude.{ℕ, ◌<◌, ◌≤◌, ◌≡◌, true, false, O
 use Rattle.std.specs.List.{AllByRecursion}
 use Rattle.l4_model.specs.Words.{GlobalId, Id, GlobalThread, register_count, clock_limit}
 use Rattle.l4_model.specs.Machine.{Machine, Declaration, place_of, is_declared}
-use Rattle.l4_model.specs.World.{Send, Asked, Phase, Ready, Sending, Receiving, Ordering, Ended, Deleted, Thread, World, Owed, same_name, is_in, list_at}
+use Rattle.l4_model.specs.World.{Send, PendingOrder, Phase, Ready, Sending, Receiving, Ordering, Ended, Deleted, Thread, World, Owed, same_name, is_in, list_at}
 use Rattle.l4_model.specs.Effects.{has_receive_phase}
 
 -- The undecided send and the undone order that go with a phase: a thread that is alive has a send
 -- exactly while it is sending, and an order exactly while it is ordering.
-abbrev pub Suits : Phase → Option Send → Option Asked → Type 0
+abbrev pub Suits : Phase → Option Send → Option PendingOrder → Type 0
 Suits Ready send order = (send ≡ None) × (order ≡ None)
 Suits Sending send order = (is_some send ≡ true) × (order ≡ None)
 Suits (Receiving receive since) send order = (send ≡ None) × (order ≡ None)

@@ -2,8 +2,8 @@
 -- instruction asks for.
 use Rattle.std.specs.Prelude.{ℕ, ◌+◌, ◌*◌, ◌/◌, ◌%◌, ◌^◌, Bool, if◌then◌else◌, ◌==◌, not, ◌&&◌, false, Option, Some, None, is_some, unwrap_or, true, ◌∷◌, ◌++◌, take, drop, length, slice_index, slice_set}
 use Rattle.l4_model.specs.Words.{word_limit, GlobalId, Id, NilThread, AnyThread, AnyLocalThread, LocalThread, GlobalThread, same_id, Period}
-use Rattle.l4_model.specs.Machine.{Tag, To, ToId, ToLast, What, Delete, Instr, Set, Copy, Add, Vs, Ipc, Ask, Jump, OnErr, End, Machine, is_declared, same_space, same_cpu}
-use Rattle.l4_model.specs.World.{Name, Context, Receive, Message, Send, Asked, Owed}
+use Rattle.l4_model.specs.Machine.{Tag, To, ToId, ToLast, OrderKind, Delete, Instr, Set, Copy, Add, Vs, Ipc, Ask, Jump, OnErr, End, Machine, is_declared, same_space, same_cpu}
+use Rattle.l4_model.specs.World.{Name, Context, Receive, Message, Send, PendingOrder, Owed}
 
 -- Who is accepted (manual: Ipc, `FromSpecifier`): anythread takes every sender, anylocalthread
 -- those of the receiver's address space, a global id that sender alone. What is compared is the
@@ -105,7 +105,7 @@ pub data Act : Type 0 where
   RunsAlone : Act
   Sends : Send → Act
   Receives : Receive → Act
-  Orders : Asked → Act
+  Orders : PendingOrder → Act
 
 -- The destination that an ipc names. `last` is the content of the register `from`.
 abbrev pub destination : Context → To → Id
@@ -164,11 +164,11 @@ ipc_act m sender now c to period receive = Sends (request m sender now c to peri
 
 -- An order is admitted where its target is declared, and for a cancellation of the caller's space.
 -- Own: any thread may delete (in the manual, ThreadControl, a privileged one alone).
-abbrev pub is_admitted : Machine → GlobalId → GlobalId → What → Bool
+abbrev pub is_admitted : Machine → GlobalId → GlobalId → OrderKind → Bool
 is_admitted m caller target Delete = is_declared m target
 is_admitted m caller target _ = same_space m caller target
 
-abbrev pub ask_act : Machine → GlobalId → Id → What → Act
+abbrev pub ask_act : Machine → GlobalId → Id → OrderKind → Act
 ask_act m caller (GlobalThread t) what = if is_admitted m caller t what
     then Orders (record { target = t; what = what }) else RunsAlone
 ask_act m caller _ what = RunsAlone

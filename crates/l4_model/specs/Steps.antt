@@ -2,8 +2,8 @@
 use Rattle.std.specs.Prelude.{ℕ, ◌+◌, Bool, ◌==◌, not, ◌&&◌, nat_lt, false, Option, Some, None, List, slice_get, true, slice_set, is_none}
 use Rattle.std.specs.Str.{bytes_eq}
 use Rattle.l4_model.specs.Words.{GlobalId, same_id, clock_limit}
-use Rattle.l4_model.specs.Machine.{What, CancelSend, CancelReceive, CancelBoth, Delete, Machine, place_of}
-use Rattle.l4_model.specs.World.{Name, Receive, Send, Asked, Owed, Phase, Receiving, Thread, World, change, queued, unqueued, owed_of, others_owed, one_more, must_wait, is_ready, is_deleted, is_alive, receive_now}
+use Rattle.l4_model.specs.Machine.{OrderKind, CancelSend, CancelReceive, CancelBoth, Delete, Machine, place_of}
+use Rattle.l4_model.specs.World.{Name, Receive, Send, PendingOrder, Owed, Phase, Receiving, Thread, World, change, queued, unqueued, owed_of, others_owed, one_more, must_wait, is_ready, is_deleted, is_alive, receive_now}
 use Rattle.l4_model.specs.Rules.{Act, RunsAlone, Sends, Receives, Orders, received_tag, is_cross, owed_by, send_timeout_code, receive_timeout_code, send_nobody_code, receive_nobody_code, send_cancelled_code, receive_cancelled_code}
 use Rattle.l4_model.specs.Effects.{runs, begins, waits, fails, decided, refused, receives, delivered, asked, orders, obeyed, turns}
 use Rattle.l4_model.specs.Conditions.{◌>>=◌, ◌>>◌, Found, found, found_by, Pending, undecided, receiver_of, instruction, act_of, is_waiting, first_accepted, is_nobody, is_no_destination, has_passed, is_timed_out}
@@ -23,17 +23,17 @@ pub data Step : Type 0 where
   SendCancel : Name → Step
   ReceiveCancel : GlobalId → Step
   Drop : Name → Step
-  Order : (caller target : GlobalId) → What → Step
+  Order : (caller target : GlobalId) → OrderKind → Step
   Obey : GlobalId → Step
   Tick : (cpu clock : ℕ) → Step
   Retarget : Name → Step
 
 -- A number for each demand, to compare them by.
-abbrev pub what_code : What → ℕ
-what_code CancelSend = 0
-what_code CancelReceive = 1
-what_code CancelBoth = 2
-what_code Delete = 3
+abbrev pub order_kind_code : OrderKind → ℕ
+order_kind_code CancelSend = 0
+order_kind_code CancelReceive = 1
+order_kind_code CancelBoth = 2
+order_kind_code Delete = 3
 
 abbrev pub runs_alone : Act → Bool
 runs_alone RunsAlone = true
@@ -47,7 +47,7 @@ abbrev pub receive_of : Act → Option Receive
 receive_of (Receives receive) = Some receive
 receive_of _ = None
 
-abbrev pub order_of : Act → Option Asked
+abbrev pub order_of : Act → Option PendingOrder
 order_of (Orders order) = Some order
 order_of _ = None
 
@@ -182,12 +182,12 @@ after_receive_cancel m w id = do
 
 -- A thread asks for a cancellation or a deletion (manual: ExchangeRegisters, ThreadControl), and
 -- waits until it is done.
-abbrev pub after_order : Machine → World → (caller target : GlobalId) → What → Option World
+abbrev pub after_order : Machine → World → (caller target : GlobalId) → OrderKind → Option World
 after_order m w caller target what = do
   t ← found m w caller
   is_ready t.now.phase
   order ← order_of (act_of m t)
-  same_id target order.target && what_code what == what_code order.what
+  same_id target order.target && order_kind_code what == order_kind_code order.what
   Some (change w t.at (orders order))
 
 -- What a thread asked for is done.

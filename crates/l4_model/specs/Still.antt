@@ -3,7 +3,7 @@ use Rattle.std.specs.Prelude.{◌+◌, ◌-◌, ◌≡◌, ◌&&◌, Bool, true,
 use Rattle.std.specs.List.{list_all, AllByRecursion}
 use Rattle.l4_model.specs.Words.{GlobalId, clock_limit}
 use Rattle.l4_model.specs.Machine.{Machine}
-use Rattle.l4_model.specs.World.{World, Asked, Name}
+use Rattle.l4_model.specs.World.{World, PendingOrder, Name}
 use Rattle.l4_model.specs.Steps.{Step, Local, Begin, Queue, Deliver, Wait, SendTimeout, ReceiveTimeout, SendNobody, ReceiveNobody, SendCancel, ReceiveCancel, Drop, Order, Obey, Tick, Retarget, order_of, next}
 use Rattle.l4_model.specs.Conditions.{Pending, Found, found, undecided, receiver_of, act_of}
 use Rattle.l4_model.specs.Rules.{received_tag, is_cross}
@@ -34,7 +34,7 @@ deliveries m w (Some p) s = at (receiver_of m w p)
         (received_tag (is_cross m r.declared.id p.send.message) p.send.message)
         p.send.message.words ∷ []
 
-abbrev pub orders : GlobalId → Option Asked → List Step
+abbrev pub orders : GlobalId → Option PendingOrder → List Step
 orders caller None = []
 orders caller (Some order) = Order caller order.target order.what ∷ []
 

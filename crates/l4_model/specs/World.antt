@@ -2,7 +2,7 @@
 use Rattle.std.specs.Prelude.{ℕ, Bool, ◌==◌, ◌&&◌, not, false, Option, Some, None, List, zero, suc, true, [], ◌∷◌, ◌++◌, map, filter, replicate, slice_index_or, find}
 use Rattle.std.specs.List.{list_any}
 use Rattle.l4_model.specs.Words.{GlobalId, Id, NilThread, Period, register_count, same_id, is_id_of}
-use Rattle.l4_model.specs.Machine.{What, Machine}
+use Rattle.l4_model.specs.Machine.{OrderKind, Machine}
 
 -- A send's name: the k-th send that a thread began, from k = 1.
 pub record Name : Type 0 where
@@ -49,9 +49,9 @@ pub record Send : Type 0 where
   pub receive : Option Receive
 
 -- An order that a thread gave and that is not done yet.
-pub record Asked : Type 0 where
+pub record PendingOrder : Type 0 where
   pub target : GlobalId
-  pub what : What
+  pub what : OrderKind
 
 -- What a thread is about. A receive phase has the clock of its processor at its beginning. A
 -- deleted thread has no phase, but its undecided send and its undone order go on.
@@ -70,7 +70,7 @@ pub record Thread : Type 0 where
   pub context : Context
   pub phase : Phase
   pub send : Option Send
-  pub order : Option Asked
+  pub order : Option PendingOrder
   pub cancel_send : Bool
   pub cancel_receive : Bool
 

@@ -25,7 +25,7 @@ use l4_types::ids::GlobalId;
 use l4_types::letters::{Cause, Content, Decision, Letter, Refusal};
 use l4_types::messages::Message;
 use l4_types::owed::Owed;
-use l4_types::steps::{Delivery, Event, Name, Step, What};
+use l4_types::steps::{Delivery, Event, Name, OrderKind, Step};
 use l4_words::spelling::{push_name, push_thread};
 use std::alloc::{AllocError, Global};
 use std::str;
@@ -61,12 +61,12 @@ fn cause(word: &str) -> Option<Cause> {
     })
 }
 
-fn what(word: &str) -> Option<What> {
+fn what(word: &str) -> Option<OrderKind> {
     Some(match word {
-        "CancelSend" => What::CancelSend,
-        "CancelReceive" => What::CancelReceive,
-        "CancelBoth" => What::CancelBoth,
-        "Delete" => What::Delete,
+        "CancelSend" => OrderKind::CancelSend,
+        "CancelReceive" => OrderKind::CancelReceive,
+        "CancelBoth" => OrderKind::CancelBoth,
+        "Delete" => OrderKind::Delete,
         _ => return None,
     })
 }
@@ -242,12 +242,12 @@ fn cause_word(cause: Cause) -> &'static str {
     }
 }
 
-fn what_word(what: What) -> &'static str {
+fn order_kind_word(what: OrderKind) -> &'static str {
     match what {
-        What::CancelSend => " CancelSend",
-        What::CancelReceive => " CancelReceive",
-        What::CancelBoth => " CancelBoth",
-        What::Delete => " Delete",
+        OrderKind::CancelSend => " CancelSend",
+        OrderKind::CancelReceive => " CancelReceive",
+        OrderKind::CancelBoth => " CancelBoth",
+        OrderKind::Delete => " Delete",
     }
 }
 
@@ -256,7 +256,7 @@ fn last_word(content: &Content) -> &'static str {
     match content {
         Content::Done { decision, .. } => decision_word(*decision),
         Content::Withdraw { cause, .. } => cause_word(*cause),
-        Content::Order { what, .. } => what_word(*what),
+        Content::Order { what, .. } => order_kind_word(*what),
         _ => "",
     }
 }

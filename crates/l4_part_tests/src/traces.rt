@@ -4,7 +4,7 @@ use l4_trace::reading::read_events;
 use l4_trace::traces::trace;
 use l4_types::ids::GlobalId;
 use l4_types::messages::Message;
-use l4_types::steps::{Delivery, Name, Step, Tick, What};
+use l4_types::steps::{Delivery, Name, OrderKind, Step, Tick};
 use std::alloc::{AllocError, Global};
 
 // Lines of most kinds, with the least and the greatest numbers.
@@ -61,10 +61,10 @@ fn steps_of_lines() -> Option<[Step; 14]> {
         Step::SendCancel(send),
         Step::ReceiveCancel(one),
         Step::Drop(send),
-        order(What::CancelSend),
-        order(What::CancelReceive),
-        order(What::CancelBoth),
-        order(What::Delete),
+        order(OrderKind::CancelSend),
+        order(OrderKind::CancelReceive),
+        order(OrderKind::CancelBoth),
+        order(OrderKind::Delete),
         Step::Obey(one),
         Step::Tick(Tick::new(15, (1 << 62) - 1)?),
     ])

@@ -161,12 +161,13 @@ impl Log {
     }
 
     // Makes room for an event, and begins it.
+    #[inline(always)]
     pub(crate) fn begin(&mut self) -> Result<(), NoMemory>
         ensures ok { OnOk result (HasBegun self.old self.new) }
         ensures err { OnErr result (IsSameLog self.old self.new) }
     {
         if self.ends.len() == self.ends.capacity() {
-            self.ends.reserve(CHUNK_ENDS)?;
+            grow(&mut self.ends)?;
         }
         self.told.begin()
     }
@@ -209,6 +210,16 @@ impl Log {
     {
         self.told.take_letter()
     }
+}
+
+// Makes room for more ends.
+#[inline(never)]
+fn grow(ends: &mut Vec<End>) -> Result<(), NoMemory>
+    ensures items { ends.new.items ≡ ends.old.items }
+    ensures ok { OnOk result (vec_len ends.new < vec_capacity ends.new) }
+{
+    ends.reserve(CHUNK_ENDS)?;
+    Ok(())
 }
 
 // The place where the i-th of the events that have these ends begins.

@@ -1,4 +1,6 @@
 //! A processor: its turns and its clock, with the mail.
+ghost use Rattle.std.specs.Prelude.{ℕ, ◌≡◌, [], IfNone, IfSome};
+ghost use Rattle.l4_mail.specs.Ports.{here_from, kept_from, HasTaken as HasTakenFrom, IsAsBefore};
 ghost use Rattle.l4_proc.specs.Whole.{IsWhole};
 
 use crate::gate::Gate;
@@ -8,6 +10,7 @@ use crate::worker::Worker;
 use l4_core::processor::Core;
 use l4_mail::ports::Port;
 use l4_types::errors::NoMemory;
+use l4_types::letters::Letter;
 use std::alloc::Global;
 
 /// A processor of a machine: its port to the others, and what does its work.
@@ -198,6 +201,7 @@ impl<'m> Processor<'m> {
     }
 
     // Posts the letters of the event that has ended.
+    #[inline(never)]
     fn post_all(&mut self)
         requires ways { AllByRecursion (λ p.
             HasWayTo self.old.port p.0) self.old.worker.log.told.letters }
@@ -219,7 +223,7 @@ impl<'m> Processor<'m> {
         self.port.reserve()?;
         self.port.flush();
         if self.worker.hand.is_none() && self.port.has_mail() {
-            self.worker.hand = self.port.take();
+            take_mail(&mut self.port, &mut self.worker.hand);
         }
         Ok(())
     }
@@ -241,4 +245,16 @@ impl<'m> Processor<'m> {
     {
         self.worker.tick(to)
     }
+}
+
+// Takes the next letter of the port in hand. It is a call of its own: a turn without a letter is
+// spared the room for one.
+#[inline(never)]
+fn take_mail(port: &mut Port, hand: &mut Option<(u8, Letter)>)
+    ensures some { IfSome hand.new (λ next. HasTakenFrom port.old port.new next.0 next.1) }
+    ensures none { IfNone hand.new (IsAsBefore port.old port.new) }
+    ensures kept { IfNone hand.new ((from : ℕ) → kept_from port.old from ≡ []) }
+    ensures here { IfNone hand.new ((from : ℕ) → here_from port.new from ≡ []) }
+{
+    *hand = port.take();
 }

@@ -12,7 +12,7 @@ use Rattle.l4_machine.specs.Entries.{entries_fault, first_stranger, is_entry, mo
 use Rattle.l4_machine.specs.declared.outcome.RunFault.TheVariants.{Schedule, Turns}
 use Rattle.l4_machine.proofs.Replays.{rest_is}
 
--- Entries of a machine are no more than there may be, and each is one of the machine.
+-- No more entries than there may be, each of them one of the machine.
 
 pub record AreEntries (m : Machine) (entries : List Entry) : Type 0 where
   pub few : length entries ≤ most_events

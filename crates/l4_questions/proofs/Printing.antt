@@ -11,7 +11,7 @@ use Rattle.l4_questions.specs.declared.question.Question.{Question}
 abbrev pub TextOf : Type 0
 TextOf = (number : ℕ) → List Entry → List ℕ
 
--- One more is the last of them.
+-- The text of one more ending comes last.
 text_more : (text_of : TextOf) (number last : ℕ) (endings : List (List Entry)) (e : List Entry) →
     last ≡ length endings + number →
     numbered_text text_of number (endings ++ e ∷ [])
@@ -33,7 +33,7 @@ asked_more m q endings i e inside at =
     filter_more (is_asked m q) endings i [] inside
     ∙ ap (λ (x : List Entry). asked_of m q (take i endings) ++ cond (is_asked m q x) (x ∷ []) []) at
 
--- What was printed of those before it, with it printed where it is asked for.
+-- The endings before it were printed, and it is printed where it is asked for.
 pub record IsPrintedOn (text_of : TextOf) (m : Machine) (q : Question)
     (endings : List (List Entry)) (i count : ℕ) (before lines : List ℕ) : Type 0 where
   pub counted : count ≡ length (asked_of m q (take i endings))

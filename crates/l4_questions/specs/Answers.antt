@@ -1,4 +1,4 @@
--- What the answer to a question is.
+-- The answer to a question.
 use Rattle.std.specs.Prelude.{Bool, true, ◌≡◌, ◌<◌, ◌≤◌, ◌==◌, ◌||◌, nat_lt, if◌then◌else◌, ℕ, Option, None, Some, List}
 use Rattle.l4_model.specs.Machine.{Machine}
 use Rattle.l4_choices.specs.Entries.{Entry}
@@ -10,7 +10,7 @@ use Rattle.l4_questions.specs.declared.question.Question.{Question}
 use Rattle.l4_questions.specs.declared.question.QuestionFault.{QuestionFault}
 use Rattle.l4_questions.specs.declared.question.QuestionFault.TheVariants.{Depth, States}
 
--- A search may go as deep, and find as many states.
+-- The greatest depth, and the greatest number of states, of a search.
 abbrev pub most_asked : ℕ
 most_asked = 1000000
 
@@ -23,8 +23,8 @@ question_fault q =
     if is_out_of_range q.depth then Some Depth
     else if is_out_of_range q.states then Some States else None
 
--- What a search as deep as was asked for, among so many states, has come to: these are all endings
--- that it may find, each once, and no others.
+-- What a search of this depth among so many states has found: all endings that it may find, each
+-- once, and no others.
 pub record IsSearched (m : Machine) (q : Question) (endings : List (List Entry)) (states depth : ℕ)
     (is_whole : Bool) : Type 0 where
   pub all : AreAllEndings m endings depth is_whole
@@ -32,7 +32,7 @@ pub record IsSearched (m : Machine) (q : Question) (endings : List (List Entry))
   pub few : states ≤ q.states
   pub whole : is_whole ≡ true → (depth < q.depth) × IsDeepest m depth
 
--- These lines and this status are the answer: of all endings those that the question asks for.
+-- These lines and this status are the answer: those of all endings that the question asks for.
 pub record IsAnswered (m : Machine) (q : Question) (lines : List ℕ) (status : ℕ) : Type 0 where
   pub lawful : question_fault q ≡ None
   pub endings : List (List Entry)

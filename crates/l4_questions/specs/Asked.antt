@@ -45,7 +45,7 @@ abbrev pub has_waiting_send : Machine → List Entry → Bool
 has_waiting_send m entries = not (is_empty (sends_after m (replay_entries m entries)))
 
 -- A receive from one thread is closed to all others. A receive from any, or from any local thread,
--- is open: it is that of a server at rest.
+-- is open, as that of an idle server.
 
 abbrev pub names_one : Id → Bool
 names_one NilThread = false
@@ -65,11 +65,11 @@ is_closed_at m g place = is_closed (receive_now (home_thread m g.locals place).p
 abbrev pub has_closed_receive : Machine → System → Bool
 has_closed_receive m g = list_any (is_closed_at m g) (range_with_len 0 (length m.threads))
 
--- Somebody waits who may wait for ever.
+-- A thread waits that may wait for ever.
 abbrev pub is_stuck : Machine → List Entry → Bool
 is_stuck m entries = has_waiting_send m entries || has_closed_receive m (led m entries)
 
--- What is asked for, all of it.
+-- All conditions of a question.
 
 abbrev pub if_stuck : (asked is : Bool) → Bool
 if_stuck true is = is

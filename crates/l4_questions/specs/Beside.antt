@@ -1,4 +1,4 @@
--- What is told beside the endings that a question asks for.
+-- What an answer adds to the endings that a question asks for.
 use Rattle.std.specs.Prelude.{Bool, true, ◌≡◌, ◌+◌, if◌then◌else◌, ℕ, Option, None, Some, List, [], ◌∷◌, ◌++◌}
 use Rattle.std.specs.List.{list_all}
 use Rattle.l4_model.specs.Machine.{Machine}
@@ -19,8 +19,8 @@ numbered_text text_of number [] = []
 numbered_text text_of number (e ∷ endings) =
     text_of number e ++ numbered_text text_of (number + 1) endings
 
--- Who waits for whom in the world that a replay of entries reaches, the same of which its report
--- tells.
+-- Who waits for whom in the world that a replay of entries reaches, which is also that of its
+-- report.
 
 abbrev pub waits_in : Machine → Option World → List ℕ
 waits_in m None = []
@@ -46,7 +46,7 @@ abbrev pub meets : Option (List Expected) → Machine → List Entry → Bool
 meets None m entries = true
 meets (Some expected) m entries = are_met (report_after m entries) expected
 
--- What is told of one with this report that does not: its first line, and then a line for each
+-- What is told of an ending that does not meet this: its first line, and then a line for each
 -- expectation that does not hold.
 
 abbrev pub told_unmet : List Expected → (number : ℕ) → List Entry → (report : List ℕ) → List ℕ
@@ -62,15 +62,15 @@ unmet_of (Some expected) number entries report =
 abbrev pub unmet_ending : Option (List Expected) → Machine → (number : ℕ) → List Entry → List ℕ
 unmet_ending expected m number entries = unmet_of expected number entries (report_after m entries)
 
--- What is told of all that are asked for, with the numbers that they are printed with.
+-- What is told of all endings that are asked for, with the numbers that they are printed with.
 abbrev pub unmet_beside : Option (List Expected) → Machine → Question →
     (endings : List (List Entry)) → List ℕ
 unmet_beside expected m q endings =
     numbered_text (unmet_ending expected m) 1 (asked_of m q endings)
 
--- These lines and this status are the answer to a question, beside which who waits for whom may be
--- asked for, and expected what each ending that is asked for has to meet. This is what they do not
--- meet. As soon as one does not, the status is 4.
+-- These lines and this status are the answer to a question that may also ask who waits for whom,
+-- and expect something of each ending. `unmet` is what the endings do not meet. As soon as one does
+-- not, the status is 4.
 pub record IsAnsweredBeside (m : Machine) (q : Question) (waits : Bool)
     (expected : Option (List Expected)) (lines unmet : List ℕ) (status : ℕ) : Type 0 where
   pub lawful : question_fault q ≡ None

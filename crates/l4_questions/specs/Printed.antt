@@ -7,8 +7,7 @@ use Rattle.l4_words.specs.Lines.{line_of_words}
 use Rattle.l4_questions.specs.Asked.{asked_of, report_after}
 use Rattle.l4_questions.specs.declared.question.Question.{Question}
 
--- The list of a schedule is one word. That of an ending where nothing happens has no item and is
--- none.
+-- The list of a schedule is one word. An empty schedule has no word.
 abbrev pub list_words : List Entry → List (List ℕ)
 list_words [] = []
 list_words (e ∷ entries) = schedule_text (e ∷ entries) ∷ []
@@ -30,19 +29,20 @@ abbrev pub whole_word : (is_whole : Bool) → List ℕ
 whole_word true = codes "whole"
 whole_word false = codes "cut"
 
--- How many states there are, how deep all were found, and whether there are no more.
+-- The number of states, the depth to which all were found, and whether there are no more.
 abbrev pub last_line : (states depth : ℕ) → (is_whole : Bool) → List ℕ
 last_line states depth is_whole =
     line_of_words
     (codes "states" ∷ decimal states ∷ codes "depth" ∷ decimal depth ∷ whole_word is_whole ∷ [])
 
--- Those that are asked for, numbered from 1, and last what the search has come to.
+-- The endings that are asked for, numbered from 1, and last the line about the search.
 abbrev pub answer_text : Machine → Question → (endings : List (List Entry)) → (states depth : ℕ) →
     (is_whole : Bool) → List ℕ
 answer_text m q endings states depth is_whole =
     endings_text m 1 (asked_of m q endings) ++ last_line states depth is_whole
 
--- 0 where the search is whole, 3 where it was cut. Where none is to be found, 4 as soon as one was.
+-- 0 where the search is whole, 3 where it was cut. Where such an ending should not exist, 4 as soon
+-- as one is found.
 
 abbrev pub status_of_search : (is_whole : Bool) → ℕ
 status_of_search true = 0

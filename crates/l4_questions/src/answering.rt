@@ -22,24 +22,25 @@ use l4_script::machine::Machine;
 use l4_types::errors::NoMemory;
 use std::alloc::Global;
 
-/// What answers a question.
+/// The answer to a question.
 #[derive(Debug, Drop)]
 pub struct Answer {
-    /// Each ending that is asked for, with its report, and last what the search has come to.
+    /// The endings that are asked for, each with its report, and last the line about the search
+    /// itself.
     pub lines: Vec<u8>,
-    /// The exit status: 0 where the search is whole, 3 where it was cut. Where none is to be found,
-    /// 4 as soon as one was.
+    /// The exit status: 0 where the search is whole, 3 where it was cut. Where such an ending
+    /// should not exist, 4 as soon as one is found.
     pub status: u8,
 }
 
-// What was written of endings so far, and what they do not meet.
+// The lines of the endings so far, and the expectations that they do not meet.
 #[derive(Drop)]
 struct Written {
     lines: Vec<u8>,
     unmet: Vec<u8>,
 }
 
-// Appends an ending by its number, where a question asks for it, and says whether it does.
+// Appends an ending with its number if the question asks for it, and returns whether it does.
 fn write_ending(
     alloc: Global,
     machine: &Machine,
@@ -72,8 +73,7 @@ fn write_ending(
     Ok(true)
 }
 
-// Appends those endings that a question asks for, and says how many they are. One is replayed after
-// the other.
+// Appends the endings that a question asks for, and returns their number. It replays one at a time.
 fn write_endings(
     alloc: Global,
     machine: &Machine,
@@ -122,9 +122,9 @@ fn status_of(none: bool, count: usize, is_whole: bool) -> u8
     }
 }
 
-/// The answer to a question: all endings of the machine that it asks for, numbered from 1, the
-/// shorter schedules first. The endings are those of all core runs of at most so many events, each
-/// once, with a shortest schedule. None of them is kept but by its schedule and its lines.
+/// The answer to a question: the endings that it asks for, numbered from 1, shorter schedules
+/// first. They are among the endings of all core runs of at most `depth` events, each once, with a
+/// shortest schedule. Only their schedules and lines are kept.
 ///
 /// `Depth`: the depth is 0 or above 1,000,000. `States`: so is the number of states. `NoMemory`:
 /// memory was refused.
@@ -141,7 +141,7 @@ pub fn answers(
     answers_heard(alloc, machine, question, &mut Unheard)
 }
 
-/// The answer that `answers` gives. The listener hears how far the search has come.
+/// The answer that `answers` gives. `progress` hears how far the search has come.
 ///
 /// `Depth`, `States` and `NoMemory` as of `answers`.
 pub fn answers_heard<P: Progress>(
@@ -162,8 +162,8 @@ pub fn answers_heard<P: Progress>(
     })
 }
 
-/// The answer that `answers` gives, with what is told beside the endings. The listener hears how
-/// far the search has come.
+/// The answer that `answers` gives, with what `beside` asks for. `progress` hears how far the
+/// search has come.
 ///
 /// `Depth`, `States` and `NoMemory` as of `answers`.
 pub fn answers_beside<P: Progress>(

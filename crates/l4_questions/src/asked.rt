@@ -18,19 +18,19 @@ use l4_types::ids::ThreadId;
 use l4_types::steps::Name;
 use std::alloc::Global;
 
-/// What a report shows of an ending.
+/// An ending, as far as a question asks about it.
 #[derive(Drop)]
 pub(crate) struct Shown<'m> {
-    /// The lines of the report.
+    /// The lines of its report.
     pub(crate) report: Vec<u8>,
     /// Whether a send waits.
     pub(crate) has_waiting_send: bool,
-    /// The steps that lead there.
+    /// The steps that lead to it.
     pub(crate) history: RunHistory<'m>,
 }
 
 impl<'m> Shown<'m> {
-    /// The report that the replay of entries ends with.
+    /// The ending that a replay of these entries comes to.
     ///
     /// `NoMemory`: memory was refused, or they are no entries of the machine.
     pub(crate) fn new(
@@ -57,7 +57,7 @@ impl<'m> Shown<'m> {
         })
     }
 
-    /// Whether a question asks for the ending that entries lead to, of which this is shown.
+    /// Whether a question asks for this ending, to which `entries` lead.
     ///
     /// `NoMemory`: memory was refused.
     pub(crate) fn is_asked(
@@ -78,7 +78,7 @@ impl<'m> Shown<'m> {
         Ok(has_asked(question.with_line, report) && lacks_asked(question.never, report))
     }
 
-    // Whether somebody waits who may wait for ever.
+    // Whether a thread waits that may wait for ever.
     fn is_stuck(
         &self,
         alloc: Global,
@@ -105,7 +105,7 @@ fn has_some(sends: &[(Name, ThreadId)]) -> bool
     }
 }
 
-// Whether a report has a line, where one is asked for.
+// Whether a report has the line that is asked for, if one is.
 fn has_asked(line: Option<&str>, report: &[u8]) -> bool
     ensures { result ≡ has_asked (option_copied line.entry) report.now }
 {
@@ -115,7 +115,7 @@ fn has_asked(line: Option<&str>, report: &[u8]) -> bool
     }
 }
 
-// Whether a report lacks a line, where one is asked for.
+// Whether a report lacks the line that it must not have, if there is one.
 fn lacks_asked(line: Option<&str>, report: &[u8]) -> bool
     ensures { result ≡ lacks_asked (option_copied line.entry) report.now }
 {

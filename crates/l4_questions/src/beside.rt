@@ -1,4 +1,4 @@
-//! What is told beside endings: who waits for whom there, and what they do not meet.
+//! What an answer adds to the endings: who waits for whom, and which expectations are not met.
 ghost use Rattle.std.specs.Prelude.{◌≡◌, ◌==◌, ◌++◌, None, OnOk, false, length, map};
 ghost use Rattle.std.specs.Option.{option_copied};
 ghost use Rattle.l4_model.specs.History.{IsHistory, reached};
@@ -15,17 +15,17 @@ use l4_types::errors::NoMemory;
 use l4_waits::lines::write_waits_after;
 use std::alloc::Global;
 
-/// What is told beside the endings that a question asks for.
+/// What an answer adds to the endings that a question asks for.
 #[derive(Clone, Copy)]
 pub struct Beside<'e, 't> {
-    /// Behind the report of each, who waits for whom in the world that it tells of.
+    /// Whether to print behind each report who waits for whom in its world.
     pub waits: bool,
-    /// What the report of each has to meet. Where one does not, the status is 4.
+    /// What each report has to meet. The status is 4 where one does not.
     pub expected: Option<&'e Expectations<'t>>,
 }
 
 impl<'e, 't> Beside<'e, 't> {
-    /// Nothing is told beside them.
+    /// Adds nothing.
     pub fn nothing() -> Beside<'e, 't>
         ensures { result ≡ record { waits = false; expected = None } }
     {
@@ -36,14 +36,14 @@ impl<'e, 't> Beside<'e, 't> {
     }
 }
 
-/// What answers a question, and what is told beside it.
+/// The answer to a question, and what it adds.
 #[derive(Debug, Drop)]
 pub struct AnswerBeside {
-    /// Each ending that is asked for, with its report and what is asked for behind it, and last
-    /// what the search has come to.
+    /// The endings that are asked for, each with its report and what is asked for behind it, and
+    /// last the line about the search itself.
     pub lines: Vec<u8>,
-    /// The first line of each of these endings that does not meet what is expected, each with a
-    /// line for each expectation that does not hold. Nothing where all meet it.
+    /// For each ending that does not meet what is expected: its first line, and a line for each
+    /// expectation that does not hold. Empty where all are met.
     pub unmet: Vec<u8>,
     /// The exit status: 4 where an ending does not meet what is expected, else that of an `Answer`.
     pub status: u8,
@@ -64,7 +64,7 @@ pub(crate) fn write_waits(
     write_waits_after(alloc, machine, &history, lines)
 }
 
-// Appends what an ending does not meet.
+// Appends the expectations that an ending does not meet.
 fn tell_unmet(
     expected: &Expectations<'_>,
     number: usize,
@@ -80,7 +80,7 @@ fn tell_unmet(
     Ok(())
 }
 
-/// Appends what an ending with this report does not meet, if anything is expected.
+/// Appends the expectations that an ending with this report does not meet, if there are any.
 pub(crate) fn write_unmet(
     expected: Option<&Expectations<'_>>,
     number: usize,
@@ -99,7 +99,7 @@ pub(crate) fn write_unmet(
     }
 }
 
-/// The exit status, where this is what endings do not meet, and else it is this one.
+/// The exit status: 4 where `unmet` has lines, else `status`.
 pub(crate) fn status_beside(unmet: &[u8], status: u8) -> u8
     ensures { result ≡ expected_status (length unmet.now == 0) status }
 {

@@ -1,10 +1,12 @@
 //! Questions about a machine: which of its endings are asked for, and the text that answers.
 //!
-//! `answers` has all endings of core runs searched for, and of each that is asked for its number, a
-//! shortest schedule and its report; last, how many states there are and whether there are no more.
+//! `answers` searches for all endings of core runs. Of each that is asked for it prints the number,
+//! a shortest schedule and the report. Last come the number of states, the depth, and whether there
+//! are no more.
+//!
 //! Contracts see the bytes: they are those of all endings that the question asks for, and of no
-//! others. Lines that it asks for are those of `l4_lines`. `answers_beside` also tells who waits
-//! for whom in each of them, and which do not meet a text of expectations.
+//! others. `l4_lines` reads the lines that it asks for. `answers_beside` also tells who waits for
+//! whom in each ending, and which endings do not meet a text of expectations.
 //!
 //! ```rust
 //! let question = Question { stuck: true, none: true, ..Question::new(1_000, 100_000) };

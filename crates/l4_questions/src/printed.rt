@@ -9,7 +9,7 @@ use l4_types::errors::NoMemory;
 
 /// Appends the first line of an ending: its number, and the entries that lead there.
 ///
-/// `NoMemory`: memory was refused, and the lines are of no use any more.
+/// `NoMemory`: memory was refused, and a part of the line may have been appended.
 pub(crate) fn write_head(
     number: usize,
     entries: &[Entry],
@@ -29,10 +29,10 @@ pub(crate) fn write_head(
     Ok(())
 }
 
-/// Appends the last line: how many states there are, how deep all were found, and whether there are
-/// no more.
+/// Appends the last line: the number of states, the depth to which all were found, and whether
+/// there are no more.
 ///
-/// `NoMemory`: memory was refused, and the lines are of no use any more.
+/// `NoMemory`: memory was refused, and a part of the line may have been appended.
 pub(crate) fn write_last(
     states: usize,
     depth: usize,

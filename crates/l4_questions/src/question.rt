@@ -6,17 +6,17 @@ ghost use Rattle.l4_questions.specs.declared.question.QuestionFault.TheVariants.
 
 use l4_types::errors::NoMemory;
 
-/// A search goes at most as deep, and finds at most as many states.
+/// The greatest depth, and the greatest number of states, that a question may ask for.
 pub const MOST_ASKED: u64 = 1_000_000;
 
-/// Which endings of a machine are asked for. They are those for which all holds that is asked.
+/// Which endings of a machine are asked for: those for which all of these conditions hold.
 #[derive(Clone, Copy, Debug, PartialEq, Eq)]
 pub struct Question<'a> {
-    /// How many events a core run has at most, 1 to 1,000,000. Any other number is the fault
+    /// The greatest number of events of a core run, 1 to 1,000,000. Any other number is the fault
     /// `Depth`.
     pub depth: u64,
-    /// How many states are looked at at most, 1 to 1,000,000. Any other number is the fault
-    /// `States`.
+    /// The greatest number of states that are visited, 1 to 1,000,000. Any other number is the
+    /// fault `States`.
     pub states: u64,
     /// Only endings in which a send waits, or a thread receives from one thread alone.
     pub stuck: bool,
@@ -24,7 +24,7 @@ pub struct Question<'a> {
     pub with_line: Option<&'a str>,
     /// Only endings whose report has no such line.
     pub never: Option<&'a str>,
-    /// Whether there is to be no such ending, so that one is status 4.
+    /// Whether such an ending should not exist. If one is found, the status is 4.
     pub none: bool,
 }
 
@@ -69,7 +69,7 @@ impl<'a> Question<'a> {
         }
     }
 
-    /// How deep is searched, and among how many states.
+    /// The greatest depth of the search, and the greatest number of its states.
     pub(crate) fn limits(&self) -> Result<(u32, u32), QuestionFault>
         ensures ok { IfOk result (λ limits.
             (question_fault self.now ≡ None) × (limits.0 ≡ self.now.depth) ×

@@ -1,4 +1,4 @@
--- The first fault that is told of a list is the one that its reader answers.
+-- The first fault that is listed for a list is the one that its reader returns.
 use Rattle.std.proofs.Common.{◌≡◌, ℕ, ◌+◌, ◌<◌, ◌≤◌, Bool, true, false, Option, Some, None, Err, List, [], ◌∷◌, ◌++◌, length, take, refl, sym, ap, inl, inr, ◌∙◌, arith, length-append, length-take}
 use Rattle.std.specs.Prelude.{◌⊎◌, ◌==◌, nat_lt, if◌then◌else◌}
 use Rattle.std.proofs.lemmas.Bool.{lt-ltb}

@@ -126,7 +126,7 @@ blank_no_comma (byte ∷ bytes) h =
     let other : is_comma byte ≡ false = grind (arith, nat_tests, parts.0) in
     All-cons (λ byte. is_comma byte ≡ false) byte bytes other (blank_no_comma bytes parts.1)
 
--- What stands between the commas behind a place, the first of it behind blanks.
+-- What stands between the commas behind a place. The first item may follow blanks.
 pub trimmed_items : (lead : List ℕ) (before : ℕ) (entry : Entry) (entries : List Entry) (tail : List ℕ) →
     0 < before → are_blank lead ≡ true → IsPlain (item_of entry) → ArePlain entries → are_blank tail ≡ true →
     map trimmed (slice_split is_comma (lead ++ item_of entry ++ in_lines before entries ++ tail)) ≡ map item_of (entry ∷ entries)

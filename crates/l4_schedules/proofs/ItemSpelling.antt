@@ -152,7 +152,7 @@ module _ (whole : List ℕ → Option Entry) (parts : (before behind : List ℕ)
 
 -- Items
 
--- What is behind a digit is a turn.
+-- What begins with a digit is a turn.
 digit_first : (d : ℕ) (rest : List ℕ) → d ≤ 57 → entry_of (d ∷ rest) ≡ turn_of (d ∷ rest)
 digit_first d rest small =
     let tick : (d == 116) ≡ false = grind (arith, nat_tests) in
@@ -206,7 +206,7 @@ item_spells (TickTo cpu clock) is =
     with_colon whole_tick tick_between cpu (decimal clock) small
     ∙ tick_spells cpu clock small first.1 both.1
 
--- It is an entry of such processors and clocks, and this is its item.
+-- The entry has such a processor and clock, and this is its item.
 record IsSpelled (item : List ℕ) (entry : Entry) : Type 0 where
   lawful : is_entry_of 16 entry ≡ true
   item_is : item ≡ item_of entry

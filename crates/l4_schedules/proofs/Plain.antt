@@ -35,7 +35,7 @@ digits_are_plain (digit ∷ digits) h =
 pub decimal_is_plain : (n : ℕ) → n < 2 ^ 64 → are_plain (decimal n) ≡ true
 decimal_is_plain n h = digits_are_plain (decimal n) (decimal_is_IsNumeral n h).0.1
 
--- An item has a byte, and all of its bytes are such.
+-- An item has at least one byte, and all of its bytes are plain.
 pub record IsPlain (item : List ℕ) : Type 0 where
   pub bytes : are_plain item ≡ true
   pub some : 0 < length item

@@ -45,7 +45,7 @@ plain_kept (byte ∷ bytes) h =
     let parts = and_parts (is_plain byte) (are_plain bytes) h in
     rw (plain_no_blank byte parts.0) refl
 
--- The blanks behind plain bytes, of which there is one at least, are taken off the end alone.
+-- At the front of an item nothing is trimmed, as it begins with a plain byte.
 front_off : (item tail : List ℕ) → are_plain item ≡ true → 0 < length item →
     behind_blanks (item ++ tail) ≡ item ++ tail
 front_off [] tail h some = absurd (omega arith)

@@ -12,8 +12,8 @@ use Rattle.l4_schedules.specs.declared.faulty.ItemHint.TheVariants.{ManyItems, L
 use Rattle.l4_schedules.specs.InFiles.{is_blank, list_in_file, most_bytes}
 use Rattle.l4_schedules.specs.Items.{entry_of, items_of}
 
--- The item, counted from 1 (0 where the fault is of no item), what stands there, and what is said
--- of it.
+-- The item, counted from 1 (0 where the whole list is at fault), what stands there, and what is
+-- said of it.
 pub record Fault : Type 0 where
   pub number : ℕ
   pub word : List ℕ
@@ -22,7 +22,7 @@ pub record Fault : Type 0 where
 abbrev pub fault : (number : ℕ) → (word : List ℕ) → ItemHint → Fault
 fault number word hint = record { number = number; word = word; hint = hint }
 
--- What may stand in the place of an item that spells no entry: a `t`, byte 116, begins a tick, and
+-- What may stand in the place of an item that spells no entry. A `t`, byte 116, begins a tick, and
 -- a `c`, byte 99, the turn of a core.
 
 abbrev pub first_hint : (item : List ℕ) → ItemHint
@@ -32,8 +32,8 @@ first_hint (first ∷ rest) = if first == 116 then Tick else if first == 99 then
 abbrev pub spelling_hint : (item : List ℕ) → ItemHint
 spelling_hint item = if list_any is_blank item then Blank else first_hint item
 
--- What is said of an item. Of one that spells an entry of the machine that is nothing; another
--- entry names a processor which the machine does not have.
+-- What is said of an item: nothing where it spells an entry of the machine. Any other entry names a
+-- processor that the machine does not have.
 
 abbrev pub hint_by : Machine → (item : List ℕ) → Option Entry → Option ItemHint
 hint_by m item None = Some (spelling_hint item)
@@ -53,13 +53,13 @@ faults_from m number [] = []
 faults_from m number (item ∷ items) =
     fault_at number item (hint_of m item) ++ faults_from m (number + 1) items
 
--- The faults of a list that may have so many items. Of a list with more only that is said.
+-- The faults of a list of at most so many items. Where it has more, that is its only fault.
 abbrev pub faults_within : (most : ℕ) → Machine → (list : List ℕ) → List Fault
 faults_within most m list =
     if nat_lt most (length (items_of list)) then fault 0 [] (ManyItems most) ∷ []
     else faults_from m 1 (items_of list)
 
--- Those of a list by itself, and of the list in a file.
+-- The faults of a list, and of the list in a file.
 
 abbrev pub list_faults : Machine → (list : List ℕ) → List Fault
 list_faults m list = faults_within most_entries m list
@@ -69,7 +69,7 @@ file_faults m text =
     if nat_lt most_bytes (length text) then fault 0 [] LongFile ∷ []
     else faults_within most_events m (list_in_file text)
 
--- What a replay by the list is refused for: the first of them.
+-- A replay of the list is refused for the first of its faults.
 
 abbrev pub refusal : Fault → RunFault
 refusal f = if f.number == 0 then Turns else Schedule f.number
@@ -82,7 +82,7 @@ abbrev pub fault_in : Result (List Entry) RunFault → Option RunFault
 fault_in (Ok entries) = None
 fault_in (Err f) = Some f
 
--- The line of a fault. Nothing is shown of an item where nothing stands.
+-- The line of a fault. An empty item is not shown.
 
 abbrev pub hint_text : ItemHint → List ℕ
 hint_text (ManyItems most) = codes "a list has at most " ++ decimal most ++ codes " items"

@@ -35,16 +35,16 @@ abbrev pub trimmed : List ℕ → List ℕ
 trimmed item = reverse (behind_blanks (reverse (behind_blanks item)))
 
 -- The list that the text of a file has: what stands between its commas, without comments, and
--- without the blanks around it. A blank within an item stays, and so that is none.
+-- without the blanks around it. A blank within an item stays, so the item spells no entry.
 abbrev pub list_in_file : (text : List ℕ) → List ℕ
 list_in_file text = join_by trimmed (codes ",") (items_of (without_comments text))
 
--- Such a text has at most 32 MiB, so much as no list of entries needs.
+-- Such a text has at most 32 MiB, more than any list of entries needs.
 abbrev pub most_bytes : ℕ
 most_bytes = 33554432
 
 -- The schedule that it spells on a machine. It may have as many items as a recorded run may have
--- events. A text that is too long counts as one with more.
+-- events. A text that is too long is refused like a list with too many items.
 abbrev pub schedule_in_file : Machine → (text : List ℕ) → Result (List Entry) RunFault
 schedule_in_file m text =
     if nat_lt most_bytes (length text) then Err Turns

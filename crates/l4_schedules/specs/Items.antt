@@ -37,8 +37,8 @@ clock_of word = do
   nat_lt clock clock_limit
   Some clock
 
--- A word with a colon, byte 58, is read by what stands before and behind the first one, another
--- word as a whole.
+-- A word with a colon, byte 58, is read in two parts, before and behind its first colon. Another
+-- word is read as a whole.
 
 abbrev pub is_colon : ℕ → Bool
 is_colon byte = byte == 58
@@ -54,8 +54,8 @@ abbrev pub by_colon : (whole : List ℕ → Option Entry) →
     List ℕ → Option Entry
 by_colon whole parts word = at_colon whole parts word (position is_colon word)
 
--- The number of a processor is a turn of it. Behind a colon stands the poster of the letter that it
--- handles.
+-- The number of a processor is a turn of it. Behind a colon follows the poster of the letter that
+-- it handles.
 
 abbrev pub letter_between : (cpu from : List ℕ) → Option Entry
 letter_between first second = do
@@ -66,7 +66,7 @@ letter_between first second = do
 abbrev pub turn_of : List ℕ → Option Entry
 turn_of = by_colon (λ word. option_map TurnOf (processor_of word)) letter_between
 
--- With a `t`, byte 116, before it, it is a tick, to the least deadline. Behind a colon stands the
+-- With a `t`, byte 116, in front, it is a tick to the least deadline. Behind a colon follows the
 -- value that the clock goes on to.
 
 abbrev pub tick_between : (cpu clock : List ℕ) → Option Entry
@@ -78,7 +78,7 @@ tick_between first second = do
 abbrev pub tick_of : List ℕ → Option Entry
 tick_of = by_colon (λ word. option_map TickOf (processor_of word)) tick_between
 
--- With a `c`, byte 99, before it, it is the turn of its core.
+-- With a `c`, byte 99, in front, it is the turn of its core.
 abbrev pub entry_of : List ℕ → Option Entry
 entry_of [] = None
 entry_of (first ∷ rest) =
@@ -107,8 +107,8 @@ abbrev pub or_fault : (number : ℕ) → Option Entry → (Entry → Result (Lis
 or_fault number None rest = Err (Schedule number)
 or_fault number (Some entry) rest = rest entry
 
--- The entries so far and those of the items that are left, or the first of these items that has
--- none, by its number counted from 1.
+-- The entries so far and those of the items that are left. Or the number, counted from 1, of the
+-- first of these items that has none.
 abbrev pub read_items : Machine → (entries : List Entry) → List (List ℕ) →
     Result (List Entry) RunFault
 read_items m entries [] = Ok entries
@@ -123,6 +123,6 @@ abbrev pub schedule_within : (most : ℕ) → Machine → (list : List ℕ) →
 schedule_within most m list =
     if nat_lt most (length (items_of list)) then Err Turns else read_items m [] (items_of list)
 
--- A list by itself may have as many as a schedule of numbers.
+-- A list outside a file may have as many items as a schedule of numbers.
 abbrev pub schedule_of : Machine → (list : List ℕ) → Result (List Entry) RunFault
 schedule_of m list = schedule_within most_entries m list

@@ -23,7 +23,7 @@ use std::alloc::{AllocError, Global};
 /// What is said of an item: what is wrong there, or what may stand there.
 #[derive(Clone, Copy, Debug, PartialEq, Eq)]
 pub enum ItemHint {
-    /// The list has more items than these, which are as many as it may have.
+    /// The list has more items than this, the most that it may have.
     ManyItems(usize),
     /// The file has more bytes than one with a list may have.
     LongFile,
@@ -33,9 +33,9 @@ pub enum ItemHint {
     Empty,
     /// A blank stands where none may.
     Blank,
-    /// A tick may stand there: what does begins with a `t`.
+    /// A tick may stand there, as the item begins with a `t`.
     Tick,
-    /// The turn of a core may stand there: what does begins with a `c`.
+    /// The turn of a core may stand there, as the item begins with a `c`.
     Core,
     /// Any item may stand there.
     Item,
@@ -52,9 +52,9 @@ pub(crate) struct ItemFault<'a> {
     pub(crate) hint: ItemHint,
 }
 
-/// Appends a line for each fault of the list of a schedule, in order, and says whether it has none:
-/// its number, what stands there and what may. The first is the one that `schedule_of` answers.
-/// Where memory is refused, nothing is appended.
+/// Appends a line for each fault of the list of a schedule, in order, and returns whether it has
+/// none. A line has the item's number, what stands there and what may. The first fault is the one
+/// that `schedule_of` returns. If memory is refused, nothing is appended.
 pub fn write_list_faults(
     alloc: Global,
     machine: &Machine,
@@ -71,7 +71,7 @@ pub fn write_list_faults(
     write_faults(alloc, found.as_slice(), lines)
 }
 
-/// The same of the list in the text of a file, as `schedule_in_file` reads it.
+/// The same for the list in the text of a file, as `schedule_in_file` reads it.
 pub fn write_file_faults(
     alloc: Global,
     machine: &Machine,
@@ -92,7 +92,8 @@ pub fn write_file_faults(
     write_faults(alloc, found.as_slice(), lines)
 }
 
-// Appends a line for each of these faults, or nothing. Whether there is none.
+// Appends a line for each of these faults, or nothing if memory is refused. Returns whether there
+// is none.
 fn write_faults(
     alloc: Global,
     found: &[ItemFault<'_>],
@@ -109,7 +110,7 @@ fn write_faults(
     Ok(found.is_empty())
 }
 
-// What is said of a list or a file as a whole.
+// A fault of a list or of a file as a whole.
 fn of_no_item<'a>(hint: ItemHint) -> ItemFault<'a>
     ensures { fault_of result ≡ fault 0 [] hint }
 {
@@ -190,7 +191,7 @@ fn keep<'a>(found: &mut Vec<ItemFault<'a>>, fault: ItemFault<'a>) -> Result<(), 
     Ok(())
 }
 
-// What is said of an item. Nothing where it spells an entry of the machine.
+// What is said of an item. None where it spells an entry of the machine.
 fn hint_of(machine: &Machine, item: &[u8]) -> Option<ItemHint>
     ensures { result ≡ hint_of machine.now item.now }
 {

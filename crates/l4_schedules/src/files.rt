@@ -19,12 +19,12 @@ use std::alloc::Global;
 /// The text of a file with a list has at most this many bytes, 32 MiB.
 pub const MOST_FILE_BYTES: usize = 33_554_432;
 
-/// The entries of the schedule in a file. Lines that begin with `;` are left out, and so are the
-/// blanks around an item: spaces, tabs, carriage returns and line ends.
+/// The entries of the schedule in a file. Lines that begin with `;` are skipped. So are the blanks
+/// around an item: spaces, tabs, carriage returns and line ends.
 ///
 /// `Turns`: the text has more than 33,554,432 bytes, or the list more than 1,000,015 items.
 /// `Schedule`: this item, counted from 1, is the first that spells no entry of the machine.
-/// `NoMemory`: memory was refused, which may come in the place of the others.
+/// `NoMemory`: memory was refused, whether or not the text has one of these faults.
 pub fn schedule_in_file(
     alloc: Global,
     machine: &Machine,
@@ -66,7 +66,7 @@ fn without_comments(alloc: Global, text: &[u8]) -> Result<Vec<u8>, NoMemory>
     Ok(lines)
 }
 
-// Appends a line where it is no comment.
+// Appends a line unless it is a comment.
 fn push_line(lines: &mut Vec<u8>, line: &[u8]) -> Result<(), NoMemory>
     ensures { OnOk result (lines.new.items ≡ lines.old.items ++ kept_line line.now) }
 {

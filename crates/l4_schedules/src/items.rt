@@ -36,7 +36,7 @@ pub fn schedule_of(alloc: Global, machine: &Machine, list: &str) -> Result<Vec<E
     schedule_within(alloc, MOST_ENTRIES, machine, list.as_bytes())
 }
 
-// The same of a list that may have so many items.
+// The same for a list of at most `most` items.
 pub(crate) fn schedule_within(
     alloc: Global,
     most: usize,
@@ -57,7 +57,7 @@ pub(crate) fn schedule_within(
     entries_of(alloc, machine, list)
 }
 
-// How many items a list has.
+// The number of items of a list.
 #[tactic(auto, using(crate::proofs::Splits::items_by_commas))]
 pub(crate) fn item_count(list: &[u8]) -> usize
     ensures { result ≡ length (items_of list.now) }
@@ -167,7 +167,7 @@ pub(crate) fn entry_of(item: &[u8]) -> Option<Entry>
     }
 }
 
-// A turn of a processor, or with a colon the letter that it handles.
+// A turn of a processor, or, with a colon, the letter that it handles.
 fn turn_of(word: &[u8]) -> Option<Entry>
     ensures { option_map entry_from result ≡ turn_of word.now }
 {
@@ -186,7 +186,7 @@ fn letter_between(cpu: &[u8], from: &[u8]) -> Option<Entry>
     Some(Entry::Letter { cpu, from })
 }
 
-// A tick of a processor to its least deadline, or with a colon to a value.
+// A tick of a processor to its least deadline, or, with a colon, to a value.
 fn tick_of(word: &[u8]) -> Option<Entry>
     ensures { option_map entry_from result ≡ tick_of word.now }
 {
@@ -196,7 +196,7 @@ fn tick_of(word: &[u8]) -> Option<Entry>
     }
 }
 
-// A tick of a processor, and where its clock goes on to.
+// A tick of a processor to this value of its clock.
 fn tick_between(cpu: &[u8], clock: &[u8]) -> Option<Entry>
     ensures { option_map entry_from result ≡ tick_between cpu.now clock.now }
 {
@@ -228,7 +228,7 @@ fn processor_of(word: &[u8]) -> Option<u8>
 }
 
 /// Each entry of processors from 0 to 15, and of a clock from 1 to 2^62 - 1, is spelled by one
-/// item, and no item spells another entry.
+/// item. No item spells another entry.
 pub fn law_one_item_of_an_entry()
     ensures spelled { (entry : ModelEntry) →
         is_entry_of most_processors entry ≡ true → entry_of (item_of entry) ≡ Some entry }

@@ -1,4 +1,4 @@
-//! What is written is read back, and the first fault that is told is the one that is answered.
+//! What is written is read back, and the first fault that is listed is the one that is returned.
 ghost use Rattle.std.specs.Prelude.{◌≡◌, ◌≤◌, ℕ, List, Ok, None};
 ghost use Rattle.l4_model.specs.Machine.{Machine, most_processors};
 ghost use Rattle.l4_choices.specs.Entries.{Entry};
@@ -8,8 +8,8 @@ ghost use Rattle.l4_schedules.specs.InFiles.{schedule_in_file};
 ghost use Rattle.l4_schedules.specs.Items.{schedule_of};
 ghost use Rattle.l4_schedules.specs.Written.{recorded_text, schedule_text};
 
-/// What is written of entries that are a machine's is read back as these entries: as a list, where
-/// they are at most 1,000,000, and from a file, where they are at most 1,000,015.
+/// Entries of a machine that are written are read back as the same entries. These are at most
+/// 1,000,000 in a list, and at most 1,000,015 in a file.
 pub fn law_read_back()
     ensures list { (m : Machine) (entries : List Entry) → m.cpus ≤ most_processors →
         fault_of most_entries m entries ≡ None →
@@ -19,8 +19,8 @@ pub fn law_read_back()
         schedule_in_file m (recorded_text entries) ≡ Ok entries }
 {}
 
-/// The first fault that is told of a list is the one for which a replay by it is refused. None is
-/// told of a list that spells a schedule.
+/// The first fault that is listed for a list is the one for which its replay is refused. A list
+/// that spells a schedule has no fault.
 pub fn law_first_fault()
     ensures list { (m : Machine) (list : List ℕ) →
         first_in (list_faults m list) ≡ fault_in (schedule_of m list) }

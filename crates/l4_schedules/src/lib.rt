@@ -6,7 +6,7 @@
 //! is named; each entry has one item; what is written is read back (`law_read_back`).
 //! `write_list_faults` and `write_file_faults` tell each faulty item, and what may stand there.
 //!
-//! What the entries do is l4_machine's to say.
+//! `l4_machine` says what the entries do.
 //!
 //! ```rust
 //! let entries = schedule_of(alloc, &machine, "0,1:0,t0:24")?;

@@ -9,12 +9,12 @@ use l4_machine::Entry;
 use l4_types::errors::NoMemory;
 use std::alloc::Global;
 
-// How many items a line of a recorded list has.
+// The number of items in a line of a recorded list.
 const ITEMS_A_LINE: usize = 16;
 
 /// Appends the list of some entries: the item of each, with a comma between two. `schedule_of`
-/// reads it as these entries, where they are of its machine and not too many. Where memory is
-/// refused, a beginning of it may be there.
+/// reads it as these entries, where they are of its machine and not too many. If memory is refused,
+/// a part of the list may have been appended.
 pub fn write_schedule(entries: &[Entry], lines: &mut Vec<u8>) -> Result<(), NoMemory>
     ensures { OnOk result (lines.new.items ≡
         lines.old.items ++ schedule_text (map entry_from entries.now)) }
@@ -38,8 +38,8 @@ fn push_others(lines: &mut Vec<u8>, entries: &[Entry]) -> Result<(), NoMemory>
     Ok(())
 }
 
-/// What is recorded of a run that did what these entries say: a comment line that says what it is,
-/// and the list, 16 items in a line. `schedule_in_file` reads it as these entries.
+/// The record of a run that has these entries: a comment line that says what it is, and the list,
+/// 16 items in a line. `schedule_in_file` reads it as these entries.
 pub fn recorded_text(alloc: Global, entries: &[Entry]) -> Result<Vec<u8>, NoMemory>
     ensures { IfOk result (λ text. text.items ≡ recorded_text (map entry_from entries.now)) }
 {
@@ -62,7 +62,7 @@ fn push_lines(text: &mut Vec<u8>, entries: &[Entry]) -> Result<(), NoMemory>
     Ok(())
 }
 
-// What stands before an item that so many come before.
+// What separates an item from the `before` items in front of it.
 fn separator(before: usize) -> &'static str
     ensures { result.now ≡ separator before }
 {

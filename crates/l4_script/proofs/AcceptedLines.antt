@@ -4,7 +4,7 @@ use Rattle.std.specs.Prelude.{◌==◌, nat_lt, nat_le, codes, bytes_eq}
 use Rattle.std.specs.Option.{option_map}
 use Rattle.std.proofs.lemmas.Bool.{ltb-true, le-leb, and_from}
 use Rattle.l4_model.specs.Words.{Format, W64, W32, word_limit, is_word_in, same_format, GlobalId, is_global_in, has_word_in, Id, NilThread, AnyThread, AnyLocalThread, GlobalThread, id_by, id_in}
-use Rattle.l4_model.specs.Machine.{To, ToId, ToLast, What, Delete, Instr, Set, Copy, Add, Tag, Vs, Ipc, Ask, Jump, OnErr, End, Declaration}
+use Rattle.l4_model.specs.Machine.{To, ToId, ToLast, OrderKind, Delete, Instr, Set, Copy, Add, Tag, Vs, Ipc, Ask, Jump, OnErr, End, Declaration}
 use Rattle.l4_script.specs.declared.text.fault.TextFaultKind.TheVariants.{BadNumber, BadId, BadCpu, BadLine, TypedItems}
 use Rattle.l4_types.proofs.InFormats.{word_of_its_id}
 use Rattle.l4_script.specs.Judged.{◌>>=◌, must, needs}
@@ -152,7 +152,7 @@ ipc_said f operands instr e =
     let phases = and_from (has_destination f to.0 && has_word_in f from.0) (has_time send.0) ids (time_said words.0.2 send.0 send.1) in
     moved f (Ipc to.0 from.0 send.0 receive.0) instr (same_ok _ _ receive.2) (and_from _ (has_time receive.0) phases (time_said words.0.3 receive.0 receive.1))
 
-asked : (f : Format) (what : What) (word : List ℕ) (instr : Instr) → (needs (id_of f word) BadId >>= λ target. says (Ask target what)) ≡ Ok instr → is_said f instr ≡ true
+asked : (f : Format) (what : OrderKind) (word : List ℕ) (instr : Instr) → (needs (id_of f word) BadId >>= λ target. says (Ask target what)) ≡ Ok instr → is_said f instr ≡ true
 asked f what word instr e =
     let target = bind_ok (needs (id_of f word) BadId) _ instr e in
     moved f (Ask target.0 what) instr (same_ok _ _ target.2) (needed_id f word target.0 target.1)

@@ -2,7 +2,7 @@
 use Rattle.l4_model.specs.Words.{W64, W32, word_of_tag}
 use Rattle.l4_model.specs.Machine as model
 use Rattle.l4_types.specs.PeriodView.{period_of}
-use Rattle.l4_types.specs.StepView.{what_of}
+use Rattle.l4_types.specs.StepView.{order_kind_of}
 use Rattle.l4_script.specs.Calls.{Call}
 use Rattle.l4_script.specs.declared.instructions.To.{To}
 use Rattle.l4_script.specs.declared.instructions.To.TheVariants as tos
@@ -25,7 +25,7 @@ instr_of (instrs.ShortAdd register word) = model.Add W32 register word
 instr_of (instrs.Tag tag) = model.Tag (word_of_tag tag)
 instr_of (instrs.Vs id) = model.Vs id
 instr_of (instrs.Ipc ipc) = ipc_of ipc
-instr_of (instrs.Order target what) = model.Ask target (what_of what)
+instr_of (instrs.Order target what) = model.Ask target (order_kind_of what)
 instr_of (instrs.Jump place) = model.Jump place
 instr_of (instrs.OnErr place) = model.OnErr place
 instr_of instrs.End = model.End

@@ -4,7 +4,7 @@ use Rattle.std.specs.Prelude.{ℕ, ◌/◌, ◌%◌, ◌^◌, ◌-◌, Bool, tru
 use Rattle.std.specs.Option.{option_map}
 use Rattle.std.specs.Str.{bytes_eq}
 use Rattle.l4_model.specs.Words.{Format, W64, W32, last_register}
-use Rattle.l4_model.specs.Machine.{Instr, Set, Copy, Add, Tag, Vs, Ipc, To, ToId, ToLast, Ask, What, CancelSend, CancelReceive, CancelBoth, Delete, Jump, OnErr, End, Declaration, Machine, most_processors, most_threads, most_instructions}
+use Rattle.l4_model.specs.Machine.{Instr, Set, Copy, Add, Tag, Vs, Ipc, To, ToId, ToLast, Ask, OrderKind, CancelSend, CancelReceive, CancelBoth, Delete, Jump, OnErr, End, Declaration, Machine, most_processors, most_threads, most_instructions}
 use Rattle.l4_script.specs.declared.text.fault.TextFaultKind.TheVariants.{BadLine, BadNumber, BadId, BadCpu, TypedItems, DoubleId, TooManyThreads, TooManyInstructions}
 use Rattle.l4_script.specs.Judged.{Judged, ◌>>=◌, ◌>>◌, must, needs}
 use Rattle.l4_script.specs.Numbers.{number_of, number_from, word_from, time_from}
@@ -135,7 +135,7 @@ ipc_of format operands = do
   Ok (Ipc to from send receive)
 
 -- The bits of the control word, S and R in this order (manual: ExchangeRegisters).
-unfoldable pub bits_of : List ℕ → Option What
+unfoldable pub bits_of : List ℕ → Option OrderKind
 bits_of word =
     if bytes_eq word (codes "S") then Some CancelSend
     else (if bytes_eq word (codes "R") then Some CancelReceive

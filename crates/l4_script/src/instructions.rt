@@ -5,7 +5,7 @@ ghost use Rattle.l4_types.specs.PeriodView.{IsTimely};
 
 use l4_types::ids::ThreadId;
 use l4_types::registers::MESSAGE_REGISTERS;
-use l4_types::steps::What;
+use l4_types::steps::OrderKind;
 use l4_types::tags::MsgTag;
 use l4_types::times::Period;
 use std::marker::Model;
@@ -208,7 +208,7 @@ pub enum Instr {
     /// The system call (manual: Ipc).
     Ipc(Ipc),
     /// An order to cancel or delete a thread (manual: ExchangeRegisters, ThreadControl).
-    Order(ThreadId, What),
+    Order(ThreadId, OrderKind),
     /// Goes on at this place of the script, counted from 0.
     Jump(u64),
     /// Goes on at this place if ErrorCode is not 0, else at the next instruction.

@@ -3,23 +3,23 @@ ghost use Rattle.std.specs.Prelude.{◌≡◌, ◌<◌, is_some, unwrap_or, IsSo
 ghost use Rattle.std.specs.Option.{option_copied, option_map};
 ghost use Rattle.l4_model.specs.Machine.{End, declaration_of, instruction_at, most_instructions, same_space};
 ghost use Rattle.l4_model.specs.Rules.{is_admitted, permitted};
-ghost use Rattle.l4_types.specs.StepView.{what_of};
+ghost use Rattle.l4_types.specs.StepView.{order_kind_of};
 ghost use Rattle.l4_script.specs.Scripts.{instr_of};
 
 use crate::instructions::Instr;
 use crate::machine::{Declaration, Machine};
 use l4_types::ids::{GlobalId, ThreadId};
-use l4_types::steps::What;
+use l4_types::steps::OrderKind;
 
 impl Declaration {
     /// The instruction at a place of the script, counted from 0. None past its end, which is an
     /// `end`.
-    pub fn instruction(&self, place: usize) -> Option<Instr>
-        ensures value { unwrap_or (option_map instr_of result) End ≡
+    pub fn instruction(&self, place: usize) -> Option<&Instr>
+        ensures value { unwrap_or (option_map instr_of (option_copied result)) End ≡
             instruction_at self.now.script place }
         ensures within { IsSome result → place < most_instructions }
     {
-        self.script().get(place).copied()
+        self.script().get(place)
     }
 }
 
@@ -62,11 +62,11 @@ impl Machine {
 
     /// Whether an order is admitted: a deletion of any declared thread, a cancellation within the
     /// caller's address space (manual: ThreadControl, ExchangeRegisters).
-    pub fn admits(&self, caller: GlobalId, target: GlobalId, what: What) -> bool
-        ensures { result ≡ is_admitted self.now caller target (what_of what) }
+    pub fn admits(&self, caller: GlobalId, target: GlobalId, what: OrderKind) -> bool
+        ensures { result ≡ is_admitted self.now caller target (order_kind_of what) }
     {
         match what {
-            What::Delete => self.place_of(target).is_some(),
+            OrderKind::Delete => self.place_of(target).is_some(),
             _ => self.same_space(caller, target),
         }
     }

@@ -9,7 +9,7 @@ use Rattle.l4_core_model.specs.Plain as plain
 use Rattle.l4_core_model.specs.Local.{armed_for, armed_period, readied}
 use Rattle.l4_shifted.specs.Shifted.{ahead, timeless_phase, timeless_send}
 
--- Two tests of one truth
+-- Two tests of equivalent facts
 same_tests : (a b c d : ℕ) → (a ≤ b → c ≤ d) → (c ≤ d → a ≤ b) → nat_le a b ≡ nat_le c d
 same_tests a b c d there back = by (nat_le a b) (nat_le c d) refl refl
   where
@@ -95,7 +95,7 @@ ticked_ahead clock to (x ∷ xs) le = λ j. (one j, x.1) ∷ ticked_ahead clock 
     one : x.0 - to ≡ (x.0 - clock) - (to - clock)
     one = omega arith
 
--- The period and the ready list of a phase do not ask when it began.
+-- The period and the ready list of a phase do not depend on when it began.
 
 pub period_timeless : (p : Phase) (send : Option Send) →
     armed_period (timeless_phase p) (option_map timeless_send send) ≡ armed_period p send

@@ -4,8 +4,8 @@ use Rattle.std.specs.Prelude.{not, slice_index_or}
 use Rattle.std.specs.Option.{option_map}
 use Rattle.l4_model.specs.Options.{if_some}
 use Rattle.l4_model.specs.Words.{GlobalId, Id}
-use Rattle.l4_model.specs.Machine.{Declaration, Machine, What, CancelSend, CancelReceive, CancelBoth, Delete, place_of, is_place}
-use Rattle.l4_model.specs.World.{Message, Name, Send, Receive, Asked, Owed, Phase, Ready, Sending, Receiving, Ordering, Ended, Deleted, Thread, is_alive, is_deleted}
+use Rattle.l4_model.specs.Machine.{Declaration, Machine, OrderKind, CancelSend, CancelReceive, CancelBoth, Delete, place_of, is_place}
+use Rattle.l4_model.specs.World.{Message, Name, Send, Receive, PendingOrder, Owed, Phase, Ready, Sending, Receiving, Ordering, Ended, Deleted, Thread, is_alive, is_deleted}
 use Rattle.l4_model.specs.Rules.{Act, RunsAlone, Sends, Receives, Orders, owed_by, received_tag, is_cross}
 use Rattle.l4_model.specs.Steps.{Step, Local as RanLocal, Begin, Queue, Order, Obey, Deliver, Wait, Retarget}
 use Rattle.l4_model.specs.Conditions.{Found, instruction, is_zero, may_still_accept, call_accepts}
@@ -19,7 +19,7 @@ use Rattle.l4_shifted.specs.Shifted.{relative_step, relative_thread, timeless_ph
 use Rattle.l4_shifted.proofs.Threads.{IsSame, IsTimeless, after_decision_same, asked_same, begins_same, begins_uncounted, fails_same, obeyed_same, runs_same, turns_same, waits_same}
 use Rattle.l4_shifted.proofs.Works.{AreLike, IsFree, IsLike, changes_like, comes_like, cond_like, deleted_timeless, does_like, dropped_like, keeps_like, posts_like, queued_like, same_phase, split_like, tells_like, thread_like, unqueued_like}
 
--- A thread comes to something.
+-- A change of a thread
 pub does_comes : (i : ℕ) (f g same : Thread → Thread) → IsSame f same → IsSame g same →
     IsFree (does (comes_to i f)) (does (comes_to i g))
 does_comes i f g same e d = does_like (comes_to i f) (comes_to i g) (comes_like i f g same e d)
@@ -318,7 +318,7 @@ retargets_like o p e (Some j) x y h =
 
 -- Orders
 
-asks_like : (what : What) (i : ℕ) → IsFree (does (asks what i)) (does (asks what i))
+asks_like : (what : OrderKind) (i : ℕ) → IsFree (does (asks what i)) (does (asks what i))
 asks_like CancelSend i =
     does_changes i (asked CancelSend) (asked CancelSend) (asked CancelSend) (asked_same CancelSend)
     (asked_same CancelSend)
@@ -342,7 +342,7 @@ withdraws_for_like m cpu j (Some cause) x y h =
     (split_like m cpu x.local y.local j h.local)
     (withdraws_like m cause j (split_place m cpu x.local j) x y h)
 
-pub obeys_like : (m : Machine) (cpu : ℕ) (caller : GlobalId) (what : What) (j : ℕ) →
+pub obeys_like : (m : Machine) (cpu : ℕ) (caller : GlobalId) (what : OrderKind) (j : ℕ) →
     IsFree (obeys m cpu caller what j) (obeys m cpu caller what j)
 obeys_like m cpu caller what j x y h =
     cond_like (is_deleted (thread x.local j).phase) (is_deleted (thread y.local j).phase) _ _ _ _
@@ -357,7 +357,7 @@ obeys_like m cpu caller what j x y h =
     done = asks_like what j (x ▷ tells (Obey caller)) (y ▷ tells (Obey caller))
         (tells_like (Obey caller) (Obey caller) refl x y h)
 
-order_goes_to_like : (m : Machine) (cpu i : ℕ) (order : Asked) (to : Option ℕ) →
+order_goes_to_like : (m : Machine) (cpu i : ℕ) (order : PendingOrder) (to : Option ℕ) →
     IsFree (order_goes_to m cpu i order to) (order_goes_to m cpu i order to)
 order_goes_to_like m cpu i order None x y h = h
 order_goes_to_like m cpu i order (Some j) x y h =
@@ -368,7 +368,7 @@ order_goes_to_like m cpu i order (Some j) x y h =
     (posts_like (declared m j).cpu (OrderLetter id order.target order.what)
     (OrderLetter id order.target order.what) refl x y h)
 
-gives_order_like : (m : Machine) (cpu i : ℕ) (order : Asked) →
+gives_order_like : (m : Machine) (cpu i : ℕ) (order : PendingOrder) →
     IsFree (gives_order m cpu i order) (gives_order m cpu i order)
 gives_order_like m cpu i order x y h =
     order_goes_to_like m cpu i order (place_of m order.target)
@@ -408,7 +408,7 @@ waits_at_like m i receive x y h =
     (waits_same receive x.local.clock) (waits_same receive y.local.clock) (x ▷ tells told)
     (y ▷ tells told) (tells_like told told refl x y h)
 
--- What an instruction asks for, whenever
+-- What an instruction asks for, without when it does so
 abbrev pub timeless_act : Act → Act
 timeless_act RunsAlone = RunsAlone
 timeless_act (Sends send) = Sends (timeless_send send)
@@ -426,6 +426,6 @@ acts_like m cpu i (Receives r) (Receives q) e x y h =
     (waits_at_like m i r x y h)
 acts_like m cpu i (Orders o) (Orders p) e x y h =
     let same : o ≡ p = cc in
-    subst (λ (q : Asked). AreLike (gives_order m cpu i o x) (gives_order m cpu i q y)) same
+    subst (λ (q : PendingOrder). AreLike (gives_order m cpu i o x) (gives_order m cpu i q y)) same
     (gives_order_like m cpu i o x y h)
 acts_like m cpu i a b e x y h = cc

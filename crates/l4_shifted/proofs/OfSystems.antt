@@ -30,7 +30,7 @@ use Rattle.l4_shifted.proofs.Works.{AreLike, IsLike}
 abbrev pub bare_local : Local → Local
 bare_local l = unstamped (relative_local l)
 
--- That is what likeness is about.
+-- Processors are alike where these are equal.
 
 pub are_like : (l k : Local) → bare_local l ≡ bare_local k → IsLike l k
 are_like l k e = record {

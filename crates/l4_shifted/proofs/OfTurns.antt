@@ -28,7 +28,7 @@ use Rattle.l4_shifted.proofs.Threads.{IsTimeless}
 use Rattle.l4_shifted.proofs.Works.{AreLike, IsFree, IsLike, cond_like, deleted_timeless, does_like, keeps_like, owed_like, popped_due_like, popped_like, posts_like, same_phase, split_like, thread_like}
 use Rattle.l4_shifted.proofs.OfActs.{acts_like, delivers_like, fails_receive_like, first_like, refuses_like, retargets_like, send_like, timeless_act, withdraws_like, zero_like}
 
--- An option of both
+-- Options of both
 first_some_map : {A B : Type 0} (f : A → B) (os : List (Option A)) →
     option_map f (first_some os) ≡ first_some (map (option_map f) os)
 first_some_map f [] = refl
@@ -255,7 +255,7 @@ times_out_like m cpu i x y h =
     (split_like m cpu x.local y.local i h.local)
     (withdraws_like m ByTimeout i (split_place m cpu x.local i) x y h)))
 
--- An instruction asks for the same whenever it is run.
+-- An instruction asks for the same, whenever it is run.
 
 ipc_timeless : (m : Machine) (sender : GlobalId) (now then : ℕ) (c : Context) (to : Id)
     (period : Period) (receive : Option Receive) →
@@ -323,7 +323,7 @@ does_choice_like m cpu (ByReady i) (ByReady j) same x y h =
     (does_like (relists plain.popped) (relists plain.popped) popped_like x y h))
 does_choice_like m cpu c d same x y h = cc
 
--- What both come to
+-- Both do something alike, or neither can.
 abbrev pub AreWorks : Option Work → Option Work → Type 0
 AreWorks None None = Unit {0}
 AreWorks (Some x) (Some y) = AreLike x y

@@ -1,9 +1,9 @@
--- What becomes of a thread does not depend on how many sends it began, nor on when it began what it
--- is about.
+-- A change of a thread depends neither on how many sends it began, nor on when its phase or send
+-- began.
 use Rattle.std.proofs.Common.{◌≡◌, ℕ, Bool, true, false, cond, Option, Some, None, refl, ap, sym, ◌∙◌}
 use Rattle.std.specs.Prelude.{◌==◌, ◌||◌}
 use Rattle.std.specs.Option.{option_map}
-use Rattle.l4_model.specs.Machine.{What, CancelSend, CancelReceive, CancelBoth, Delete, Instr, Set, Copy, Add, Tag, Vs, Ipc, Ask, Jump, OnErr, End}
+use Rattle.l4_model.specs.Machine.{OrderKind, CancelSend, CancelReceive, CancelBoth, Delete, Instr, Set, Copy, Add, Tag, Vs, Ipc, Ask, Jump, OnErr, End}
 use Rattle.l4_model.specs.World.{Send, Receive, Owed, Phase, Ready, Sending, Receiving, Ordering, Ended, Deleted, Thread, is_alive, is_sending}
 use Rattle.l4_model.specs.Rules.{advanced}
 use Rattle.l4_model.specs.Effects.{runs, begins, waits, fails, decided, goes_on, delivered, asked, has_receive_phase, turns, turned_send, turns_in, obeyed}
@@ -12,13 +12,13 @@ use Rattle.l4_core_model.specs.Local.{after_decision, was_delivered}
 use Rattle.l4_similar.specs.Similar.{numberless_owed, numberless_thread}
 use Rattle.l4_shifted.specs.Shifted.{relative_thread, timeless_phase, timeless_send}
 
--- Something becomes of a thread, and something of it where nothing says when it began.
+-- A change of a thread does the same without numbers and beginnings.
 abbrev pub IsSame : (f g : Thread → Thread) → Type 0
 IsSame f g = (t : Thread) → relative_thread (f t) ≡ g (relative_thread t)
 
 -- Tests of phases
 
--- A test of a phase does not ask when it began.
+-- A test of a phase does not depend on when it began.
 abbrev pub IsTimeless : {A : Type 0} → (Phase → A) → Type 0
 IsTimeless f = (p : Phase) → f (timeless_phase p) ≡ f p
 
@@ -55,7 +55,7 @@ cond_same false false x y v w e p q = q
 cond_same true false x y v w e p q = cc
 cond_same false true x y v w e p q = cc
 
--- What becomes of it
+-- Changes of a thread
 
 pub fails_same : (code : ℕ) → IsSame (fails code) (fails code)
 fails_same code t = cond_same _ _ _ _ _ _ (sym (alive_timeless t.phase)) refl refl
@@ -113,7 +113,7 @@ asked_receive_same t =
     let u : Thread = record (relative_thread t) { cancel_receive = t.cancel_receive || b } in u)
     (sym (receive_phase_timeless t.phase t.send))
 
-pub asked_same : (what : What) → IsSame (asked what) (asked what)
+pub asked_same : (what : OrderKind) → IsSame (asked what) (asked what)
 asked_same CancelSend t = asked_send_same t
 asked_same CancelReceive t = asked_receive_same t
 asked_same CancelBoth t =

@@ -89,7 +89,7 @@ owed_like l k i h =
     ∙ ap (λ (os : List (Option Owed)). slice_index_or os i None) h.owed
     ∙ at_map (option_map numberless_owed) k.owed i None
 
--- What does not ask when a phase or a send began
+-- What does not depend on when a phase or a send began
 
 pub same_phase : {A : Type 0} (f : Phase → A) → IsTimeless f → (t u : Thread) →
     relative_thread t ≡ relative_thread u → f t.phase ≡ f u.phase

@@ -9,7 +9,7 @@ use Rattle.l4_core_model.specs.Runs.{System, Happened}
 use Rattle.l4_choices.specs.Alike.{IsAlike}
 use Rattle.l4_similar.specs.Similar.{numberless_name, numberless_owed, numberless_posted}
 
--- Nothing says when it began,
+-- Phases and sends without when they began
 
 abbrev pub timeless_phase : Phase → Phase
 timeless_phase Ready = Ready
@@ -30,7 +30,7 @@ relative_thread t =
       send = option_map timeless_send t.send;
     }
 
--- and of a deadline it is told how far it is ahead.
+-- Deadlines, relative to the clock
 
 abbrev pub ahead : (clock : ℕ) → ℕ × ℕ → ℕ × ℕ
 ahead clock e = (e.0 - clock, e.1)
@@ -66,11 +66,11 @@ relative_step (Order caller target what) = Order caller target what
 relative_step (Obey caller) = Obey caller
 relative_step (Retarget s) = Retarget (numberless_name s)
 
--- Without numbers, and relative to the clocks, they are alike.
+-- They are equal without numbers, and relative to their clocks.
 abbrev pub IsShifted : System → System → Type 0
 IsShifted g h = IsAlike (relative g) (relative h)
 
--- What happens is told by the same steps, but for numbers and clocks, and leads to two such states.
+-- It is told by the same steps, but for numbers and clocks, and leads to two such states.
 pub record HappenShifted (a b : Happened) : Type 0 where
   pub cpu : a.event.cpu ≡ b.event.cpu
   pub steps : map relative_step a.event.steps ≡ map relative_step b.event.steps

@@ -1,9 +1,9 @@
 //! States of core runs that differ in numbers of sends and in how late it is: what happens in one
 //! can happen in the other.
 //!
-//! Where a loop waits for so many ticks, its clock goes on for ever, so it comes to no state twice.
-//! But no event asks how late it is, only how far ahead a deadline is. Told so, the states of such
-//! a loop are few.
+//! Where a loop waits with a time limit, its clock goes on for ever, so it comes to no state twice.
+//! But events depend only on how far ahead a deadline is, not on how late it is. Relative to the
+//! clocks, the states of such a loop are few.
 //!
 //! All of it is definitions and proofs; the function has an empty body.
 //!

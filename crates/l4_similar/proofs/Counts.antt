@@ -5,8 +5,8 @@ use Rattle.std.specs.List.{AllByRecursion}
 use Rattle.std.proofs.lemmas.Bool.{eqb-true}
 use Rattle.l4_model.specs.Options.{if_some}
 use Rattle.l4_model.specs.Words.{GlobalId, same_id}
-use Rattle.l4_model.specs.Machine.{Machine, Instr, Set, Copy, Add, Tag, Vs, Ipc, Ask, Jump, OnErr, End, What, CancelSend, CancelReceive, CancelBoth, Delete, is_declared, is_place, place_of}
-use Rattle.l4_model.specs.World.{Asked, Context, Message, Owed, Phase, Ready, Sending, Receiving, Ordering, Ended, Deleted, Receive, Send, Thread, changed, is_alive, is_deleted, opening_thread, receive_now}
+use Rattle.l4_model.specs.Machine.{Machine, Instr, Set, Copy, Add, Tag, Vs, Ipc, Ask, Jump, OnErr, End, OrderKind, CancelSend, CancelReceive, CancelBoth, Delete, is_declared, is_place, place_of}
+use Rattle.l4_model.specs.World.{PendingOrder, Context, Message, Owed, Phase, Ready, Sending, Receiving, Ordering, Ended, Deleted, Receive, Send, Thread, changed, is_alive, is_deleted, opening_thread, receive_now}
 use Rattle.l4_model.specs.Rules.{Act, RunsAlone, Sends, Receives, Orders, is_cross, owed_by, received_tag}
 use Rattle.l4_model.specs.Steps.{Begin, Deliver, Local as RanLocal, Obey, Order, Queue, Retarget, Wait}
 use Rattle.l4_model.specs.Conditions.{act_of, instruction, is_zero}
@@ -228,14 +228,14 @@ module _ (m : Machine) (cpu : ℕ) (cs : List ℕ) where
 
   -- Orders
 
-  asks_keeps : (what : What) (j : ℕ) (x : Work) → Counted x → Counted (does (asks what j) x)
+  asks_keeps : (what : OrderKind) (j : ℕ) (x : Work) → Counted x → Counted (does (asks what j) x)
   asks_keeps CancelSend j x k = changes_keeps j (asked CancelSend) x (λ t. refl) k
   asks_keeps CancelReceive j x k = changes_keeps j (asked CancelReceive) x (λ t. refl) k
   asks_keeps CancelBoth j x k = changes_keeps j (asked CancelBoth) x (λ t. refl) k
   asks_keeps Delete j x k =
       comes_keeps j (asked Delete) (x ▷ does (relists (plain.dropped j))) (λ t. refl) k
 
-  pub obeys_keeps : (caller : GlobalId) (what : What) (j : ℕ) (x : Work) → IsThread m j →
+  pub obeys_keeps : (caller : GlobalId) (what : OrderKind) (j : ℕ) (x : Work) → IsThread m j →
       home m j ≡ cpu → Counted x → Counted (obeys m cpu caller what j x)
   obeys_keeps caller what j x t own k =
       cond_keeps Counted (is_deleted (thread x.local j).phase) _ _ (λ gone. asked_then)
@@ -251,7 +251,7 @@ module _ (m : Machine) (cpu : ℕ) (cs : List ℕ) where
       by None = asked_then
       by (Some cause) = withdraws_keeps cause j y t own asked_then
 
-  order_keeps : (i : ℕ) (order : Asked) (x : Work) → IsMachine m → Counted x →
+  order_keeps : (i : ℕ) (order : PendingOrder) (x : Work) → IsMachine m → Counted x →
       Counted (gives_order m cpu i order x)
   order_keeps i order x machine k = by (place_of m order.target) refl
     where

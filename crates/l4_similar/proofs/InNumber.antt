@@ -1,5 +1,5 @@
--- A letter that withdraws a send comes while no later one of that thread has come: of the letters
--- of a thread that bring a send or withdraw it, and of what has come of it, the numbers rise.
+-- A letter that withdraws a send comes before any later send of that thread. For the numbers rise
+-- along the letters of a thread that bring or withdraw sends, and from what has come of it.
 use Rattle.std.proofs.Common.{◌≡◌, ℕ, zero, suc, ◌≤◌, Bool, true, false, cond, Some, List, [], ◌∷◌, ◌++◌, filter, map, refl, sym, ap, subst, ◌∙◌, arith}
 use Rattle.std.specs.Prelude.{slice_get, ◌==◌, ◌&&◌}
 use Rattle.std.specs.List.{AllByRecursion}

@@ -1,5 +1,5 @@
--- In each state that a core run leads to the letters are in number, so that each number that an
--- event asks for is the one that it finds.
+-- In each state that a core run leads to, the letters are in number. So each number that an event
+-- asks for is the one that it finds.
 use Rattle.std.proofs.Common.{◌≡◌, ℕ, zero, suc, ◌+◌, ◌<◌, Bool, true, false, cond, Option, Some, None, List, [], ◌∷◌, ◌++◌, length, map, filter, refl, sym, ap, subst, ◌∙◌, arith}
 use Rattle.std.specs.Prelude.{is_some, slice_get, slice_index_or, ◌==◌}
 use Rattle.std.specs.List.{AllByRecursion}
@@ -40,7 +40,7 @@ counting s c = counts (s.locals c)
 abbrev pub AreInNumber : Machine → Scene → Type 0
 AreInNumber m s = IsInNumber m (counting s) s.mail
 
--- What is armed or ready on a processor is of it.
+-- What is armed or ready on a processor belongs to it.
 
 no_head : {A : Type 0} (p : A → Bool) (x : A) (xs ys : List A) → ys ≡ x ∷ xs → p x ≡ true →
     filter p ys ≡ [] → ⊥
@@ -204,7 +204,7 @@ opening_in_number m = record {
   order = tt;
 }
 
--- One event more
+-- One more event
 run_last : (m : Machine) (es : List Action) (r last : Run) (e : Action) (h : Happened) →
     core_run m r es ≡ Some last → happens m last.system e ≡ Some h →
     core_run m r (es ++ e ∷ []) ≡ Some (then_event last h)

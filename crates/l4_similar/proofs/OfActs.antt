@@ -4,8 +4,8 @@ use Rattle.std.specs.Prelude.{not}
 use Rattle.std.specs.Option.{option_map}
 use Rattle.l4_model.specs.Options.{if_some}
 use Rattle.l4_model.specs.Words.{GlobalId}
-use Rattle.l4_model.specs.Machine.{Declaration, Machine, What, CancelSend, CancelReceive, CancelBoth, Delete, place_of, is_place}
-use Rattle.l4_model.specs.World.{Message, Name, Send, Receive, Asked, Owed, Phase, Ready, Sending, Receiving, Ordering, Ended, Deleted, Thread, is_alive, is_deleted}
+use Rattle.l4_model.specs.Machine.{Declaration, Machine, OrderKind, CancelSend, CancelReceive, CancelBoth, Delete, place_of, is_place}
+use Rattle.l4_model.specs.World.{Message, Name, Send, Receive, PendingOrder, Owed, Phase, Ready, Sending, Receiving, Ordering, Ended, Deleted, Thread, is_alive, is_deleted}
 use Rattle.l4_model.specs.Rules.{Act, RunsAlone, Sends, Receives, Orders, owed_by}
 use Rattle.l4_model.specs.Steps.{Step, Local as RanLocal, Begin, Queue, Order, Obey, Deliver, Wait, Retarget}
 use Rattle.l4_model.specs.Conditions.{Found, instruction, is_zero, may_still_accept, call_accepts}
@@ -18,7 +18,7 @@ use Rattle.l4_similar.specs.Similar.{numberless_name, numberless_owed, numberles
 use Rattle.l4_similar.proofs.Threads.{IsSame, fails_same, after_decision_same, turns_same, asked_same, obeyed_same, runs_same}
 use Rattle.l4_similar.proofs.Works.{pared, pared_local, IsPared, cond_pared, tells_pared, posts_pared, does_pared, send_pared, deleted_pared, last_pared, split_pared, first_pared, instruction_pared, thread_pared, changes_pared, comes_pared, keeps_pared, tells_send_pared}
 
--- A thread comes to something.
+-- A change of a thread
 pub does_comes : (i : ℕ) (f g : Thread → Thread) → IsSame f g →
     IsPared (does (comes_to i f)) (does (comes_to i g))
 does_comes i f g e = does_pared (comes_to i f) (comes_to i g) (comes_pared i f g e)
@@ -254,7 +254,7 @@ retargets_pared o (Some j) x =
 
 -- Orders
 
-asks_pared : (what : What) (i : ℕ) → IsPared (does (asks what i)) (does (asks what i))
+asks_pared : (what : OrderKind) (i : ℕ) → IsPared (does (asks what i)) (does (asks what i))
 asks_pared CancelSend i = does_changes i (asked CancelSend) (asked CancelSend) (asked_same CancelSend)
 asks_pared CancelReceive i =
     does_changes i (asked CancelReceive) (asked CancelReceive) (asked_same CancelReceive)
@@ -269,7 +269,7 @@ withdraws_for_pared m cpu j (Some cause) x =
     withdraws_pared m cause j (split_place m cpu x.local j) x
     ∙ ap (λ o. withdraws m cause j o (pared x)) (sym (split_pared m cpu x.local j))
 
-pub obeys_pared : (m : Machine) (cpu : ℕ) (caller : GlobalId) (what : What) (j : ℕ) →
+pub obeys_pared : (m : Machine) (cpu : ℕ) (caller : GlobalId) (what : OrderKind) (j : ℕ) →
     IsPared (obeys m cpu caller what j) (obeys m cpu caller what j)
 obeys_pared m cpu caller what j x =
     cond_pared (is_deleted (thread x.local j).phase) _ _ _ _ _ (sym (deleted_pared x.local j))
@@ -282,7 +282,7 @@ obeys_pared m cpu caller what j x =
     done = asks_pared what j (x ▷ tells (Obey caller))
         ∙ ap (does (asks what j)) (tells_pared (Obey caller) x)
 
-order_goes_to_pared : (m : Machine) (cpu i : ℕ) (order : Asked) (to : Option ℕ) →
+order_goes_to_pared : (m : Machine) (cpu i : ℕ) (order : PendingOrder) (to : Option ℕ) →
     IsPared (order_goes_to m cpu i order to) (order_goes_to m cpu i order to)
 order_goes_to_pared m cpu i order None x = refl
 order_goes_to_pared m cpu i order (Some j) x =
@@ -291,7 +291,7 @@ order_goes_to_pared m cpu i order (Some j) x =
     ∙ ap (does (comes_to i obeyed)) (obeys_pared m cpu (declared m i).id order.what j x))
     (posts_pared (declared m j).cpu (OrderLetter (declared m i).id order.target order.what) x)
 
-gives_order_pared : (m : Machine) (cpu i : ℕ) (order : Asked) →
+gives_order_pared : (m : Machine) (cpu i : ℕ) (order : PendingOrder) →
     IsPared (gives_order m cpu i order) (gives_order m cpu i order)
 gives_order_pared m cpu i order x =
     order_goes_to_pared m cpu i order (place_of m order.target)

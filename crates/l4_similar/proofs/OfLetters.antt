@@ -20,8 +20,8 @@ use Rattle.l4_similar.proofs.Threads.{after_decision_same, obeyed_same}
 use Rattle.l4_similar.proofs.Works.{pared, pared_local, begun, cond_pared, posts_pared, thread_pared, send_pared, split_pared}
 use Rattle.l4_similar.proofs.OfActs.{does_comes, does_changes, refuses_pared, retargets_pared, arrives_pared, obeys_pared}
 
--- How a send was decided is told of the last one. Of a send that waits here the last one is
--- withdrawn.
+-- The last send is meant where a letter tells how a send was decided, and where it withdraws a send
+-- that waits here.
 abbrev pub FitsNumber : Machine → (cpu : ℕ) → Local → Content → Type 0
 FitsNumber m cpu l (DoneLetter s result) =
     (i : ℕ) → own_place m cpu s.thread ≡ Some i → (thread l i).context.begun ≡ s.k

@@ -36,7 +36,7 @@ pub record ArePared (g h : System) : Type 0 where
   pub mail : (from to : ℕ) →
       pared_contents (letters g.mail from to) ≡ pared_contents (letters h.mail from to)
 
--- That is to be similar.
+-- Similar states are those that are equal without these.
 
 pared_locals : (ls : List Local) → map unstamped (map numberless_local ls) ≡ map pared_local ls
 pared_locals [] = refl

@@ -1,8 +1,8 @@
--- What becomes of a thread does not depend on how many sends it began.
+-- A change of a thread does not depend on how many sends it began.
 use Rattle.std.proofs.Common.{◌≡◌, ℕ, zero, suc, Bool, true, false, cond, Option, Some, None, List, [], ◌∷◌, map, refl}
 use Rattle.std.specs.Prelude.{slice_index_or, ◌==◌}
 use Rattle.l4_model.specs.Words.{GlobalId, Id, NilThread, AnyThread, AnyLocalThread, LocalThread, GlobalThread, Period}
-use Rattle.l4_model.specs.Machine.{Machine, What, CancelSend, CancelReceive, CancelBoth, Delete, Instr, Set, Copy, Add, Tag, Vs, Ipc, Ask, Jump, OnErr, End}
+use Rattle.l4_model.specs.Machine.{Machine, OrderKind, CancelSend, CancelReceive, CancelBoth, Delete, Instr, Set, Copy, Add, Tag, Vs, Ipc, Ask, Jump, OnErr, End}
 use Rattle.l4_model.specs.World.{Context, Send, Receive, Owed, Phase, Ready, Sending, Receiving, Ordering, Ended, Deleted, Thread, is_alive}
 use Rattle.l4_model.specs.Rules.{act, ipc_act, destination, receive_phase, advanced}
 use Rattle.l4_model.specs.Effects.{runs, fails, decided, goes_on, delivered, asked, turns, turns_in, obeyed}
@@ -10,7 +10,7 @@ use Rattle.l4_core_model.specs.Letters.{Result, Delivered, Refused, TimedOut, No
 use Rattle.l4_core_model.specs.Local.{after_decision, was_delivered}
 use Rattle.l4_similar.specs.Similar.{numberless_thread, numberless_owed}
 
--- Something becomes of a thread, and the same of it without numbers.
+-- A change of a thread does the same without numbers.
 abbrev pub IsSame : (f g : Thread → Thread) → Type 0
 IsSame f g = (t : Thread) → numberless_thread (f t) ≡ g (numberless_thread t)
 
@@ -53,7 +53,7 @@ turns_same o t = by t.phase
     by Ended = refl
     by Deleted = refl
 
-pub asked_same : (what : What) → IsSame (asked what) (asked what)
+pub asked_same : (what : OrderKind) → IsSame (asked what) (asked what)
 asked_same CancelSend t = refl
 asked_same CancelReceive t = refl
 asked_same CancelBoth t = refl
@@ -83,7 +83,7 @@ runs_same (OnErr place) t = by (t.context.error == 0)
     by false = refl
 runs_same End t = refl
 
--- What an instruction asks for does not depend on it either.
+-- What an instruction asks for does not depend on the number of sends either.
 
 uncounted : Context → Context
 uncounted c = record c { begun = 0 }

@@ -33,7 +33,7 @@ pared x =
 abbrev pub begun : Local → Work
 begun l = record { local = l; steps = []; letters = [] }
 
--- Something is done, and the same without stamps and numbers.
+-- An act does the same without stamps and numbers.
 abbrev pub IsPared : (act other : Work → Work) → Type 0
 IsPared act other = (x : Work) → pared (act x) ≡ other (pared x)
 

@@ -66,7 +66,7 @@ numberless_step (Obey caller) = Obey caller
 numberless_step (Tick cpu clock) = Tick cpu clock
 numberless_step (Retarget s) = Retarget (numberless_name s)
 
--- Without numbers they are alike.
+-- They are equal without numbers.
 abbrev pub IsSimilar : System → System → Type 0
 IsSimilar g h = IsAlike (numberless g) (numberless h)
 

@@ -1,9 +1,9 @@
--- Numbers are told by their bytes.
+-- Different lists of numbers have different bytes.
 use Rattle.std.proofs.Common.{◌≡◌, ℕ, zero, suc, ◌+◌, ◌/◌, ◌%◌, Bool, true, false, cond, ◌==◌, nat_lt, List, [], ◌∷◌, ◌++◌, replicate, refl, sym, ap, ◌∙◌, arith}
 use Rattle.std.proofs.lemmas.Bool.{ltb-true, eqb-true}
 use Rattle.l4_states.specs.Bytes.{put_by, put_number, Token, Zeros, Above, longest_run, ended, tokens_from, put_tokens, bytes_of}
 
--- What is told by the numbers that begin a list, and what follows.
+-- A code has what is shown of a value, and what follows, apart from all others.
 abbrev pub IsApart : {A B : Type 0} → (A → B) → (A → List ℕ → List ℕ) → Type 0
 IsApart shown code = (a b : _) (x y : List ℕ) → code a x ≡ code b y → (shown a ≡ shown b) × (x ≡ y)
 
@@ -23,7 +23,7 @@ pub rest_is : (a b : ℕ) (x y : List ℕ) → a ∷ x ≡ b ∷ y → x ≡ y
 unfolding rest_of
 rest_is a b x y h = ap rest_of h
 
--- A number and what follows.
+-- A number, and what follows it
 
 low_and_high : (m n : ℕ) → m % 128 + 128 ≡ n % 128 + 128 → m / 128 ≡ n / 128 → m ≡ n
 low_and_high m n low high = grind arith

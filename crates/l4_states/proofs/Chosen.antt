@@ -1,4 +1,4 @@
--- A core run whose ticks go to least deadlines is a list of choices, and such a list is one.
+-- A core run whose ticks go to least deadlines is a list of choices, and the reverse.
 use Rattle.std.proofs.Common.{◌≡◌, ℕ, suc, ◌+◌, ◌*◌, ◌/◌, ◌%◌, ◌<◌, ◌≤◌, Bool, true, false, cond, ◌==◌, nat_lt, ◌⊎◌, inl, inr, Option, Some, None, List, [], ◌∷◌, length, refl, ap, sym, subst, ◌∙◌, arith}
 use Rattle.std.specs.Prelude.{slice_get}
 use Rattle.std.specs.Option.{option_map}
@@ -14,7 +14,7 @@ use Rattle.l4_choices.specs.Entries.{TickOf, LetterOf, CoreOf, entry_event}
 use Rattle.l4_states.specs.Choices.{choice_of, choice, after_entry, after_choices, IsLeastTick, AreLeastTicks, IsLeastRun}
 use Rattle.l4_states.proofs.Reached.{IsBounded, opening_bounded, handles_at, turns_at, ticks_at, from_below}
 
--- What happens is a choice, and leaves bounds.
+-- What happens is a choice, and the state after it is within bounds.
 record IsChoice (m : Machine) (g : System) (e : Action) (h : Happened) : Type 0 where
   pub cpu : ℕ
   pub k : ℕ
@@ -83,7 +83,7 @@ is_choice m g (Ticks cpu clock) h b is tick =
       bounded = a.bounded;
     }
 
--- And has a number.
+-- A choice has a number.
 numbered : (m : Machine) (cpu k : ℕ) → k < m.cpus + 2 →
     choice m (cpu * (m.cpus + 2) + k) ≡ choice_of m.cpus cpu k
 numbered m cpu k lt =

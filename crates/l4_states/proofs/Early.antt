@@ -81,7 +81,7 @@ turn_keeps m cpu l event x turns is = turned_clock m cpu (empty_past l) after (r
       local = x.local;
     }
 
--- What an event of a processor leaves is low where its clock is.
+-- After an event of a processor all clocks are low if that of the processor is.
 low_done : (events cpu : ℕ) (g : System) (o : Option Work) (h : Happened) →
     option_map (done cpu g) o ≡ Some h →
     ((x : Work) → o ≡ Some x → x.local.clock ≤ events * period_limit) → AreLow events g.locals →

@@ -1,4 +1,4 @@
--- Of the states that a search has found those at rest are all endings.
+-- Of the states that a search has found, those at rest are all endings.
 use Rattle.std.proofs.Common.{◌≡◌, ℕ, zero, suc, ◌+◌, ◌<◌, ◌≤◌, Bool, true, false, cond, inr, Option, Some, None, List, [], ◌∷◌, length, map, refl, ap, sym, subst, ◌∙◌, arith}
 use Rattle.std.specs.Prelude.{filter, slice_index_or}
 use Rattle.std.specs.Option.{option_map}
@@ -52,7 +52,7 @@ replayed m (e ∷ s) r g h =
               ∙ omega (arith, length-append r.events (x.event ∷ []));
         }
 
--- Of a list by its places
+-- A fact of all elements of a list, by their places
 all_places : {A : Type 0} (P : A → Type 0) (d : A) (xs : List A) →
     ((i : ℕ) → i < length xs → P (slice_index_or xs i d)) → AllByRecursion P xs
 all_places P d [] h = tt

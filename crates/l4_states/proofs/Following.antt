@@ -1,4 +1,4 @@
--- Lists of choices have what a search asks for.
+-- Lists of choices are schedules as a search needs them.
 use Rattle.std.proofs.Common.{◌≡◌, ℕ, suc, ◌+◌, ◌-◌, ◌/◌, ◌%◌, ◌<◌, Bool, true, false, cond, ◌&&◌, not, ◌==◌, nat_lt, Option, Some, None, List, [], ◌∷◌, ◌++◌, length, map, refl, ap, subst, sym, ◌∙◌}
 use Rattle.std.specs.Prelude.{slice_get, is_some}
 use Rattle.std.specs.Option.{option_map}
@@ -251,7 +251,7 @@ at_rest_similar m g h similar =
       no_mail_similar g h similar,
     ) refl
 
--- One entry more.
+-- One more entry.
 
 bind-unit : {A : Type 0} (o : Option A) → (o >>= λ x. Some x) ≡ o
 bind-unit None = refl
@@ -270,7 +270,7 @@ after-append m g (x ∷ s) e = by (after_entry m g (choice m x)) (λ h. after-ap
     by None rest = refl
     by (Some h) rest = rest h
 
--- Where choices lead, a core run does, of as many events.
+-- Where choices lead, a core run of as many events leads.
 
 pub record GoesOn (m : Machine) (r : Run) (g : System) (s : List ℕ) : Type 0 where
   pub actions : List Action

@@ -100,7 +100,7 @@ module _ (m : Machine) (machine : IsMachine m) (found : List Seen) (depth : ℕ)
     rising = ex.rising;
   }
 
-  -- Some state was found, the one at the beginning.
+  -- Some state was found: that at the beginning.
   some_found : 0 < length found
   some_found = by (ex.complete [] (state_in m (opening_system m)) refl (omega arith))
     where

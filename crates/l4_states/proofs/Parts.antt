@@ -1,11 +1,11 @@
--- Values are told by their codes.
+-- Different values have different codes.
 use Rattle.std.proofs.Common.{◌≡◌, ℕ, ◌+◌, ◌-◌, Bool, true, false, cond, ◌==◌, Option, None, Some, List, [], ◌∷◌, map, length, refl, sym, ap, ◌∙◌, arith}
 use Rattle.std.proofs.lemmas.Bool.{eqb-true}
 use Rattle.std.specs.Option.{option_map}
 use Rattle.l4_model.specs.Words.{GlobalId, Id, NilThread, AnyThread, AnyLocalThread, LocalThread, GlobalThread, register_count}
-use Rattle.l4_model.specs.Machine.{What, CancelSend, CancelReceive, CancelBoth, Delete}
-use Rattle.l4_model.specs.World.{Name, Context, Receive, Message, Send, Asked, Owed, Phase, Ready, Sending, Receiving, Ordering, Ended, Deleted, Thread}
-use Rattle.l4_model.specs.Steps.{what_code}
+use Rattle.l4_model.specs.Machine.{OrderKind, CancelSend, CancelReceive, CancelBoth, Delete}
+use Rattle.l4_model.specs.World.{Name, Context, Receive, Message, Send, PendingOrder, Owed, Phase, Ready, Sending, Receiving, Ordering, Ended, Deleted, Thread}
+use Rattle.l4_model.specs.Steps.{order_kind_code}
 use Rattle.l4_core_model.specs.Letters.{Refusal, TimedOut, Nobody, Cancelled, Dropped, Result, Delivered, Refused, Cause, ByTimeout, ByCancel, ByDeletion, Content, SendLetter, DoneLetter, WithdrawLetter, GoneLetter, OrderLetter, OrderDoneLetter, RetargetLetter}
 use Rattle.l4_core_model.specs.Plain.{Waiting, Plain}
 use Rattle.l4_core_model.specs.Local.{Local}
@@ -15,7 +15,7 @@ use Rattle.l4_shifted.proofs.OfSystems.{bare_local}
 use Rattle.l4_states.specs.Codes.{number_code, flag_code, optional, each, listed, chained, length_code, sized, global_code, id_code, receive_code, message_code, send_code, asked_code, phase_code, context_code, thread_code, waiting_code, armed_code, lists_code, name_code, owed_code, local_code, refusal_code, result_code, cause_code, content_code}
 use Rattle.l4_states.proofs.Bytes.{first_is, rest_is}
 
--- A value is told by the numbers that its code puts first, and so is what follows.
+-- A code has a value, and what follows, apart from all others.
 abbrev pub IsApart : (A : Type 0) → (A → List ℕ → List ℕ) → Type 0
 IsApart A code = (a b : A) (x y : List ℕ) → code a x ≡ code b y → (a ≡ b) × (x ≡ y)
 
@@ -76,7 +76,7 @@ module _ (A : Type 0) (code : A → List ℕ → List ℕ) (is : IsApart A code)
       each_apart xs ys v w (length_apart usual (length xs) (length ys) (first_is _ _ _ _ h))
       (rest_is _ _ _ _ h)
 
--- What a code tells of a value may be less than all of it.
+-- A code may tell less than all of a value: an image of it.
 
 abbrev pub IsImageApart : (A B : Type 0) → (A → B) → (A → List ℕ → List ℕ) → Type 0
 IsImageApart A B f code = (a b : A) (x y : List ℕ) → code a x ≡ code b y → (f a ≡ f b) × (x ≡ y)
@@ -181,17 +181,17 @@ send_apart a b x y h =
       receive.1,
     )
 
-what_apart : (a b : What) → what_code a ≡ what_code b → a ≡ b
-what_apart CancelSend CancelSend h = refl
-what_apart CancelReceive CancelReceive h = refl
-what_apart CancelBoth CancelBoth h = refl
-what_apart Delete Delete h = refl
-what_apart a b h = absurd (omega arith)
+order_kind_apart : (a b : OrderKind) → order_kind_code a ≡ order_kind_code b → a ≡ b
+order_kind_apart CancelSend CancelSend h = refl
+order_kind_apart CancelReceive CancelReceive h = refl
+order_kind_apart CancelBoth CancelBoth h = refl
+order_kind_apart Delete Delete h = refl
+order_kind_apart a b h = absurd (omega arith)
 
-asked_apart : IsApart Asked asked_code
+asked_apart : IsApart PendingOrder asked_code
 asked_apart a b x y h =
     let target = global_apart a.target b.target _ _ h in
-    let what = what_apart a.what b.what (first_is _ _ _ _ target.1) in
+    let what = order_kind_apart a.what b.what (first_is _ _ _ _ target.1) in
     (λ i. record { target = target.0 i; what = what i }, rest_is _ _ _ _ target.1)
 
 phase_apart : IsImageApart Phase Phase timeless_phase phase_code
@@ -232,7 +232,7 @@ thread_apart a b x y h =
     let phase = phase_apart a.phase b.phase _ _ context.1 in
     let send = optional_image Send Send timeless_send send_code send_apart a.send b.send _ _ phase.1
     in
-    let order = optional_apart Asked asked_code asked_apart a.order b.order _ _ send.1 in
+    let order = optional_apart PendingOrder asked_code asked_apart a.order b.order _ _ send.1 in
     let cancel_send = flag_apart a.cancel_send b.cancel_send _ _ order.1 in
     let cancel_receive = flag_apart a.cancel_receive b.cancel_receive x y cancel_send.1 in (
       λ i. record {
@@ -393,7 +393,7 @@ content_apart (GoneLetter id) (GoneLetter id') x y h =
 content_apart (OrderLetter caller target what) (OrderLetter caller' target' what') x y h =
     let by = global_apart caller caller' _ _ (rest_is _ _ _ _ h) in
     let to = global_apart target target' _ _ by.1 in
-    let order = what_apart what what' (first_is _ _ _ _ to.1) in
+    let order = order_kind_apart what what' (first_is _ _ _ _ to.1) in
     (λ i. OrderLetter (by.0 i) (to.0 i) (order i), rest_is _ _ _ _ to.1)
 content_apart (OrderDoneLetter caller) (OrderDoneLetter caller') x y h =
     let of = global_apart caller caller' x y (rest_is _ _ _ _ h) in

@@ -67,7 +67,7 @@ some_done m cpu g (Some x) h lt b is =
     subst (λ (k : Happened). IsBounded m k.system) (some_is (done cpu g x) h is)
     (done_bounded m cpu g x lt b)
 
--- What happens at a processor of the machine leaves bounds.
+-- What happens at a processor of the machine leads to a state within bounds.
 pub record HappensAt (m : Machine) (cpu : ℕ) (h : Happened) : Type 0 where
   pub own : cpu < m.cpus
   pub bounded : IsBounded m h.system
@@ -119,7 +119,7 @@ run_bounded m (e ∷ es) r t b is =
     bind_then (happens m r.system e) _ t is λ h there rest.
     run_bounded m es (then_event r h) t (happens_bounded m r.system e h b there) rest
 
--- Who posted a letter that is under way is a processor, and so is whom it goes to.
+-- The poster and the receiver of a letter under way are processors.
 
 pub from_below : (n from to : ℕ) (ps : List Posted) → AllByRecursion (λ p. p.from < n) ps →
     n ≤ from → letters ps from to ≡ []

@@ -1,4 +1,5 @@
--- Of states within a machine, those of one code are similar, and similar ones have one code.
+-- Of states within a machine, those with the same code are similar, and similar ones have the same
+-- code.
 use Rattle.std.proofs.Common.{◌≡◌, ℕ, zero, suc, ◌+◌, ◌-◌, ◌<◌, ◌≤◌, ◌⊎◌, inl, inr, Option, Some, None, List, [], ◌∷◌, map, length, refl, ap, sym, ◌∙◌, subst, arith}
 use Rattle.std.specs.List.{AllByRecursion, range_with_len}
 use Rattle.std.proofs.lemmas.Bool.{cases_lt}
@@ -37,7 +38,7 @@ each_same : (c d : ℕ → List ℕ → List ℕ) → ((k : ℕ) (x : List ℕ) 
 each_same c d is [] x = refl
 each_same c d is (k ∷ ks) x = ap (c k) (each_same c d is ks x) ∙ is k (each d ks x)
 
--- What is true of each number below it.
+-- What holds of each number of a range
 all_below : (P : ℕ → Type 0) (from n k : ℕ) → AllByRecursion P (range_with_len from n) → from ≤ k →
     k < from + n → P k
 all_below P from zero k all le lt = absurd (omega arith)

@@ -12,17 +12,17 @@ put_by (suc more) n rest = if nat_lt n 128 then n ∷ rest else (n % 128 + 128)
 abbrev pub put_number : (n : ℕ) → List ℕ → List ℕ
 put_number n rest = put_by 9 n rest
 
--- Most numbers of a state are 0. So many of them at once, or another number, told by the one below
--- it.
+-- Most numbers of a state are 0. A token is a run of so many zeros, or another number, kept as the
+-- one below it.
 pub data Token : Type 0 where
   Zeros : (count : ℕ) → Token
   Above : ℕ → Token
 
--- No run of zeros is longer, so that its count fits a byte.
+-- The longest run of zeros, so that its count fits a byte.
 abbrev pub longest_run : ℕ
 longest_run = 255
 
--- A run of zeros is over.
+-- The tokens with a run of zeros that is over.
 abbrev pub ended : (zeros : ℕ) → List Token → List Token
 ended zero tokens = tokens
 ended (suc zeros) tokens = Zeros (suc zeros) ∷ tokens

@@ -22,7 +22,7 @@ choice_of cpus cpu k =
 abbrev pub choice : Machine → (number : ℕ) → Entry
 choice m number = choice_of m.cpus (number / (m.cpus + 2)) (number % (m.cpus + 2))
 
--- Each number below it stands for a choice of its own.
+-- The number of choices. Each number below it stands for a choice of its own.
 abbrev pub choice_count : Machine → ℕ
 choice_count m = m.cpus * (m.cpus + 2)
 
@@ -36,7 +36,7 @@ after_choices m g [] = Some g
 after_choices m g (number ∷ numbers) = after_entry m g (choice m number) >>= λ h.
     after_choices m h numbers
 
--- No least deadline is past all clocks, so that each clock may go on to its own.
+-- No least deadline is past all clocks, so each clock may go on to its own.
 abbrev pub IsEarly : System → Type 0
 IsEarly g = (cpu deadline : ℕ) → least_deadline g cpu ≡ Some deadline → deadline < clock_limit
 
@@ -64,8 +64,8 @@ pub record IsReached (m : Machine) (g : System) : Type 0 where
   pub is : core_run m (opening_run m) actions ≡ Some run
   pub system : run.system ≡ g
 
--- Of the states that core runs lead to those of one code are similar, and similar ones have one
--- code. Similar are those that are shifted.
+-- Of the states that core runs lead to, those with the same code are similar, and similar ones have
+-- the same code. Similar states are those that are shifted.
 abbrev pub IsCoded : Machine → Type 0
 IsCoded m = (g h : System) → IsReached m g → IsReached m h →
     (code_of m g ≡ code_of m h) ↔ IsShifted g h
@@ -82,7 +82,7 @@ AreLeastTicks m r (e ∷ es) =
     IsLeastTick r.system e
     × ((h : Happened) → happens m r.system e ≡ Some h → AreLeastTicks m (then_event r h) es)
 
--- A core run whose ticks go to least deadlines, of so many events, that leads to this state.
+-- A core run of so many events to this state, whose ticks go to least deadlines.
 pub record IsLeastRun (m : Machine) (events : ℕ) (g : System) : Type 0 where
   pub actions : List Action
   pub run : Run

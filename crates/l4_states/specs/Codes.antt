@@ -1,10 +1,10 @@
--- The code of a state of a core run, all of it but stamps, numbers of sends, how late it is, and
+-- The code of a state of a core run. It leaves out stamps, numbers of sends, how late it is, and
 -- the order of letters of different pairs.
 use Rattle.std.specs.Prelude.{ℕ, ◌+◌, ◌-◌, ◌==◌, Bool, if◌then◌else◌, Option, None, Some, List, [], ◌∷◌, length}
 use Rattle.l4_model.specs.Words.{GlobalId, Id, NilThread, AnyThread, AnyLocalThread, LocalThread, GlobalThread, register_count}
 use Rattle.l4_model.specs.Machine.{Machine}
-use Rattle.l4_model.specs.World.{Name, Context, Receive, Message, Send, Asked, Owed, Phase, Ready, Sending, Receiving, Ordering, Ended, Deleted, Thread}
-use Rattle.l4_model.specs.Steps.{what_code}
+use Rattle.l4_model.specs.World.{Name, Context, Receive, Message, Send, PendingOrder, Owed, Phase, Ready, Sending, Receiving, Ordering, Ended, Deleted, Thread}
+use Rattle.l4_model.specs.Steps.{order_kind_code}
 use Rattle.l4_core_model.specs.Letters.{Refusal, TimedOut, Nobody, Cancelled, Dropped, Result, Delivered, Refused, Cause, ByTimeout, ByCancel, ByDeletion, Content, SendLetter, DoneLetter, WithdrawLetter, GoneLetter, OrderLetter, OrderDoneLetter, RetargetLetter}
 use Rattle.l4_core_model.specs.Plain.{Waiting, Plain}
 use Rattle.l4_core_model.specs.Local.{Local}
@@ -31,19 +31,20 @@ each code (x ∷ xs) rest = code x (each code xs rest)
 abbrev pub listed : {A : Type 0} → (A → List ℕ → List ℕ) → List A → List ℕ → List ℕ
 listed code xs rest = length xs ∷ each code xs rest
 
--- The same of a list that is read from its front: a 1 before each, and a 0 behind the last.
+-- The same for a list that is read from its front: a 1 before each element, and a 0 behind the
+-- last.
 abbrev pub chained : {A : Type 0} → (A → List ℕ → List ℕ) → List A → List ℕ → List ℕ
 chained code [] rest = 0 ∷ rest
 chained code (x ∷ xs) rest = 1 ∷ code x (chained code xs rest)
 
--- Of a list that has always so many the length is 0.
+-- The length of a list: 0 where it is the usual one.
 abbrev pub length_code : (usual n : ℕ) → ℕ
 length_code usual n = if n == usual then 0 else n + 1
 
 abbrev pub sized : (usual : ℕ) → {A : Type 0} → (A → List ℕ → List ℕ) → List A → List ℕ → List ℕ
 sized usual code xs rest = length_code usual (length xs) ∷ each code xs rest
 
--- Threads. What a thread is at the beginning has 0 everywhere.
+-- Threads. A thread at its beginning is coded by zeros alone.
 
 abbrev pub global_code : GlobalId → List ℕ → List ℕ
 global_code t rest = t.number ∷ t.version ∷ rest
@@ -68,8 +69,8 @@ send_code s rest = id_code s.to
     (message_code s.message
     (optional number_code s.period (optional receive_code s.receive rest)))
 
-abbrev pub asked_code : Asked → List ℕ → List ℕ
-asked_code a rest = global_code a.target (what_code a.what ∷ rest)
+abbrev pub asked_code : PendingOrder → List ℕ → List ℕ
+asked_code a rest = global_code a.target (order_kind_code a.what ∷ rest)
 
 abbrev pub phase_code : Phase → List ℕ → List ℕ
 phase_code Ready rest = 0 ∷ rest
@@ -95,7 +96,7 @@ thread_code t rest =
 abbrev pub waiting_code : Waiting → List ℕ → List ℕ
 waiting_code w rest = w.block ∷ global_code w.shown (flag_code w.local rest)
 
--- Of a deadline it tells how far it is ahead.
+-- A deadline is coded by how far it is ahead of the clock.
 abbrev pub armed_code : (clock : ℕ) → (ℕ × ℕ) → List ℕ → List ℕ
 armed_code clock e rest = (e.0 - clock) ∷ e.1 ∷ rest
 
@@ -142,11 +143,11 @@ content_code (WithdrawLetter s receiver c) rest = 2
     ∷ name_code s (global_code receiver (cause_code c rest))
 content_code (GoneLetter id) rest = 3 ∷ global_code id rest
 content_code (OrderLetter caller target what) rest = 4
-    ∷ global_code caller (global_code target (what_code what ∷ rest))
+    ∷ global_code caller (global_code target (order_kind_code what ∷ rest))
 content_code (OrderDoneLetter caller) rest = 5 ∷ global_code caller rest
 content_code (RetargetLetter o) rest = 6 ∷ owed_code o rest
 
--- The letters that have come to a processor, of each poster.
+-- The letters that have come to a processor from a poster.
 abbrev pub mail_from_code : List Posted → (to from : ℕ) → List ℕ → List ℕ
 mail_from_code mail to from rest = chained content_code (contents (letters mail from to)) rest
 

@@ -1,4 +1,4 @@
--- What the endings of a machine are.
+-- The endings of a machine.
 use Rattle.std.specs.Prelude.{ℕ, ◌<◌, ◌≤◌, ◌≡◌, Bool, true, false, List, [], ◌∷◌, length, map, filter, slice_index_or}
 use Rattle.std.specs.List.{AllByRecursion}
 use Rattle.l4_model.specs.Machine.{Machine}
@@ -17,8 +17,8 @@ entries_of m schedule = map (choice m) schedule
 abbrev pub ends_of : List Seen → List (List ℕ)
 ends_of found = map (λ s. s.schedule) (filter (λ s. s.state.is_end) found)
 
--- A search of all choices, that was to go so deep and to find so many states at most, has found so
--- many. The endings are those at rest, each told by the entries that lead there.
+-- A search of all choices, limited to this depth and this number of states, has found so many
+-- states. The endings are those at rest, each by the entries that lead there.
 pub record AreEndings (m : Machine) (endings : List (List Entry)) (states asked most depth : ℕ)
     (is_whole : Bool) : Type 0 where
   pub found : List Seen
@@ -27,7 +27,7 @@ pub record AreEndings (m : Machine) (endings : List (List Entry)) (states asked 
   pub cut : is_whole ≡ false → IsCutOff m states asked most depth
   pub endings_are : endings ≡ map (entries_of m) (ends_of found)
 
--- What that comes to:
+-- What such endings are
 
 abbrev pub led : Machine → List Entry → System
 led m entries = (replay_entries m entries).system
@@ -57,8 +57,8 @@ AreApart m (e ∷ es) =
     AllByRecursion (λ f. (IsShifted (led m e) (led m f) → ⊥) × (length e ≤ length f)) es
     × AreApart m es
 
--- They are all endings of core runs of at most so many events, whose ticks go to least deadlines;
--- where the search is whole, of all such core runs.
+-- These are all endings of core runs of at most so many events, whose ticks go to least deadlines.
+-- Where the search is whole, they are those of all such core runs.
 pub record AreAllEndings (m : Machine) (endings : List (List Entry)) (depth : ℕ)
     (is_whole : Bool) : Type 0 where
   pub sound : AllByRecursion (IsEnding m) endings

@@ -7,8 +7,7 @@ use Rattle.l4_explore.specs.Orders.{IsBefore, IsNotAfter}
 use Rattle.l4_explore.specs.Search.{Seen, seen_at}
 use Rattle.l4_states.specs.Choices.{after_choices, IsLeastRun}
 
--- The schedule at a place leads to a state that is similar to this one, in no more than so many
--- events.
+-- A listed schedule leads to a state that is similar to this one, in no more than so many events.
 pub record IsListed (m : Machine) (found : List Seen) (g : System) (events : ℕ) : Type 0 where
   pub place : ℕ
   pub inside : place < length found
@@ -17,7 +16,7 @@ pub record IsListed (m : Machine) (found : List Seen) (g : System) (events : ℕ
   pub similar : IsShifted system g
   pub short : length (seen_at found place).schedule ≤ events
 
--- A schedule leads to a state, and is the first that leads to one that is similar.
+-- A schedule leads to a state, and it is the first of those that lead to a similar one.
 pub record LeadsSoon (m : Machine) (s : Seen) : Type 0 where
   pub system : System
   pub leads : after_choices m (opening_system m) s.schedule ≡ Some system
@@ -49,19 +48,19 @@ pub record AreAllListed (m : Machine) (found : List Seen) (depth : ℕ)
   pub rising : (i j : ℕ) → i < j → j < length found →
       IsBefore (seen_at found i).schedule (seen_at found j).schedule
 
--- So many events lead to a state, and no fewer to one that is similar.
+-- So many events lead to a state, and no fewer lead to a similar one.
 pub record GoesFar (m : Machine) (events : ℕ) : Type 0 where
   pub system : System
   pub run : IsLeastRun m events system
   pub shortest : (g : System) (fewer : ℕ) → IsLeastRun m fewer g → IsShifted system g →
       events ≤ fewer
 
--- Why a search that was to go so deep is not whole: there is a state as deep ..
+-- A search of limited depth is not whole: there is a state as deep ..
 pub record IsCutOffByDepth (m : Machine) (asked depth : ℕ) : Type 0 where
   pub all : depth ≡ asked
   pub deep : GoesFar m asked
 
--- .. or it has found as many as were asked for, and there is one more, of one event more.
+-- .. or it has found as many states as it may, and there is one more, of one event more.
 pub record IsCutOffByStates (m : Machine) (states asked most depth : ℕ) : Type 0 where
   pub shallow : depth < asked
   pub full : states ≡ most

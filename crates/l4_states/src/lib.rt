@@ -1,10 +1,10 @@
-//! The states of core runs: the code of a state, the choices that lead on from it, and what a
-//! search of all of them has found.
+//! The states of core runs: their codes, the choices that lead on, and what a search of all choices
+//! has found.
 //!
-//! A code is all of a state but stamps, numbers of sends, how late it is, and the order of letters
-//! of different pairs of processors. Of the states that core runs lead to, those of one code are
-//! similar: they are shifted (l4_shifted). Similar states have the same futures, so a search may
-//! keep one of them.
+//! A code has all of a state but stamps, numbers of sends, how late it is, and the order of letters
+//! of different pairs of processors. Of the states that core runs lead to, those with the same code
+//! are similar: they are shifted (`l4_shifted`). Similar states have the same futures, so a search
+//! may keep one of them.
 //!
 //! All of it is definitions and proofs; the functions have an empty body.
 //!
@@ -24,38 +24,39 @@ ghost use Rattle.l4_choices.specs.Entries.{Entry};
 ghost use Rattle.l4_states.specs.Endings.{AreAllEndings, AreEndings};
 ghost use Rattle.l4_states.specs.Listed.{AreAllListed, IsCutOff};
 
-/// Numbers are told by their bytes.
+/// Different lists of numbers have different bytes.
 pub fn law_bytes()
     ensures { (ns ms : List ℕ) → bytes_of ns ≡ bytes_of ms → ns ≡ ms }
 {}
 
-/// Of the states that core runs lead to, those of one code are similar, and similar ones have one
-/// code.
+/// Of the states that core runs lead to, those with the same code are similar, and similar ones
+/// have the same code.
 pub fn law_coded()
     ensures { (m : Machine) → IsMachine m → IsCoded m }
 {}
 
-/// So lists of choices have what a search asks for.
+/// Lists of choices are schedules as a search needs them.
 pub fn law_schedules()
     ensures { (m : Machine) → IsMachine m → AreSchedules (state_after m) }
 {}
 
-/// A list of choices stands for all that lead to a similar state, where no clock that it leads to
-/// is near the limit of clocks.
+/// A list of choices stands for all lists that lead to a similar state, if it leads to no clock
+/// near the limit of clocks.
 pub fn law_stands()
     ensures { (m : Machine) (s : List ℕ) → IsMachine m → LeadsEarly m s →
         StandsForAll (state_after m) s }
 {}
 
-/// And what it has found are all core runs whose ticks go to least deadlines, of as many events as
-/// it went deep. Where it is whole, it has found all of them.
+/// A search finds all core runs whose ticks go to least deadlines, of as many events as it went
+/// deep. Where it is whole, it finds all such core runs.
 pub fn law_listed()
     ensures { (m : Machine) (found : List Seen) (depth : ℕ) (is_whole : Bool) → IsMachine m →
         IsExplored (state_after m) found depth is_whole → AreAllListed m found depth is_whole }
 {}
 
-/// Where it is cut off, so many events as it was to go deep lead to a state, and no fewer to one
-/// that is similar; or it has found as many states as it was to find, and there is one more.
+/// A search is cut off in one of two cases. Some state takes as many events as the search may go
+/// deep, and no fewer lead to a similar one. Or it has found as many states as it may, and there is
+/// one more.
 pub fn law_cut_off()
     ensures { (m : Machine) (found : List Seen) (asked most depth : ℕ) (is_whole : Bool) →
         IsMachine m → IsExplored (state_after m) found depth is_whole →
@@ -63,7 +64,7 @@ pub fn law_cut_off()
         IsCutOff m (length found) asked most depth }
 {}
 
-/// Those at rest are all endings of such core runs, each by a shortest one.
+/// The states at rest are all endings of such core runs, each by a shortest one.
 pub fn law_endings()
     ensures { (m : Machine) (endings : List (List Entry)) (states asked most depth : ℕ)
         (is_whole : Bool) → AreEndings m endings states asked most depth is_whole →

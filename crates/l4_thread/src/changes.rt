@@ -1,5 +1,5 @@
 //! What happens to a thread.
-use crate::orders::Asked;
+use crate::orders::PendingOrder;
 use l4_script::instructions::Instr;
 use l4_types::errors::IpcError;
 use l4_types::letters::Decision;
@@ -15,7 +15,7 @@ pub enum Change {
     /// deleted thread keeps its registers.
     EndSend(Decision),
     /// It gave an order, and waits until that is done.
-    GiveOrder(Asked),
+    GiveOrder(PendingOrder),
     /// Its order is done. A deleted thread keeps its registers.
     Obey,
 }

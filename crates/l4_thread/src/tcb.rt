@@ -12,7 +12,7 @@ ghost use Rattle.l4_thread.specs.PhaseView.{since_of};
 
 mod effects;
 
-use crate::orders::Asked;
+use crate::orders::PendingOrder;
 use crate::phases::Phase;
 use crate::sends::{Receive, Send, SendRef, Words};
 use crate::thread::Thread;
@@ -32,7 +32,7 @@ pub struct Tcb {
     send: Option<Send>,
     // The words of its send, where they are not in its registers.
     apart: ArrayVec<u64, MOST_WORDS>,
-    order: Option<Asked>,
+    order: Option<PendingOrder>,
     cancel_send: bool,
     cancel_receive: bool,
 }
@@ -160,7 +160,7 @@ impl Tcb {
     }
 
     /// Its order, while that is not done.
-    pub fn order(&self) -> Option<Asked>
+    pub fn order(&self) -> Option<PendingOrder>
         ensures { result ≡ self.now.thread.order }
     {
         self.order

@@ -271,7 +271,9 @@ impl Thread {
     {
         let end = words.len() + 1;
         self.regs.words[0] = tag.raw();
-        self.regs.words[1..end].copy_from_slice(words);
+        if !words.is_empty() {
+            self.regs.words[1..end].copy_from_slice(words);
+        }
         self.regs.error = 0;
         self.regs.from = shown.id();
         self.regs.actual = actual.id();

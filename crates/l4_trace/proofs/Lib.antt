@@ -1,5 +1,7 @@
 pub mod Joined
+pub mod KeywordRows
 pub mod LineRows
+pub mod Operands
 pub mod Plain
 pub mod ReadSteps
 pub mod ReadTexts

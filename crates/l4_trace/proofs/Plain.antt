@@ -5,12 +5,12 @@ use Rattle.std.specs.List.{list_all, slice_split, join_with_byte}
 use Rattle.std.proofs.lemmas.Bool.{and_parts, and_from, ltb-true}
 use Rattle.std.proofs.lemmas.List.Splits.{slice_split_none, slice_split_at}
 use Rattle.l4_model.specs.Words.{GlobalId, is_global}
-use Rattle.l4_model.specs.Machine.{What, CancelSend, CancelReceive, CancelBoth, Delete}
+use Rattle.l4_model.specs.Machine.{OrderKind, CancelSend, CancelReceive, CancelBoth, Delete}
 use Rattle.l4_model.specs.World.{Name}
 use Rattle.l4_model.specs.Steps.{Step, Local, Begin, Queue, Deliver, Wait, SendTimeout, ReceiveTimeout, SendNobody, ReceiveNobody, SendCancel, ReceiveCancel, Drop, Order, Obey, Tick, Retarget}
 use Rattle.l4_words.proofs.Above.{is_above, above_parts, above_lower, lacks, decimal_is_above, hexadecimal_is_above}
 use Rattle.l4_words.proofs.Spelled.{thread_is_above}
-use Rattle.l4_trace.specs.Lines.{hexadecimal, thread_word, name_word, what_word, words_of, is_word, is_name, has_line}
+use Rattle.l4_trace.specs.Lines.{hexadecimal, thread_word, name_word, order_kind_word, words_of, is_word, is_name, has_line}
 
 -- Words
 
@@ -75,7 +75,7 @@ decimal_is_plain n h = above_lower 32 46 (omega arith) (decimal n) (decimal_is_a
 hexadecimal_is_plain : (n : ℕ) → n < 2 ^ 64 → is_above 32 (hexadecimal n) ≡ true
 hexadecimal_is_plain n h = above_lower 32 46 (omega arith) (hexadecimal n) (hexadecimal_is_above n h)
 
-what_is_plain : (what : What) → is_above 32 (what_word what) ≡ true
+what_is_plain : (what : OrderKind) → is_above 32 (order_kind_word what) ≡ true
 what_is_plain CancelSend = refl
 what_is_plain CancelReceive = refl
 what_is_plain CancelBoth = refl
@@ -109,7 +109,7 @@ step_is_plain (ReceiveCancel t) h = alone (thread_word t) (thread_is_plain t h)
 step_is_plain (Drop s) h = alone (name_word s) (name_is_plain s h)
 step_is_plain (Order caller target what) h =
     let ids = and_parts (is_global caller) (is_global target) h in
-    and_from _ _ (thread_is_plain caller ids.0) (and_from _ _ (thread_is_plain target ids.1) (alone (what_word what) (what_is_plain what)))
+    and_from _ _ (thread_is_plain caller ids.0) (and_from _ _ (thread_is_plain target ids.1) (alone (order_kind_word what) (what_is_plain what)))
 step_is_plain (Obey caller) h = alone (thread_word caller) (thread_is_plain caller h)
 step_is_plain (Tick cpu clock) h =
     let both = and_parts _ _ h in

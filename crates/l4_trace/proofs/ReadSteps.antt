@@ -9,16 +9,16 @@ use Rattle.std.proofs.lemmas.List.{length-append}
 use Rattle.std.proofs.lemmas.List.Splits.{join_with_byte-slice_split}
 use Rattle.std.proofs.lemmas.Slice.Eq.{bytes_eq-Decides}
 use Rattle.l4_model.specs.Words.{GlobalId, is_global}
-use Rattle.l4_model.specs.Machine.{What, CancelSend, CancelReceive, CancelBoth, Delete}
+use Rattle.l4_model.specs.Machine.{OrderKind, CancelSend, CancelReceive, CancelBoth, Delete}
 use Rattle.l4_model.specs.World.{Name}
 use Rattle.l4_model.specs.Steps.{Step, Local, Begin, Queue, Deliver, Wait, SendTimeout, ReceiveTimeout, SendNobody, ReceiveNobody, SendCancel, ReceiveCancel, Drop, Order, Obey, Tick, Retarget}
 use Rattle.l4_model.specs.Conditions.{◌>>=◌}
-use Rattle.l4_trace.specs.Lines.{hexadecimal, thread_word, name_word, what_word, words_of, is_word, is_name, is_tag_of, has_line}
+use Rattle.l4_trace.specs.Lines.{hexadecimal, thread_word, name_word, order_kind_word, words_of, is_word, is_name, is_tag_of, has_line}
 use Rattle.l4_words.specs.Numbers.{number_of}
 use Rattle.l4_words.specs.Threads.{thread_of}
 use Rattle.l4_words.specs.Words.{words_in, one, two, three, first_five}
 use Rattle.l4_words.specs.Names.{name_of}
-use Rattle.l4_trace.specs.Reading.{message_words, delivery_of, what_of_word, order_of, tick_of, of_thread, of_name, step_behind, step_of_words, step_of_line}
+use Rattle.l4_trace.specs.Reading.{message_words, delivery_of, order_kind_of_word, order_of, tick_of, of_thread, of_name, step_behind, step_of_words, step_of_line}
 use Rattle.l4_words.proofs.Numerals.{decimal_is_read, decimal_is_written, hexadecimal_is_read, hexadecimal_is_written}
 use Rattle.l4_trace.proofs.Plain.{are_plain, delivery, line_is_split, step_is_plain}
 use Rattle.l4_words.proofs.Found.{some_same, some_bind, some_then, mapped}
@@ -35,7 +35,7 @@ message_is_read read (word ∷ words) h few =
     let others = message_is_read (read ++ word ∷ []) words parts.1 (omega (arith, few, length-append read (word ∷ []))) in
     rw (hexadecimal_is_read word (ltb-true word (2 ^ 64) parts.0), room, others) (ap (λ (ws : List ℕ). Some ws) (append_assoc read (word ∷ []) words))
 
-what_is_read : (what : What) → what_of_word (what_word what) ≡ Some what
+what_is_read : (what : OrderKind) → order_kind_of_word (order_kind_word what) ≡ Some what
 what_is_read CancelSend = refl
 what_is_read CancelReceive = refl
 what_is_read CancelBoth = refl
@@ -63,8 +63,8 @@ delivery_is_read s receiver shown actual tag words h =
       right,
     ) refl
 
-order_is_read : (caller target : GlobalId) (what : What) → is_global caller ≡ true → is_global target ≡ true →
-    order_of (thread_word caller ∷ thread_word target ∷ what_word what ∷ []) ≡ Some (Order caller target what)
+order_is_read : (caller target : GlobalId) (what : OrderKind) → is_global caller ≡ true → is_global target ≡ true →
+    order_of (thread_word caller ∷ thread_word target ∷ order_kind_word what ∷ []) ≡ Some (Order caller target what)
 unfolding order_of
 order_is_read caller target what c t = rw (thread_is_read caller c, thread_is_read target t, what_is_read what) refl
 
@@ -195,12 +195,12 @@ name_kind kind keyword first operands step right words is e =
       same = ap words_of (sym m.2) ∙ words m.0 ∙ (λ i. is_keyword first keyword is i ∷ t.1 i ∷ []) ∙ ap (λ (ws : List (List ℕ)). first ∷ ws) (sym (one_is operands b.0 b.1));
     }
 
-what_is_written : (word : List ℕ) (what : What) → what_of_word word ≡ Some what → what_word what ≡ word
+what_is_written : (word : List ℕ) (what : OrderKind) → order_kind_of_word word ≡ Some what → order_kind_word what ≡ word
 what_is_written word what e =
-    chosen (what_word what ≡ word) _ _ _ _ e (λ is h. ap what_word (sym (some_same CancelSend what h)) ∙ sym (same_bytes word _ is))
-    (λ e. chosen (what_word what ≡ word) _ _ _ _ e (λ is h. ap what_word (sym (some_same CancelReceive what h)) ∙ sym (same_bytes word _ is))
-    (λ e. chosen (what_word what ≡ word) _ _ _ _ e (λ is h. ap what_word (sym (some_same CancelBoth what h)) ∙ sym (same_bytes word _ is))
-    (λ e. chosen (what_word what ≡ word) _ _ _ _ e (λ is h. ap what_word (sym (some_same Delete what h)) ∙ sym (same_bytes word _ is))
+    chosen (order_kind_word what ≡ word) _ _ _ _ e (λ is h. ap order_kind_word (sym (some_same CancelSend what h)) ∙ sym (same_bytes word _ is))
+    (λ e. chosen (order_kind_word what ≡ word) _ _ _ _ e (λ is h. ap order_kind_word (sym (some_same CancelReceive what h)) ∙ sym (same_bytes word _ is))
+    (λ e. chosen (order_kind_word what ≡ word) _ _ _ _ e (λ is h. ap order_kind_word (sym (some_same CancelBoth what h)) ∙ sym (same_bytes word _ is))
+    (λ e. chosen (order_kind_word what ≡ word) _ _ _ _ e (λ is h. ap order_kind_word (sym (some_same Delete what h)) ∙ sym (same_bytes word _ is))
     (λ e. absurd cc))))
 
 order_is_written : (first : List ℕ) (operands : List (List ℕ)) (step : Step) → bytes_eq first (codes "order") ≡ true → order_of operands ≡ Some step → AreWordsOf (first ∷ operands) step
@@ -209,7 +209,7 @@ order_is_written first operands step is e =
     let w = some_bind (three operands) _ step e in
     let c = some_bind (thread_of w.0.0) _ step w.2 in
     let t = some_bind (thread_of w.0.1) _ step c.2 in
-    let k = some_bind (what_of_word w.0.2) _ step t.2 in
+    let k = some_bind (order_kind_of_word w.0.2) _ step t.2 in
     let same = some_same (Order c.0 t.0 k.0) step k.2 in
     let caller = thread_is_written w.0.0 c.0 c.1 in
     let target = thread_is_written w.0.1 t.0 t.1 in

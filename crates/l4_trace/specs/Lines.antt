@@ -2,18 +2,18 @@
 use Rattle.std.specs.Prelude.{ℕ, ◌/◌, ◌%◌, ◌^◌, Bool, ◌==◌, ◌&&◌, nat_lt, List, [], ◌∷◌, length, map, flat_map, codes, decimal}
 use Rattle.std.specs.List.{list_all}
 use Rattle.l4_model.specs.Words.{is_global, clock_limit}
-use Rattle.l4_model.specs.Machine.{What, CancelSend, CancelReceive, CancelBoth, Delete, most_processors}
+use Rattle.l4_model.specs.Machine.{OrderKind, CancelSend, CancelReceive, CancelBoth, Delete, most_processors}
 use Rattle.l4_model.specs.Steps.{Step, Local, Begin, Queue, Deliver, Wait, SendTimeout, ReceiveTimeout, SendNobody, ReceiveNobody, SendCancel, ReceiveCancel, Drop, Order, Obey, Tick, Retarget}
 pub use Rattle.l4_words.specs.Lines.{line_of_words}
 pub use Rattle.l4_words.specs.Names.{is_name, name_word}
 pub use Rattle.l4_words.specs.Numbers.{hexadecimal, is_word}
 pub use Rattle.l4_words.specs.Threads.{thread_word}
 
-abbrev pub what_word : What → List ℕ
-what_word CancelSend = codes "S"
-what_word CancelReceive = codes "R"
-what_word CancelBoth = codes "SR"
-what_word Delete = codes "delete"
+abbrev pub order_kind_word : OrderKind → List ℕ
+order_kind_word CancelSend = codes "S"
+order_kind_word CancelReceive = codes "R"
+order_kind_word CancelBoth = codes "SR"
+order_kind_word Delete = codes "delete"
 
 -- The words of the line of a step.
 abbrev pub words_of : Step → List (List ℕ)
@@ -33,7 +33,7 @@ words_of (SendCancel s) = codes "scancel" ∷ name_word s ∷ []
 words_of (ReceiveCancel t) = codes "rcancel" ∷ thread_word t ∷ []
 words_of (Drop s) = codes "drop" ∷ name_word s ∷ []
 words_of (Order caller target what) =
-    codes "order" ∷ thread_word caller ∷ thread_word target ∷ what_word what ∷ []
+    codes "order" ∷ thread_word caller ∷ thread_word target ∷ order_kind_word what ∷ []
 words_of (Obey caller) = codes "obey" ∷ thread_word caller ∷ []
 words_of (Tick cpu clock) = codes "tick" ∷ decimal cpu ∷ decimal clock ∷ []
 words_of (Retarget s) = codes "retarget" ∷ name_word s ∷ []

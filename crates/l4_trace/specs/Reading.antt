@@ -5,7 +5,7 @@ use Rattle.std.specs.List.{list_all}
 use Rattle.std.specs.Str.{bytes_eq}
 use Rattle.l4_model.specs.Words.{GlobalId, clock_limit, last_register}
 use Rattle.l4_model.specs.World.{Name}
-use Rattle.l4_model.specs.Machine.{What, CancelSend, CancelReceive, CancelBoth, Delete, most_processors}
+use Rattle.l4_model.specs.Machine.{OrderKind, CancelSend, CancelReceive, CancelBoth, Delete, most_processors}
 use Rattle.l4_model.specs.Steps.{Step, Local, Begin, Queue, Deliver, Wait, SendTimeout, ReceiveTimeout, SendNobody, ReceiveNobody, SendCancel, ReceiveCancel, Drop, Order, Obey, Tick, Retarget}
 use Rattle.l4_model.specs.Conditions.{◌>>=◌, ◌>>◌}
 use Rattle.l4_trace.specs.declared.fault.TraceFault.{TraceFault}
@@ -47,8 +47,8 @@ delivery_of operands = do
   message ← message_words [] words.5
   delivered name receiver shown actual tag message
 
-abbrev pub what_of_word : List ℕ → Option What
-what_of_word word =
+abbrev pub order_kind_of_word : List ℕ → Option OrderKind
+order_kind_of_word word =
     if bytes_eq word (codes "S") then Some CancelSend
     else (if bytes_eq word (codes "R") then Some CancelReceive
     else (if bytes_eq word (codes "SR") then Some CancelBoth
@@ -61,7 +61,7 @@ order_of operands = do
   words ← three operands
   caller ← thread_of words.0
   target ← thread_of words.1
-  what ← what_of_word words.2
+  what ← order_kind_of_word words.2
   Some (Order caller target what)
 
 -- `P N`

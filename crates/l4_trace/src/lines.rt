@@ -3,15 +3,15 @@ ghost use Rattle.std.specs.Prelude.{◌≡◌, ◌≤◌, ◌+◌, ◌*◌, true
 ghost use Rattle.std.specs.List.{list_all};
 ghost use Rattle.l4_model.specs.Words.{is_global};
 ghost use Rattle.l4_model.specs.Steps.{Step as ModelStep, Tick as ModelTick};
-ghost use Rattle.l4_types.specs.StepView.{delivered, seen, step_of, what_of};
-ghost use Rattle.l4_trace.specs.Lines.{thread_word, name_word, what_word, line_of, line_of_words, trace_of, is_name, has_line};
+ghost use Rattle.l4_types.specs.StepView.{delivered, seen, step_of, order_kind_of};
+ghost use Rattle.l4_trace.specs.Lines.{thread_word, name_word, order_kind_word, line_of, line_of_words, trace_of, is_name, has_line};
 
 use crate::keywords::{DELIVER, by_keyword};
 use l4_types::errors::NoMemory;
 use l4_types::ids::GlobalId;
 use l4_types::messages::MOST_WORDS;
 use l4_types::step_ref::{DeliveryRef, StepRef};
-use l4_types::steps::{Name, Step, Tick, What};
+use l4_types::steps::{Name, OrderKind, Step, Tick};
 use l4_words::digits::{write_byte, write_bytes};
 use l4_words::pieces::{
     WORD_BYTES, write_name, write_number, write_thread, write_word, write_words,
@@ -138,7 +138,7 @@ fn write_order(
     keyword: &[u8],
     caller: GlobalId,
     target: GlobalId,
-    what: What,
+    what: OrderKind,
     line: &mut [u8],
 ) -> usize
     requires short { length keyword.now ≤ KEYWORD_BYTES }
@@ -146,7 +146,7 @@ fn write_order(
     ensures within { result ≤ length line.new }
     ensures written { drop result line.new ≡
         line_of_words (keyword.now ∷ thread_word caller ∷ thread_word target ∷
-        what_word (what_of what) ∷ []) }
+        order_kind_word (order_kind_of what) ∷ []) }
     ensures caller { is_global caller ≡ true }
     ensures target { is_global target ≡ true }
 {
@@ -172,15 +172,15 @@ fn write_tick(keyword: &[u8], tick: Tick, line: &mut [u8]) -> usize
     write_bytes(keyword, line, cpu)
 }
 
-fn spelled(what: What) -> &'static [u8]
-    ensures word { result.now ≡ what_word (what_of what) }
+fn spelled(what: OrderKind) -> &'static [u8]
+    ensures word { result.now ≡ order_kind_word (order_kind_of what) }
     ensures short { length result.now ≤ KEYWORD_BYTES }
 {
     match what {
-        What::CancelSend => b"S",
-        What::CancelReceive => b"R",
-        What::CancelBoth => b"SR",
-        What::Delete => b"delete",
+        OrderKind::CancelSend => b"S",
+        OrderKind::CancelReceive => b"R",
+        OrderKind::CancelBoth => b"SR",
+        OrderKind::Delete => b"delete",
     }
 }
 

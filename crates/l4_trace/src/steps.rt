@@ -3,20 +3,19 @@ ghost use Rattle.std.specs.Prelude.{◌≡◌, ◌<◌, [], false, codes, length
 ghost use Rattle.std.specs.Option.{option_map};
 ghost use Rattle.std.specs.Str.{bytes_eq};
 ghost use Rattle.l4_model.specs.Words.{register_count};
-ghost use Rattle.l4_model.specs.Steps.{Order as ModelOrder, Tick as ModelTick};
-ghost use Rattle.l4_types.specs.StepView.{seen, delivered as seen_delivery, what_of};
-ghost use Rattle.l4_words.specs.Words.{Finds};
-ghost use Rattle.l4_trace.specs.Reading.{message_words, delivered, delivery_of, what_of_word, order_of, tick_of, of_thread, of_name, step_behind, step_of_line};
+ghost use Rattle.l4_model.specs.Steps.{Local, Begin, Queue, Wait, SendTimeout, ReceiveTimeout, SendNobody, ReceiveNobody, SendCancel, ReceiveCancel, Drop, Obey, Retarget};
+ghost use Rattle.l4_types.specs.StepView.{seen, delivered as seen_delivery, order_kind_of};
+ghost use Rattle.l4_words.specs.Words.{Finds, words_in, words_behind};
+ghost use Rattle.l4_trace.specs.Reading.{message_words, delivered, delivery_of, order_kind_of_word, order_of, tick_of, of_thread, of_name, step_behind, step_of_line};
 
 use crate::keywords::{DELIVER, by_keyword};
 use crate::reader::ReadWords;
 use l4_types::ids::GlobalId;
 use l4_types::message_ref::MessageRef;
 use l4_types::step_ref::{DeliveryRef, StepRef};
-use l4_types::steps::{Name, Step, Tick, What};
+use l4_types::steps::{Name, OrderKind, Step, Tick};
 use l4_types::tags::MsgTag;
-use l4_words::names::name;
-use l4_words::numbers::{decimal, hexadecimal};
+use l4_words::numbers::decimal;
 use l4_words::threads::thread;
 use l4_words::words::Words;
 
@@ -42,17 +41,17 @@ fn read_words(mut spelled: Words<'_>, words: &mut ReadWords) -> Option<()>
     Some(())
 }
 
-fn what(word: &[u8]) -> Option<What>
-    ensures { option_map what_of result ≡ what_of_word word.now }
+fn what(word: &[u8]) -> Option<OrderKind>
+    ensures { option_map order_kind_of result ≡ order_kind_of_word word.now }
 {
     if word == CANCEL_SEND {
-        Some(What::CancelSend)
+        Some(OrderKind::CancelSend)
     } else if word == CANCEL_RECEIVE {
-        Some(What::CancelReceive)
+        Some(OrderKind::CancelReceive)
     } else if word == CANCEL_BOTH {
-        Some(What::CancelBoth)
+        Some(OrderKind::CancelBoth)
     } else if word == DELETE {
-        Some(What::Delete)
+        Some(OrderKind::Delete)
     } else {
         None
     }
@@ -60,42 +59,132 @@ fn what(word: &[u8]) -> Option<What>
 
 /// The operands of `order`.
 #[tactic(auto, unfolding(crate::specs::Reading::order_of))]
-fn order(operands: Words<'_>) -> Option<(GlobalId, GlobalId, What)>
-    ensures { Finds (λ order. ModelOrder order.0 order.1 (what_of order.2)) result
-        (order_of operands.entry) }
+fn read_order<'w>(operands: Words<'_>) -> Option<StepRef<'w>>
+    ensures { Finds seen result (order_of operands.entry) }
 {
     let (first, second, third) = operands.three()?;
     let caller = thread(first)?;
     let target = thread(second)?;
     let what = what(third)?;
-    Some((caller, target, what))
+    Some(Step::Order {
+        caller,
+        target,
+        what,
+    })
 }
 
 /// The operands of `tick`.
 #[tactic(auto, unfolding(crate::specs::Reading::tick_of))]
-fn tick(operands: Words<'_>) -> Option<Tick>
-    ensures { Finds (λ tick. ModelTick tick.cpu tick.clock) result (tick_of operands.entry) }
+fn read_tick<'w>(operands: Words<'_>) -> Option<StepRef<'w>>
+    ensures { Finds seen result (tick_of operands.entry) }
 {
     let (first, second) = operands.two()?;
     let cpu = decimal(first)?;
     let clock = decimal(second)?;
-    Tick::new(u8::try_from(cpu).ok()?, clock)
+    Some(Step::Tick(Tick::new(u8::try_from(cpu).ok()?, clock)?))
 }
 
 /// The thread that is the only operand.
-#[tactic(auto, unfolding(crate::specs::Reading::of_thread))]
-fn of_thread(operands: Words<'_>) -> Option<GlobalId>
+#[tactic(auto, using(crate::proofs::Operands::no_thread, crate::proofs::Operands::only_thread, crate::proofs::Operands::more_threads))]
+fn of_thread(mut operands: Words<'_>) -> Option<GlobalId>
     ensures { result ≡ of_thread operands.entry }
 {
-    thread(operands.one()?)
+    let thread = operands.next_thread()?;
+    if operands.is_done() {
+        Some(thread)
+    } else {
+        None
+    }
 }
 
 /// The name that is the only operand.
-#[tactic(auto, unfolding(crate::specs::Reading::of_name))]
-fn of_name(operands: Words<'_>) -> Option<Name>
+#[tactic(auto, using(crate::proofs::Operands::no_name, crate::proofs::Operands::only_name, crate::proofs::Operands::more_names))]
+fn of_name(mut operands: Words<'_>) -> Option<Name>
     ensures { result ≡ of_name operands.entry }
 {
-    name(operands.one()?)
+    let name = operands.next_name()?;
+    if operands.is_done() { Some(name) } else { None }
+}
+
+// The steps of one operand. Each has a function of its own, since a function pays at its entry for
+// each step that it may make.
+
+fn read_local<'w>(operands: Words<'_>) -> Option<StepRef<'w>>
+    ensures { Finds seen result (option_map Local (of_thread operands.entry)) }
+{
+    Some(Step::Local(of_thread(operands)?))
+}
+
+fn read_begin<'w>(operands: Words<'_>) -> Option<StepRef<'w>>
+    ensures { Finds seen result (option_map Begin (of_name operands.entry)) }
+{
+    Some(Step::Begin(of_name(operands)?))
+}
+
+fn read_queue<'w>(operands: Words<'_>) -> Option<StepRef<'w>>
+    ensures { Finds seen result (option_map Queue (of_name operands.entry)) }
+{
+    Some(Step::Queue(of_name(operands)?))
+}
+
+fn read_wait<'w>(operands: Words<'_>) -> Option<StepRef<'w>>
+    ensures { Finds seen result (option_map Wait (of_thread operands.entry)) }
+{
+    Some(Step::Wait(of_thread(operands)?))
+}
+
+fn read_stimeout<'w>(operands: Words<'_>) -> Option<StepRef<'w>>
+    ensures { Finds seen result (option_map SendTimeout (of_name operands.entry)) }
+{
+    Some(Step::SendTimeout(of_name(operands)?))
+}
+
+fn read_rtimeout<'w>(operands: Words<'_>) -> Option<StepRef<'w>>
+    ensures { Finds seen result (option_map ReceiveTimeout (of_thread operands.entry)) }
+{
+    Some(Step::ReceiveTimeout(of_thread(operands)?))
+}
+
+fn read_snobody<'w>(operands: Words<'_>) -> Option<StepRef<'w>>
+    ensures { Finds seen result (option_map SendNobody (of_name operands.entry)) }
+{
+    Some(Step::SendNobody(of_name(operands)?))
+}
+
+fn read_rnobody<'w>(operands: Words<'_>) -> Option<StepRef<'w>>
+    ensures { Finds seen result (option_map ReceiveNobody (of_thread operands.entry)) }
+{
+    Some(Step::ReceiveNobody(of_thread(operands)?))
+}
+
+fn read_scancel<'w>(operands: Words<'_>) -> Option<StepRef<'w>>
+    ensures { Finds seen result (option_map SendCancel (of_name operands.entry)) }
+{
+    Some(Step::SendCancel(of_name(operands)?))
+}
+
+fn read_rcancel<'w>(operands: Words<'_>) -> Option<StepRef<'w>>
+    ensures { Finds seen result (option_map ReceiveCancel (of_thread operands.entry)) }
+{
+    Some(Step::ReceiveCancel(of_thread(operands)?))
+}
+
+fn read_drop<'w>(operands: Words<'_>) -> Option<StepRef<'w>>
+    ensures { Finds seen result (option_map Drop (of_name operands.entry)) }
+{
+    Some(Step::Drop(of_name(operands)?))
+}
+
+fn read_obey<'w>(operands: Words<'_>) -> Option<StepRef<'w>>
+    ensures { Finds seen result (option_map Obey (of_thread operands.entry)) }
+{
+    Some(Step::Obey(of_thread(operands)?))
+}
+
+fn read_retarget<'w>(operands: Words<'_>) -> Option<StepRef<'w>>
+    ensures { Finds seen result (option_map Retarget (of_name operands.entry)) }
+{
+    Some(Step::Retarget(of_name(operands)?))
 }
 
 /// The delivery of these parts. None if its received tag would not be this word.
@@ -126,65 +215,53 @@ fn delivered(
 }
 
 /// The operands of `deliver`.
-#[tactic(auto, unfolding(crate::specs::Reading::delivery_of))]
-fn delivery<'w>(operands: Words<'_>, words: &'w mut ReadWords) -> Option<DeliveryRef<'w>>
+#[tactic(auto, using(crate::proofs::Operands::delivery_by_parts))]
+fn delivery<'w>(mut operands: Words<'_>, words: &'w mut ReadWords) -> Option<DeliveryRef<'w>>
     ensures { Finds seen_delivery result (delivery_of operands.entry) }
 {
-    let (first, second, third, fourth, fifth, others) = operands.first_five()?;
-    let name = name(first)?;
-    let receiver = thread(second)?;
-    let shown = thread(third)?;
-    let actual = thread(fourth)?;
-    let tag = hexadecimal(fifth)?;
-    read_words(others, words)?;
+    let name = operands.next_name()?;
+    let receiver = operands.next_thread()?;
+    let shown = operands.next_thread()?;
+    let actual = operands.next_thread()?;
+    let tag = operands.next_hexadecimal()?;
+    read_words(operands, words)?;
     delivered(name, receiver, shown, actual, tag, words.as_slice())
 }
 
-// The step of a keyword and its operands, by the row of the keyword.
+fn read_delivery<'w>(operands: Words<'_>, words: &'w mut ReadWords) -> Option<StepRef<'w>>
+    ensures { Finds seen result (delivery_of operands.entry) }
+{
+    Some(Step::Deliver(delivery(operands, words)?))
+}
+
+// The step of a line, by the row of its keyword.
 macro_rules! read_rows {
     (
-        ($word:ident, $operands:ident)
+        ($line:ident)
         $($keyword:literal => $variant:ident $fields:tt, $read:ident,
             $write:ident($($operand:ident),*);)*
     ) => {{
-        $(if $word == $keyword.as_slice() {
-            let ($($operand),*) = $read($operands)?;
-            return Some(Step::$variant $fields);
+        $(if let Some(operands) = Words::behind($keyword, $line) {
+            return $read(operands);
         })*
         None
     }};
 }
 
-/// The step of a line that begins with this word, except a delivery.
-#[tactic(auto, unfolding(crate::specs::Reading::step_behind))]
-fn other_step<'w>(word: &[u8], operands: Words<'_>) -> Option<StepRef<'w>>
-    requires { bytes_eq word.now (codes "deliver") ≡ false }
-    ensures { Finds seen result (step_behind word.now operands.entry) }
+/// The step that a line without its end spells, except a delivery.
+fn other_step<'w>(line: &[u8]) -> Option<StepRef<'w>>
+    requires { words_behind (codes "deliver") (words_in line.now) ≡ None }
+    ensures { Finds seen result (step_of_line line.now) }
 {
-    by_keyword!(read_rows(word, operands))
-}
-
-/// The step of a line that begins with this word.
-#[tactic(auto, unfolding(crate::specs::Reading::step_behind))]
-fn step_behind<'w>(
-    word: &[u8],
-    operands: Words<'_>,
-    words: &'w mut ReadWords,
-) -> Option<StepRef<'w>>
-    ensures { Finds seen result (step_behind word.now operands.entry) }
-{
-    if word == DELIVER {
-        return Some(Step::Deliver(delivery(operands, words)?));
-    }
-    other_step(word, operands)
+    by_keyword!(read_rows(line))
 }
 
 /// The step that a line without its end spells. The words of its message replace those in `words`.
-#[tactic(auto, unfolding(crate::specs::Reading::step_of_line))]
 pub(crate) fn step_of_line<'w>(line: &[u8], words: &'w mut ReadWords) -> Option<StepRef<'w>>
     ensures { Finds seen result (step_of_line line.now) }
 {
-    let mut operands = Words::of(line);
-    let word = operands.next()?;
-    step_behind(word, operands, words)
+    if let Some(operands) = Words::behind(DELIVER, line) {
+        return read_delivery(operands, words);
+    }
+    other_step(line)
 }

@@ -9,7 +9,7 @@ use Rattle.l4_types.specs.declared.letters.Content.{Content}
 use Rattle.l4_types.specs.declared.letters.Content.TheVariants.{Send, Done, Withdraw, Gone, Order, OrderDone, Retarget}
 use Rattle.l4_types.specs.declared.letters.Letter.{Letter}
 use Rattle.l4_types.specs.OwedView.{owed_of}
-use Rattle.l4_types.specs.StepView.{what_of}
+use Rattle.l4_types.specs.StepView.{order_kind_of}
 use Rattle.l4_core_model.specs.Letters as letters
 
 abbrev pub refusal_of_send : Refusal → letters.Refusal
@@ -34,7 +34,7 @@ content_of (Done name decision) = letters.DoneLetter name (decision_of decision)
 content_of (Withdraw name receiver cause) = letters.WithdrawLetter name receiver
     (cause_of_withdrawal cause)
 content_of (Gone id) = letters.GoneLetter id
-content_of (Order caller target what) = letters.OrderLetter caller target (what_of what)
+content_of (Order caller target what) = letters.OrderLetter caller target (order_kind_of what)
 content_of (OrderDone caller) = letters.OrderDoneLetter caller
 content_of (Retarget o) = letters.RetargetLetter (owed_of o)
 

@@ -1,7 +1,7 @@
 -- A step of the program as a step of the machine.
 use Rattle.std.specs.Prelude.{◌≡◌, Option, Some, None}
-use Rattle.l4_types.specs.declared.steps.What.{What}
-use Rattle.l4_types.specs.declared.steps.What.TheVariants.{CancelSend, CancelReceive, CancelBoth, Delete}
+use Rattle.l4_types.specs.declared.steps.OrderKind.{OrderKind}
+use Rattle.l4_types.specs.declared.steps.OrderKind.TheVariants.{CancelSend, CancelReceive, CancelBoth, Delete}
 use Rattle.l4_types.specs.declared.steps.Delivery.{Delivery}
 use Rattle.l4_types.specs.declared.step_ref.DeliveryRef.{DeliveryRef}
 use Rattle.l4_types.specs.declared.steps.Step.{Step}
@@ -10,11 +10,11 @@ use Rattle.l4_model.specs.Machine as machine
 use Rattle.l4_model.specs.Steps as steps
 use Rattle.l4_model.specs.Rules.{received_tag}
 
-abbrev pub what_of : What → machine.What
-what_of CancelSend = machine.CancelSend
-what_of CancelReceive = machine.CancelReceive
-what_of CancelBoth = machine.CancelBoth
-what_of Delete = machine.Delete
+abbrev pub order_kind_of : OrderKind → machine.OrderKind
+order_kind_of CancelSend = machine.CancelSend
+order_kind_of CancelReceive = machine.CancelReceive
+order_kind_of CancelBoth = machine.CancelBoth
+order_kind_of Delete = machine.Delete
 
 -- A step of the machine, where it is known how deliveries are seen.
 abbrev pub step_by : {D : Type 0} → (D → steps.Step) → Step D → steps.Step
@@ -30,7 +30,7 @@ step_by delivery (ReceiveNobody t) = steps.ReceiveNobody t
 step_by delivery (SendCancel s) = steps.SendCancel s
 step_by delivery (ReceiveCancel t) = steps.ReceiveCancel t
 step_by delivery (Drop s) = steps.Drop s
-step_by delivery (Order caller target what) = steps.Order caller target (what_of what)
+step_by delivery (Order caller target what) = steps.Order caller target (order_kind_of what)
 step_by delivery (Obey t) = steps.Obey t
 step_by delivery (Tick t) = steps.Tick t.cpu t.clock
 step_by delivery (Retarget s) = steps.Retarget s

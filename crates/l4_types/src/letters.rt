@@ -2,7 +2,7 @@
 use crate::ids::GlobalId;
 use crate::messages::Message;
 use crate::owed::Owed;
-use crate::steps::{Name, What};
+use crate::steps::{Name, OrderKind};
 
 /// How a send is decided without a delivery.
 #[derive(Clone, Copy, PartialEq, Eq, Debug)]
@@ -77,7 +77,7 @@ pub enum Content {
         /// The thread to cancel or delete.
         target: GlobalId,
         /// What is to be done.
-        what: What,
+        what: OrderKind,
     },
     /// The order of this caller was done.
     OrderDone(GlobalId),

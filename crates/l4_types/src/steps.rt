@@ -68,7 +68,7 @@ impl Name {
 /// What an order asks for: a cancellation, by the bits S and R of ExchangeRegisters, or a deletion
 /// (manual: ExchangeRegisters, ThreadControl).
 #[derive(Clone, Copy, PartialEq, Eq, Debug)]
-pub enum What {
+pub enum OrderKind {
     /// Bit S: the send phase is cancelled.
     CancelSend,
     /// Bit R: the receive phase is cancelled, also one that follows the current send phase.
@@ -193,7 +193,7 @@ pub enum Step<D = Delivery> {
         /// The thread to cancel or delete.
         target: GlobalId,
         /// What is to be done.
-        what: What,
+        what: OrderKind,
     },
     /// The order of this caller was done.
     Obey(GlobalId),

@@ -14,7 +14,7 @@ use Rattle.l4_waits.specs.Circles.{next_at, way_back, circle_at, Leads, IsCircle
 abbrev AreAbove : ℕ → List ℕ → Type 0
 AreAbove first others = AllByRecursion (λ i. first < i) others
 
--- What is found leads back.
+-- A way that is found leads back.
 found_leads : (nexts : List (Option ℕ)) (first left from : ℕ) (others : List ℕ) (at : Option ℕ) → next_at nexts from ≡ at → way_back nexts first left at ≡ Some others →
     Leads nexts others from first × AreAbove first others
 found_leads nexts first zero from others at here found = cc
@@ -34,7 +34,7 @@ found_leads nexts first (suc left) from others (Some i) here found =
         let on = further is behind in
         subst (λ is. Leads nexts is from first × AreAbove first is) (some_is (i ∷ is) others found) ((here, on.0), (grind (arith, nat_tests), on.1))
 
--- What leads back is found, in enough steps.
+-- A way that leads back is found, in enough steps.
 leads_found : (nexts : List (Option ℕ)) (first : ℕ) (others : List ℕ) (left from : ℕ) (at : Option ℕ) → next_at nexts from ≡ at → Leads nexts others from first → AreAbove first others → length others < left →
     way_back nexts first left at ≡ Some others
 leads_found nexts first [] zero from at here leads above lt = absurd (omega (arith, lt))
@@ -76,7 +76,7 @@ one_way nexts first (x ∷ xs) (y ∷ ys) from a b up vp =
     let rest : Leads nexts ys x first = subst (λ z. Leads nexts ys z first) (sym e) b.1 in
     ap (λ z. z ∷ xs) e ∙ ap (λ zs. y ∷ zs) (one_way nexts first xs ys x a.1 rest up.1 vp.1)
 
--- Where a place comes again, a shorter way leads back from it.
+-- Where a place comes twice, a shorter way leads back from it.
 record Shorter (nexts : List (Option ℕ)) (first i : ℕ) (xs : List ℕ) : Type 0 where
   along : List ℕ
   leads : Leads nexts along i first

@@ -1,4 +1,4 @@
--- A still world leads to still worlds alone.
+-- Only still worlds follow a still world.
 use Rattle.std.proofs.Common.{◌≡◌, Bool, true, false, Option, Some, None, List, [], ◌∷◌, refl, ap, ◌∙◌, subst}
 use Rattle.l4_model.specs.Machine.{Machine}
 use Rattle.l4_model.specs.World.{World}
@@ -12,7 +12,7 @@ some_is_not_none : {A : Type 0} (o : Option A) (x : A) → o ≡ Some x → o �
 some_is_not_none None x e h = cc
 some_is_not_none (Some y) x e h = cc
 
--- What is possible there is a tick.
+-- A step that is possible there is a tick.
 only_ticks : (m : Machine) (w u : World) (step : Step) → IsStill m w → next m w step ≡ Some u → is_tick step ≡ true
 only_ticks m w u step still is = by (is_tick step) refl
   where

@@ -27,7 +27,7 @@ all_from : (p : Step → Bool) (xs : List Step) → ((i : ℕ) (x : Step) → sl
 all_from p [] h = refl
 all_from p (x ∷ xs) h = and_from (p x) (list_all p xs) (h 0 x refl) (all_from p xs (λ i. h (suc i)))
 
--- A tick is nobody's.
+-- No thread goes on by a tick.
 no_tick : (id : GlobalId) (step : Step) → is_of id step ≡ true → is_tick step ≡ false
 no_tick id (Tick cpu clock) h = cc
 no_tick id _ h = refl

@@ -9,9 +9,9 @@ use Rattle.l4_types.specs.Ids.{global_of}
 use Rattle.l4_audit.specs.declared.waits.Wait.{Wait}
 use Rattle.l4_audit.specs.declared.waits.Wait.TheVariants.{Send, Arrival, Receive}
 
--- The one thread that it waits for: the destination of its send, or whom its receive phase is
--- closed for. An open receive waits for no one thread, and a send that its destination accepts now
--- waits for its turn alone.
+-- The one thread that a waiting thread waits for: the destination of its send, or the thread that
+-- its receive phase is closed for. None for an open receive, and for a send that its destination
+-- accepts now.
 abbrev pub partner : Wait → Option GlobalId
 partner (Send to) = global_of to
 partner (Arrival to) = None
@@ -21,7 +21,7 @@ partner (Receive from) = global_of from
 abbrev pub place_in : List (GlobalId × Wait) → GlobalId → Option ℕ
 place_in waits id = position (λ w. same_id w.0 id) waits
 
--- That of its partner. None where it has no partner, or one that does not wait.
+-- The place of its partner. None where it has no partner, or one that does not wait.
 abbrev pub next_of : List (GlobalId × Wait) → (GlobalId × Wait) → Option ℕ
 next_of waits w = partner w.1 >>= place_in waits
 
@@ -32,7 +32,7 @@ abbrev pub next_at : List (Option ℕ) → ℕ → Option ℕ
 next_at nexts i = slice_index_or nexts i None
 
 -- The places behind `first`, each the next of the one before it, until `first` comes again. None
--- where it does not come in so many, or where a place before it comes.
+-- where that takes more than so many, or where a place before `first` comes.
 
 abbrev pub goes_back : (first : ℕ) → (at : Option ℕ) → (ℕ → Option (List ℕ)) → Option (List ℕ)
 goes_back first None behind = None
@@ -51,15 +51,14 @@ circle_at nexts first =
     option_map (λ others. first ∷ others)
     (way_back nexts first (length nexts) (next_at nexts first))
 
--- What that is
+-- What a circle is
 
--- From one place along these to another, each waits for the next.
+-- Each of these places is the next of the one before it, from one place to another.
 abbrev pub Leads : List (Option ℕ) → (along : List ℕ) → (from to : ℕ) → Type 0
 Leads nexts [] from to = next_at nexts from ≡ Some to
 Leads nexts (i ∷ along) from to = (next_at nexts from ≡ Some i) × Leads nexts along i to
 
--- Each waits for the next, and the last for the first, which is the first of them in order of
--- declaration.
+-- Each thread waits for the next, and the last for the first. Of them the first was declared first.
 pub record IsCircle (nexts : List (Option ℕ)) (first : ℕ) (others : List ℕ) : Type 0 where
   pub leads_back : Leads nexts others first first
   pub earliest : AllByRecursion (λ i. first < i) others

@@ -11,8 +11,8 @@ use Rattle.l4_model.specs.History.{run}
 use Rattle.l4_model.specs.Still.{is_tick}
 use Rattle.l4_audit.specs.Possible.{has_number}
 
--- A step by which this thread goes on. What is asked for and not done yet, and what is owed, may
--- be of any thread, so it counts for each.
+-- A step by which this thread goes on. An undone order and an owed retarget may concern any thread,
+-- so their steps count for each.
 abbrev pub is_of : GlobalId → Step → Bool
 is_of id (Local t) = same_id t id
 is_of id (Begin s) = same_id s.thread id
@@ -31,18 +31,18 @@ is_of id (Obey caller) = true
 is_of id (Tick cpu clock) = false
 is_of id (Retarget s) = true
 
--- By no step that a trace can tell does it go on, here or after any ticks.
+-- By no step of a trace can the thread go on, now or after any ticks.
 abbrev pub IsStuck : Machine → World → GlobalId → Type 0
 IsStuck m w id =
     (ticks : List Step) (later : World) (step : Step) →
     AllByRecursion (λ tick. is_tick tick ≡ true) ticks → run m w ticks ≡ Some later →
     is_of id step ≡ true → has_number step ≡ true → next m later step ≡ None
 
--- None of these threads does.
+-- None of these threads can go on.
 abbrev pub IsDeadlock : Machine → World → List GlobalId → Type 0
 IsDeadlock m w ids = AllByRecursion (IsStuck m w) ids
 
--- A test of both: none of these steps, which are possible with late clocks, is one of them.
+-- A test for both: none of these steps, which are possible with late clocks, is one of the thread.
 abbrev pub is_stuck : List Step → GlobalId → Bool
 is_stuck steps id = list_all (λ step. not (is_of id step)) steps
 

@@ -25,7 +25,7 @@ id_word AnyLocalThread = codes "anylocal"
 id_word (LocalThread word) = codes "#" ++ hexadecimal word
 id_word (GlobalThread t) = thread_word t
 
--- Whom it sends to or receives from, and which of both.
+-- The id that a thread sends to or receives from, and which of the two.
 abbrev pub whom : Wait → Id
 whom (Send to) = to
 whom (Arrival to) = to
@@ -64,7 +64,7 @@ circle_lines waits steps nexts =
     flat_map (λ first. circle_line waits steps (circle_at nexts first))
     (range_with_len 0 (length nexts))
 
--- Who waits, and which circles there are, by these steps that are possible with late clocks.
+-- The lines for threads that wait and for circles, by the steps that are possible with late clocks.
 abbrev pub text_of : List (GlobalId × Wait) → List Step → List ℕ
 text_of waits steps = flat_map wait_line waits ++ circle_lines waits steps (nexts_of waits)
 

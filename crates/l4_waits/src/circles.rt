@@ -9,7 +9,7 @@ use l4_types::errors::NoMemory;
 use l4_types::ids::GlobalId;
 use std::alloc::Global;
 
-// The one thread that it waits for.
+// The one thread that a waiting thread waits for, if there is one.
 fn partner(wait: &Wait) -> Option<GlobalId>
     ensures { result ≡ partner wait.now }
 {
@@ -84,8 +84,8 @@ pub(crate) fn circle_at(
     Ok(None)
 }
 
-/// A circle is found exactly where there is one: each waits for the next, the last for the first,
-/// which is the first of them in order of declaration.
+/// A circle is found exactly where there is one: each thread waits for the next, and the last for
+/// the first. Of its threads the first was declared first.
 pub fn law_circles()
     ensures { (nexts : List (Option ℕ)) (first : ℕ) (others : List ℕ) →
         (circle_at nexts first ≡ Some (first ∷ others)) ↔ IsCircle nexts first others }

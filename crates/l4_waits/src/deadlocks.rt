@@ -13,7 +13,7 @@ ghost use Rattle.l4_waits.specs.Deadlocks.{is_of, is_stuck, are_stuck, IsDeadloc
 use l4_types::ids::GlobalId;
 use l4_types::steps::Step;
 
-// Whether a thread goes on by a step, or may.
+// Whether a thread goes on, or may go on, by this step.
 fn is_of(id: GlobalId, step: &Step) -> bool
     ensures { result ≡ is_of id (step_of step.now) }
 {
@@ -47,7 +47,7 @@ fn is_stuck(steps: &[Step], id: GlobalId) -> bool
     true
 }
 
-/// Whether none of these steps is one by which one of these threads goes on.
+/// Whether none of these threads goes on by any of these steps.
 pub(crate) fn are_stuck(steps: &[Step], ids: &[GlobalId]) -> bool
     ensures { result ≡ are_stuck (map step_of steps.now) ids.now }
 {
@@ -59,15 +59,15 @@ pub(crate) fn are_stuck(steps: &[Step], ids: &[GlobalId]) -> bool
     true
 }
 
-/// Threads are told to be stuck exactly where none of them can go on by any step that a trace can
-/// tell, here or after any ticks.
+/// Threads are told to be stuck exactly where none of them can go on by any step of a trace, now or
+/// after any ticks.
 pub fn law_deadlocks()
     ensures { (m : Machine) (h : List ModelStep) (w : World) → reached m h ≡ Some w →
         (ids : List ModelId) → (are_stuck (possible m (late w)) ids ≡ true) ↔ IsDeadlock m w ids }
 {}
 
-/// A still world, where no step but a tick is possible, now or after any ticks, leads to still
-/// worlds alone, whatever is done. So a deadlock there is for ever.
+/// In a still world no step but a tick is possible, now or after any ticks. Only still worlds
+/// follow it, whatever is done, so a deadlock there is for ever.
 pub fn law_still_worlds_stay_still()
     ensures { (m : Machine) (w later : World) (steps : List ModelStep) → IsStill m w →
         run m w steps ≡ Some later → IsStill m later }

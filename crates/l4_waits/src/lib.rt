@@ -1,12 +1,12 @@
-//! Who waits for whom in the world that an audit has come to, and where threads wait for each
-//! other in a circle.
+//! Who waits for whom in the world that an audit has come to, and which threads wait for each other
+//! in a circle.
 //!
 //! A thread waits while it has an undecided send, and while it is in a receive phase. Its partner
 //! is the send's destination, unless that accepts the send now, or the one thread that the receive
-//! phase is closed for. So each has one partner at most, and circles are found by following it. A
-//! circle is a *deadlock* where none of its threads can go on by any step, now or after any ticks,
-//! while no order is undone and no retarget owed. Others that still run may yet delete or cancel
-//! one of its threads, or send in the name of one.
+//! phase is closed for. So each thread has at most one partner, and circles are found by following
+//! it. A circle is a *deadlock* where none of its threads can go on by any step, now or after any
+//! ticks. Nor may an order be undone or a retarget owed. Other threads that still run may yet
+//! delete or cancel one of its threads, or send in the name of one.
 //!
 //! ```rust
 //! let mut lines = Vec::new(alloc);

@@ -23,9 +23,9 @@ use l4_types::steps::Step;
 use l4_words::spelling::{push_numbers, push_thread};
 use std::alloc::{AllocError, Global};
 
-/// Appends who waits for whom at the end of an audit: a line for each thread that waits, in order
-/// of declaration, then one for each circle, in order of its first thread. Where memory is refused,
-/// nothing is appended.
+/// Appends who waits for whom at the end of an audit. A line for each thread that waits comes in
+/// order of declaration. Then one for each circle comes in order of its first thread. If memory is
+/// refused, nothing is appended.
 pub fn write_waits(alloc: Global, auditor: Auditor<'_>, out: &mut Vec<u8>) -> Result<(), NoMemory>
     ensures ok { OnOk result (out.new.items ≡ out.old.items ++
         waits_text auditor.entry.at.machine auditor.entry.at.world) }

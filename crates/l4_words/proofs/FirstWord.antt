@@ -35,7 +35,7 @@ pub other_word : (line : List ℕ) → prefix_len (is_digit 16) line < length li
     (get_or line (prefix_len (is_digit 16) line) 0 ≡ 32 → ⊥) → first_hexadecimal (words_in line) ≡ None
 other_word line within other = no_first line (position (λ byte. byte == 32) line) refl within other
 
-has_word : (line : List ℕ) → (first : List ℕ) × (others : List (List ℕ)) × (words_in line ≡ first ∷ others)
+pub has_word : (line : List ℕ) → (first : List ℕ) × (others : List (List ℕ)) × (words_in line ≡ first ∷ others)
 has_word [] = ([], [], refl)
 has_word (byte ∷ line) = by_test (byte == 32) (has_word line)
   where

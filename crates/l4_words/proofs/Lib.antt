@@ -1,5 +1,7 @@
 pub mod Above
+mod Behind
 pub mod Dots
+mod Eights
 mod Faces
 mod Few
 mod FirstWord
@@ -7,6 +9,7 @@ pub mod Found
 pub mod Front
 pub mod Hashes
 pub mod Hexadecimal
+pub mod InFront
 pub mod Lengths
 pub mod Numerals
 pub mod Parts

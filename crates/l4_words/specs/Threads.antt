@@ -13,12 +13,16 @@ thread_word t = decimal t.number ++ codes "." ++ decimal t.version
 abbrev pub is_dot : ℕ → Bool
 is_dot byte = byte == 46
 
+abbrev pub thread_of_numbers : (number version : ℕ) → Option GlobalId
+thread_of_numbers number version = do
+  is_global (global_id number version)
+  Some (global_id number version)
+
 abbrev pub thread_between : (number version : List ℕ) → Option GlobalId
 thread_between first second = do
   number ← number_of 10 first
   version ← number_of 10 second
-  is_global (global_id number version)
-  Some (global_id number version)
+  thread_of_numbers number version
 
 unfoldable pub thread_of : List ℕ → Option GlobalId
 thread_of word = thread_between (before_first is_dot word) (after_first is_dot word)

@@ -1,6 +1,7 @@
 -- The words of a line.
-use Rattle.std.specs.Prelude.{ℕ, ◌≡◌, ◌==◌, Option, Some, None, List, [], ◌∷◌}
+use Rattle.std.specs.Prelude.{ℕ, ◌≡◌, ◌==◌, if◌then◌else◌, Option, Some, None, List, [], ◌∷◌}
 use Rattle.std.specs.List.{slice_split}
+use Rattle.std.specs.Str.{bytes_eq}
 use Rattle.l4_model.specs.Conditions.{◌>>=◌}
 use Rattle.l4_words.specs.Numbers.{number_of}
 
@@ -46,6 +47,20 @@ first_hexadecimal [] = None
 first_hexadecimal (word ∷ others) = do
   number ← number_of 16 word
   Some (number, others)
+
+-- The first word by what it spells, and the words behind it.
+abbrev pub first_as : {A : Type 0} → (List ℕ → Option A) → List (List ℕ) →
+    Option (A × List (List ℕ))
+first_as read [] = None
+first_as read (word ∷ others) = do
+  value ← read word
+  Some (value, others)
+
+-- The words behind the first one, where it is this one and others follow it.
+abbrev pub words_behind : (first : List ℕ) → List (List ℕ) → Option (List (List ℕ))
+words_behind first (word ∷ next ∷ others) = if bytes_eq word first then Some (next ∷ others)
+    else None
+words_behind first _ = None
 
 -- What was found, seen by a view, is what the definition gives.
 abbrev pub Finds : {X Y : Type 0} → (X → Y) → Option X → Option Y → Type 0

@@ -6,7 +6,7 @@ ghost use Rattle.l4_model.specs.Effects.{runs, fails, receives, decided, orders,
 ghost use Rattle.l4_core_model.specs.Local.{after_decision};
 ghost use Rattle.l4_types.specs.Codes.{code_of};
 ghost use Rattle.l4_types.specs.LetterView.{decision_of};
-ghost use Rattle.l4_types.specs.StepView.{what_of};
+ghost use Rattle.l4_types.specs.StepView.{order_kind_of};
 ghost use Rattle.l4_script.specs.Scripts.{instr_of};
 ghost use Rattle.l4_thread.specs.Requests.{is_end};
 ghost use Rattle.l4_audit.specs.Audited.{with_world};
@@ -14,12 +14,12 @@ ghost use Rattle.l4_audit.specs.Starting.{CanStart, starting};
 
 use crate::world::World;
 use l4_script::instructions::Instr;
-use l4_thread::orders::Asked;
+use l4_thread::orders::PendingOrder;
 use l4_types::errors::IpcError;
 use l4_types::ids::GlobalId;
 use l4_types::letters::Decision;
 use l4_types::step_ref::DeliveryRef;
-use l4_types::steps::{Tick, What};
+use l4_types::steps::{OrderKind, Tick};
 use tcb_arena::Waiting;
 
 impl World<'_> {
@@ -86,7 +86,7 @@ impl World<'_> {
     }
 
     /// Puts a thread into the ordering phase, with this order.
-    pub fn give_order(&mut self, place: usize, order: Asked)
+    pub fn give_order(&mut self, place: usize, order: PendingOrder)
         requires { place < length self.old.world.threads }
         ensures { self.new ≡ with_world self.old (change self.old.world place (orders order)) }
     {
@@ -94,10 +94,10 @@ impl World<'_> {
     }
 
     /// Cancels a phase of a thread, or deletes the thread.
-    pub fn ask(&mut self, place: usize, what: What)
+    pub fn ask(&mut self, place: usize, what: OrderKind)
         requires { place < length self.old.machine.threads }
         ensures { self.new ≡ with_world self.old
-            (change self.old.world place (asked (what_of what))) }
+            (change self.old.world place (asked (order_kind_of what))) }
     {
         self.threads[place].ask(what);
     }

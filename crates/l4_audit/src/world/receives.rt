@@ -3,7 +3,7 @@ ghost use Rattle.std.specs.Prelude.{◌≡◌, Some, IfOk};
 ghost use Rattle.std.specs.Result.{result_err};
 ghost use Rattle.l4_model.specs.Conditions.{found};
 ghost use Rattle.l4_model.specs.Steps.{ReceiveTimeout, ReceiveNobody, ReceiveCancel, Obey};
-ghost use Rattle.l4_types.specs.StepView.{what_of};
+ghost use Rattle.l4_types.specs.StepView.{order_kind_of};
 ghost use Rattle.l4_audit.specs.Audited.{IsAsked, IsPlaced};
 ghost use Rattle.l4_audit.specs.Reasons.{reason};
 ghost use Rattle.l4_audit.specs.Taking.{Judged};
@@ -13,7 +13,7 @@ use crate::reasons::{Reason, StepFault, need, test};
 use crate::world::World;
 use l4_types::errors::IpcError;
 use l4_types::ids::GlobalId;
-use l4_types::steps::What;
+use l4_types::steps::OrderKind;
 
 impl World<'_> {
     /// The thread whose receive phase may time out.
@@ -89,10 +89,10 @@ impl World<'_> {
     }
 
     /// The thread whose order may be done, the place of its target, and what is to be done.
-    pub fn may_obey(&self, caller: GlobalId) -> Result<(Found<'_>, usize, What), Reason>
+    pub fn may_obey(&self, caller: GlobalId) -> Result<(Found<'_>, usize, OrderKind), Reason>
         ensures thread { IfOk result
             (λ x. found self.now.machine self.now.world caller ≡ Some x.0) }
-        ensures order { IfOk result (λ x. IsAsked self.now.machine x.0 x.1 (what_of x.2)) }
+        ensures order { IfOk result (λ x. IsAsked self.now.machine x.0 x.1 (order_kind_of x.2)) }
         ensures reason { result_err result ≡ reason self.now.machine self.now.world (Obey caller) }
     {
         let thread = need(self.found(caller), Reason::Undeclared)?;

@@ -3,16 +3,16 @@ ghost use Rattle.std.specs.Prelude.{◌≡◌, ◌<◌, ◌+◌, ◌^◌, Some, 
 ghost use Rattle.std.specs.Result.{result_err};
 ghost use Rattle.l4_model.specs.Conditions.{found, act_of};
 ghost use Rattle.l4_model.specs.Steps.{Local, Begin, Wait, Order, Tick as Ticks, order_of};
-ghost use Rattle.l4_types.specs.StepView.{what_of};
+ghost use Rattle.l4_types.specs.StepView.{order_kind_of};
 ghost use Rattle.l4_audit.specs.Reasons.{reason};
 ghost use Rattle.l4_audit.specs.Taking.{Judged};
 
 use crate::found::Found;
 use crate::reasons::{Reason, StepFault, need, test};
 use crate::world::World;
-use l4_thread::orders::Asked;
+use l4_thread::orders::PendingOrder;
 use l4_types::ids::GlobalId;
-use l4_types::steps::{Name, Tick, What};
+use l4_types::steps::{Name, OrderKind, Tick};
 
 impl World<'_> {
     /// The thread that may run an instruction that concerns nobody else, or end.
@@ -89,13 +89,13 @@ impl World<'_> {
         &self,
         caller: GlobalId,
         target: GlobalId,
-        what: What,
-    ) -> Result<(Found<'_>, Asked), Reason>
+        what: OrderKind,
+    ) -> Result<(Found<'_>, PendingOrder), Reason>
         ensures thread { IfOk result
             (λ x. found self.now.machine self.now.world caller ≡ Some x.0) }
         ensures order { IfOk result (λ x. order_of (act_of self.now.machine x.0) ≡ Some x.1) }
         ensures reason { result_err result ≡
-            reason self.now.machine self.now.world (Order caller target (what_of what)) }
+            reason self.now.machine self.now.world (Order caller target (order_kind_of what)) }
     {
         let thread = need(self.found(caller), Reason::Undeclared)?;
         test(thread.is_ready(), Reason::NotReady(thread.state()))?;
@@ -108,8 +108,13 @@ impl World<'_> {
     }
 
     /// Gives the order of a thread: to cancel or delete another one.
-    pub fn order(&mut self, caller: GlobalId, target: GlobalId, what: What) -> Result<(), StepFault>
-        ensures { Judged self.old (Order caller target (what_of what)) result self.new }
+    pub fn order(
+        &mut self,
+        caller: GlobalId,
+        target: GlobalId,
+        what: OrderKind,
+    ) -> Result<(), StepFault>
+        ensures { Judged self.old (Order caller target (order_kind_of what)) result self.new }
     {
         let (thread, order) = self.may_order(caller, target, what)?;
         let place = thread.place();

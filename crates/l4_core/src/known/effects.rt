@@ -6,7 +6,7 @@ ghost use Rattle.l4_model.specs.Machine.{Delete as DeleteThread};
 ghost use Rattle.l4_model.specs.Conditions.{act_of, instruction};
 ghost use Rattle.l4_model.specs.Effects.{decided, receives};
 ghost use Rattle.l4_model.specs.Rules.{originator};
-ghost use Rattle.l4_types.specs.StepView.{what_of};
+ghost use Rattle.l4_types.specs.StepView.{order_kind_of};
 ghost use Rattle.l4_script.specs.Scripts.{instr_of};
 ghost use Rattle.l4_thread.specs.Changes.{change_of, may_advance};
 ghost use Rattle.l4_thread.specs.Requests.{is_end};
@@ -33,7 +33,7 @@ use l4_thread::phases::Began;
 use l4_thread::tcb::Tcb;
 use l4_types::ids::GlobalId;
 use l4_types::message_ref::MessageRef;
-use l4_types::steps::{Name, What};
+use l4_types::steps::{Name, OrderKind};
 use l4_types::tags::MsgTag;
 use tcb_arena::Waiting;
 
@@ -57,14 +57,14 @@ impl ProcessorState<'_> {
 
     /// Applies a change to a thread of this processor that stands in no list, and puts it into the
     /// lists of its new phase.
-    pub(crate) fn come_to(&mut self, place: usize, change: &Change)
+    pub(crate) fn apply_change(&mut self, place: usize, change: &Change)
         requires free { IsFree self.old place }
         requires fits { IsFitting change.now (thread self.old.local place) }
         ensures { self.new ≡ with_local self.old
             (comes_to place (change_of change.now self.old.local.clock) self.old.local) }
     {
         self.threads[place].change(change, self.clock);
-        self.settle(place);
+        self.enter_lists(place);
     }
 
     /// Gives a thread the message that another one sends, with this tag. Its words go from block to
@@ -78,7 +78,7 @@ impl ProcessorState<'_> {
             (thread self.old.local sender)) (word_of_tag tag)) self.old.local) }
     {
         pass_message(self.threads.as_mut_slice(), receiver, sender, tag);
-        self.settle(receiver);
+        self.enter_lists(receiver);
     }
 
     /// Begins the first phase of a thread's Ipc, if the Ipc has one.
@@ -100,7 +100,7 @@ impl ProcessorState<'_> {
         match self.start(place, instr) {
             Began::Nothing => Began::Nothing,
             began => {
-                self.settle(place);
+                self.enter_lists(place);
                 began
             }
         }
@@ -137,12 +137,12 @@ impl ProcessorState<'_> {
     }
 
     /// Cancels a phase of a thread of this processor, or deletes the thread.
-    pub(crate) fn ask(&mut self, place: usize, what: What)
+    pub(crate) fn ask(&mut self, place: usize, what: OrderKind)
         requires { IsOwnOf self.old place }
-        ensures { self.new ≡ with_local self.old (asks (what_of what) place self.old.local) }
+        ensures { self.new ≡ with_local self.old (asks (order_kind_of what) place self.old.local) }
     {
         match what {
-            What::Delete => self.delete(place),
+            OrderKind::Delete => self.delete(place),
             _ => self.threads[place].ask(what),
         }
     }
@@ -153,8 +153,8 @@ impl ProcessorState<'_> {
         ensures { self.new ≡ with_local self.old (asks DeleteThread place self.old.local) }
     {
         self.drop_ready(place);
-        self.threads[place].ask(What::Delete);
-        self.settle(place);
+        self.threads[place].ask(OrderKind::Delete);
+        self.enter_lists(place);
     }
 
     // Removes a thread from the ready list, if it stands there.

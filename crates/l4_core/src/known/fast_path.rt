@@ -103,6 +103,6 @@ impl ProcessorState<'_> {
             (period_of ipc.now.receive_period)) self.old.local.clock) self.old.local) }
     {
         self.threads[place].pass(ipc, self.clock);
-        self.settle(place);
+        self.enter_lists(place);
     }
 }

@@ -19,7 +19,7 @@ use l4_types::letters::{Cause, Content, Decision, Refusal};
 use l4_types::message_ref::MessageRef;
 use l4_types::messages::Message;
 use l4_types::owed::Owed;
-use l4_types::steps::{Name, What};
+use l4_types::steps::{Name, OrderKind};
 
 /// What a lawful letter asks for. Places are those of the threads. A message stays in its letter,
 /// since it is large.
@@ -47,7 +47,7 @@ pub(crate) enum Task<'a> {
         target: usize,
         from: usize,
         caller: GlobalId,
-        what: What,
+        what: OrderKind,
     },
     /// The order of this thread was done.
     FinishOrder(usize),
@@ -176,7 +176,12 @@ impl ProcessorState<'_> {
     }
 
     // What an order asks for.
-    fn obedience(&self, caller: GlobalId, target: GlobalId, what: What) -> Option<Task<'static>>
+    fn obedience(
+        &self,
+        caller: GlobalId,
+        target: GlobalId,
+        what: OrderKind,
+    ) -> Option<Task<'static>>
         ensures value { result ≡
             task_of self.now.machine self.now.cpu self.now.local (OrderContent caller target what) }
         ensures possible { IfSome result (λ task. IsTask task self.now) }

@@ -14,19 +14,19 @@ use l4_types::steps::{CLOCKS, Tick};
 impl Core<'_> {
     /// Advances the clock to this value, in ticks. Returns the stamp of the event.
     /// `Clock`: the value is not above the clock, or not below 2^62. `Stamp`: else, where the next
-    /// stamp would reach 2^62. Nothing is changed then. Condition: `told` has begun an event that
+    /// stamp would reach 2^62. Nothing is changed then. Condition: `buffer` has begun an event that
     /// has no step yet.
     pub fn advance_into<S: Sink>(
         &mut self,
         to: u64,
-        told: &mut EventBuffer<S>,
+        buffer: &mut EventBuffer<S>,
     ) -> Result<u64, Fault>
-        requires untold { IsOpen told.old }
+        requires untold { IsOpen buffer.old }
         ensures ok { IfOk result (λ stamp.
             IsEvent
             (advance self.old.machine self.old.cpu to self.old.local)
-            self.old self.new told.old told.new stamp) }
-        ensures err { OnErr result ((self.new ≡ self.old) × (told.new ≡ told.old)) }
+            self.old self.new buffer.old buffer.new stamp) }
+        ensures err { OnErr result ((self.new ≡ self.old) × (buffer.new ≡ buffer.old)) }
         ensures faults { IfErr result (λ fault. (fault ≡ Fault.Clock) ⊎ (fault ≡ Fault.Stamp)) }
         ensures clock { IsErrOf result Fault.Clock ↔
             (advance self.old.machine self.old.cpu to self.old.local ≡ None) }
@@ -42,7 +42,7 @@ impl Core<'_> {
         }
         let stamp = self.open(0);
         let tick = Tick::new(self.known.cpu(), to).unwrap();
-        told.emit(StepRef::Tick(tick));
+        buffer.emit(StepRef::Tick(tick));
         self.known.set_clock(to);
         Ok(stamp)
     }

@@ -9,7 +9,7 @@ ghost use Rattle.l4_model.specs.Effects.{decided, receives, turns};
 ghost use Rattle.l4_model.specs.Rules.{receive_phase};
 ghost use Rattle.l4_types.specs.OwedView.{owed_of};
 ghost use Rattle.l4_types.specs.PeriodView.{period_of};
-ghost use Rattle.l4_types.specs.StepView.{what_of};
+ghost use Rattle.l4_types.specs.StepView.{order_kind_of};
 ghost use Rattle.l4_script.specs.Scripts.{instr_of};
 ghost use Rattle.l4_thread.specs.Changes.{change_of};
 ghost use Rattle.l4_thread.specs.Requests.{is_end};
@@ -17,7 +17,7 @@ ghost use Rattle.l4_thread.specs.Ipcs.{began_of, passes};
 ghost use Rattle.l4_thread.specs.Messages.{outgoing};
 ghost use Rattle.l4_core_model.specs.Plain.{is_queued, queued, unqueued, popped, popped_due};
 ghost use Rattle.l4_core_model.specs.Plain.{due_block};
-ghost use Rattle.l4_core.specs.Settling.{settles};
+ghost use Rattle.l4_core.specs.PhaseLists.{enters_lists};
 ghost use Rattle.l4_core_model.specs.Local.{declared, thread, held, changes, comes_to};
 ghost use Rattle.l4_core_model.specs.Local.{keeps_beside, owed_beside, relists, is_gone_now};
 ghost use Rattle.l4_core_model.specs.Local.{is_own, stand_in, stands_in};
@@ -31,28 +31,28 @@ ghost use Rattle.l4_core.specs.Tasks.{IsForeign};
 ghost use Rattle.l4_core.specs.Turning.{begun_by, IsAtHand, IsFree, IsNotSplit, IsOwnOf};
 ghost use Rattle.l4_core.specs.Turning.{IsReceiver, IsSender};
 
-use crate::processor::{Core, note, note_all, note_duty, note_own, note_queued, note_zero};
+use crate::processor::{Core, insert_place, note_all, note_duty, note_own, note_queued, note_zero};
 use l4_script::instructions::{Instr, Ipc};
 use l4_thread::changes::Change;
 use l4_thread::phases::Began;
 use l4_types::ids::GlobalId;
 use l4_types::message_ref::MessageRef;
 use l4_types::owed::Owed;
-use l4_types::steps::{Name, What};
+use l4_types::steps::{Name, OrderKind};
 use l4_types::tags::MsgTag;
 use tcb_arena::Waiting;
 
 impl Core<'_> {
     /// Applies a change to a thread of this processor that stands in no list, and puts it into the
     /// lists of its new phase.
-    pub(super) fn come_to(&mut self, place: usize, change: &Change)
+    pub(super) fn apply_change(&mut self, place: usize, change: &Change)
         requires free { IsFree self.old place }
         requires fits { IsFitting change.now (thread self.old.local place) }
         ensures { self.new ≡ with_local self.old
             (comes_to place (change_of change.now self.old.local.clock) self.old.local) }
     {
         let _few = self.known.len();
-        self.known.come_to(place, change);
+        self.known.apply_change(place, change);
         note_duty(&self.known, &mut self.duties, &self.zeros, place);
     }
 
@@ -170,7 +170,7 @@ impl Core<'_> {
         requires { IsOwnOf self.old place }
         ensures { self.new ≡ with_local self.old (changes place forgets_order self.old.local) }
     {
-        note(&self.known, &mut self.duties, place);
+        insert_place(&self.known, &mut self.duties, place);
         self.known.forget_order(place);
     }
 
@@ -184,14 +184,14 @@ impl Core<'_> {
         self.known.note_gone(place);
     }
 
-    /// Settles a deleted thread again: it has no deadline.
-    pub(super) fn settle(&mut self, place: usize)
+    /// Puts a deleted thread into the lists of its phase: it has no deadline.
+    pub(super) fn enter_lists(&mut self, place: usize)
         requires own { IsOwnOf self.old place }
         requires unready { is_ready_in self.old.local.lists place ≡ false }
-        ensures { self.new ≡ with_local self.old (settles place self.old.local) }
+        ensures { self.new ≡ with_local self.old (enters_lists place self.old.local) }
     {
         let _few = self.known.len();
-        self.known.settle(place);
+        self.known.enter_lists(place);
     }
 
     /// Removes the first ready thread from the list.
@@ -213,13 +213,13 @@ impl Core<'_> {
 
     /// Cancels a phase of a thread of this processor, or deletes the thread. Threads whose receive
     /// phase names a deleted thread have a duty then.
-    pub(super) fn ask(&mut self, place: usize, what: What)
+    pub(super) fn ask(&mut self, place: usize, what: OrderKind)
         requires { IsOwnOf self.old place }
-        ensures { self.new ≡ with_local self.old (asks (what_of what) place self.old.local) }
+        ensures { self.new ≡ with_local self.old (asks (order_kind_of what) place self.old.local) }
     {
         match what {
-            What::Delete => note_all(&self.known, &mut self.duties),
-            _ => note(&self.known, &mut self.duties, place),
+            OrderKind::Delete => note_all(&self.known, &mut self.duties),
+            _ => insert_place(&self.known, &mut self.duties, place),
         }
         self.known.ask(place, what);
     }
@@ -231,7 +231,7 @@ impl Core<'_> {
         ensures { self.new ≡ with_local self.old
             (keeps_beside place (Some (owed_of owed)) self.old.local) }
     {
-        note(&self.known, &mut self.duties, place);
+        insert_place(&self.known, &mut self.duties, place);
         self.known.keep_owed(place, owed);
     }
 
@@ -241,7 +241,7 @@ impl Core<'_> {
         ensures owed { option_map owed_of result ≡ owed_beside self.old.local place }
         ensures state { self.new ≡ with_local self.old (keeps_beside place None self.old.local) }
     {
-        note(&self.known, &mut self.duties, place);
+        insert_place(&self.known, &mut self.duties, place);
         self.known.take_owed(place)
     }
 
@@ -264,7 +264,7 @@ impl Core<'_> {
         requires cpu { cpu < self.old.machine.cpus }
         ensures { self.new ≡ with_local self.old (has_told cpu place self.old.local) }
     {
-        note(&self.known, &mut self.duties, place);
+        insert_place(&self.known, &mut self.duties, place);
         self.known.note_told(place, cpu);
     }
 }

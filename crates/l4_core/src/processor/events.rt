@@ -21,66 +21,67 @@ use l4_types::step_ref::StepRef;
 
 impl Core<'_> {
     /// Does what a turn has chosen.
-    pub(super) fn carry_out<S: Sink>(&mut self, choice: &Choice, told: &mut EventBuffer<S>)
+    pub(super) fn carry_out<S: Sink>(&mut self, choice: &Choice, buffer: &mut EventBuffer<S>)
         requires possible { IsPossible choice.now self.old }
         requires count { (place : ℕ) → is_own self.old.machine self.old.cpu place ≡ true →
             (thread self.old.local place).context.begun < self.old.local.stamp }
-        requires room { 3 ≤ told.old.room }
-        requires slots { 2 ≤ told.old.slots }
+        requires room { 3 ≤ buffer.old.room }
+        requires slots { 2 ≤ buffer.old.slots }
         ensures { Does (does_choice self.old.machine self.old.cpu
-            (choice_of self.old.local.owed choice.now)) self.old self.new told.old told.new }
+            (choice_of self.old.local.owed choice.now)) self.old self.new buffer.old buffer.new }
     {
         match choice {
-            Choice::ByDuty(place, duty) => self.do_duty(*place, *duty, told),
-            Choice::ByDue(place) => self.do_due(*place, told),
-            Choice::ByReady(place) => self.do_ready(*place, told),
+            Choice::ByDuty(place, duty) => self.do_duty(*place, *duty, buffer),
+            Choice::ByDue(place) => self.do_due(*place, buffer),
+            Choice::ByReady(place) => self.do_ready(*place, buffer),
         }
     }
 
     // Runs the next instruction of the first ready thread.
-    fn do_ready<S: Sink>(&mut self, place: usize, told: &mut EventBuffer<S>)
+    fn do_ready<S: Sink>(&mut self, place: usize, buffer: &mut EventBuffer<S>)
         requires first { slice_get self.old.local.lists.ready 0 ≡ Some place }
         requires count { is_own self.old.machine self.old.cpu place ≡ true →
             (thread self.old.local place).context.begun < self.old.local.stamp }
-        requires room { 3 ≤ told.old.room }
-        requires slots { 2 ≤ told.old.slots }
+        requires room { 3 ≤ buffer.old.room }
+        requires slots { 2 ≤ buffer.old.slots }
         ensures { Does (does_choice self.old.machine self.old.cpu
-            (IsReady place)) self.old self.new told.old told.new }
+            (IsReady place)) self.old self.new buffer.old buffer.new }
     {
         let _few = self.known.len();
         self.pop_ready();
-        self.act(place, told);
+        self.act(place, buffer);
     }
 
     // Handles the deadline of a thread, which is due.
-    fn do_due<S: Sink>(&mut self, place: usize, told: &mut EventBuffer<S>)
+    fn do_due<S: Sink>(&mut self, place: usize, buffer: &mut EventBuffer<S>)
         requires due { due_block self.old.local.clock self.old.local.lists.armed ≡ Some place }
-        requires room { 3 ≤ told.old.room }
-        requires slots { 2 ≤ told.old.slots }
+        requires room { 3 ≤ buffer.old.room }
+        requires slots { 2 ≤ buffer.old.slots }
         ensures { Does (does_choice self.old.machine self.old.cpu
-            (IsDue place)) self.old self.new told.old told.new }
+            (IsDue place)) self.old self.new buffer.old buffer.new }
     {
         let _few = self.known.len();
         self.pop_due();
-        self.time_out(place, told);
+        self.time_out(place, buffer);
     }
 
     // Times out the phase of a thread.
-    fn time_out<S: Sink>(&mut self, place: usize, told: &mut EventBuffer<S>)
+    fn time_out<S: Sink>(&mut self, place: usize, buffer: &mut EventBuffer<S>)
         requires own { IsOwnOf self.old place }
-        requires room { 3 ≤ told.old.room }
-        requires slots { 2 ≤ told.old.slots }
+        requires room { 3 ≤ buffer.old.room }
+        requires slots { 2 ≤ buffer.old.slots }
         ensures { Does
-            (times_out self.old.machine self.old.cpu place) self.old self.new told.old told.new }
+            (times_out self.old.machine self.old.cpu place)
+            self.old self.new buffer.old buffer.new }
     {
         let _few = self.known.len();
         if self.known.receiving(place).is_some() {
             let step = StepRef::ReceiveTimeout(self.known.id(place));
-            self.fail_receive(place, step, IpcError::ReceiveTimeout, told);
+            self.fail_receive(place, step, IpcError::ReceiveTimeout, buffer);
         } else if self.known.is_queued(place) {
-            self.refuse(place, Refusal::TimedOut, told);
+            self.refuse(place, Refusal::TimedOut, buffer);
         } else {
-            self.withdraw(place, Cause::ByTimeout, told);
+            self.withdraw(place, Cause::ByTimeout, buffer);
         }
     }
 
@@ -90,57 +91,57 @@ impl Core<'_> {
         place: usize,
         step: StepRef<'_>,
         error: IpcError,
-        told: &mut EventBuffer<S>,
+        buffer: &mut EventBuffer<S>,
     )
         requires receiver { IsReceiver self.old place }
-        requires room { 0 < told.old.room }
+        requires room { 0 < buffer.old.room }
         ensures { Does (fails_with (seen step.entry)
-            (code_of error) place) self.old self.new told.old told.new }
+            (code_of error) place) self.old self.new buffer.old buffer.new }
     {
         let _few = self.known.len();
-        told.emit(step);
-        self.come_to(place, &Change::Fail(error));
+        buffer.emit(step);
+        self.apply_change(place, &Change::Fail(error));
     }
 
     // Does the duty of a thread.
-    fn do_duty<S: Sink>(&mut self, place: usize, duty: Duty, told: &mut EventBuffer<S>)
+    fn do_duty<S: Sink>(&mut self, place: usize, duty: Duty, buffer: &mut EventBuffer<S>)
         requires first { IsFirstDuty place
             (duty_of self.old.local.owed place duty) self.old.machine self.old.cpu self.old.local }
-        requires room { 3 ≤ told.old.room }
-        requires slots { 2 ≤ told.old.slots }
+        requires room { 3 ≤ buffer.old.room }
+        requires slots { 2 ≤ buffer.old.slots }
         ensures { Does (does_duty self.old.machine self.old.cpu place
-            (duty_of self.old.local.owed place duty)) self.old self.new told.old told.new }
+            (duty_of self.old.local.owed place duty)) self.old self.new buffer.old buffer.new }
     {
         let _few = self.known.len();
         match duty {
-            Duty::Retarget => self.retarget_owed(place, told),
-            Duty::DropOwn => self.refuse(place, Refusal::Dropped, told),
-            Duty::RefuseFirst(sender) => self.refuse(sender, Refusal::Nobody, told),
-            Duty::TellGone(cpu) => self.tell_gone(place, cpu, told),
-            Duty::CancelOwn => self.refuse(place, Refusal::Cancelled, told),
+            Duty::Retarget => self.retarget_owed(place, buffer),
+            Duty::DropOwn => self.refuse(place, Refusal::Dropped, buffer),
+            Duty::RefuseFirst(sender) => self.refuse(sender, Refusal::Nobody, buffer),
+            Duty::TellGone(cpu) => self.tell_gone(place, cpu, buffer),
+            Duty::CancelOwn => self.refuse(place, Refusal::Cancelled, buffer),
             Duty::CancelReceive => {
                 let step = StepRef::ReceiveCancel(self.known.id(place));
-                self.fail_receive(place, step, IpcError::ReceiveCancelled, told);
+                self.fail_receive(place, step, IpcError::ReceiveCancelled, buffer);
             }
-            Duty::DeliverFirst(sender) => self.deliver(place, sender, told),
+            Duty::DeliverFirst(sender) => self.deliver(place, sender, buffer),
             Duty::CloseReceive => {
                 let step = StepRef::ReceiveNobody(self.known.id(place));
-                self.fail_receive(place, step, IpcError::ReceiveNobody, told);
+                self.fail_receive(place, step, IpcError::ReceiveNobody, buffer);
             }
-            Duty::RefuseZero(sender) => self.refuse(sender, Refusal::TimedOut, told),
+            Duty::RefuseZero(sender) => self.refuse(sender, Refusal::TimedOut, buffer),
         }
     }
 
     // Notifies a processor that a thread is deleted.
-    fn tell_gone<S: Sink>(&mut self, place: usize, cpu: u8, told: &mut EventBuffer<S>)
+    fn tell_gone<S: Sink>(&mut self, place: usize, cpu: u8, buffer: &mut EventBuffer<S>)
         requires own { IsOwnOf self.old place }
         requires cpu { cpu < self.old.machine.cpus }
-        requires slots { 0 < told.old.slots }
+        requires slots { 0 < buffer.old.slots }
         ensures { Does (does_duty self.old.machine self.old.cpu place
-            (TellsGone cpu)) self.old self.new told.old told.new }
+            (TellsGone cpu)) self.old self.new buffer.old buffer.new }
     {
         self.note_told(place, cpu);
         let letter = self.letter(Content::Gone(self.known.id(place)));
-        told.post(cpu, letter);
+        buffer.post(cpu, letter);
     }
 }

@@ -23,7 +23,7 @@ impl Core<'_> {
         receiver: usize,
         sender: usize,
         ipc: &Ipc,
-        told: &mut EventBuffer<S>,
+        buffer: &mut EventBuffer<S>,
     )
         requires receiver { IsOwnOf self.old receiver }
         requires hand { IsAtHand self.old sender }
@@ -34,10 +34,10 @@ impl Core<'_> {
         requires fast { fast_receiver self.old.machine self.old.cpu self.old.local sender
             (destination (thread self.old.local sender).context (to_of ipc.now.to)) ≡
             Some receiver }
-        requires room { 3 ≤ told.old.room }
+        requires room { 3 ≤ buffer.old.room }
         ensures { Does (acts self.old.machine self.old.cpu sender
             (act_of self.old.machine (held self.old.machine self.old.local sender)))
-            self.old self.new told.old told.new }
+            self.old self.new buffer.old buffer.new }
     {
         let _few = self.known.len();
         let name = self.known.next_name(sender);
@@ -48,9 +48,9 @@ impl Core<'_> {
             cross: false,
         };
         let tag = delivery.tag();
-        told.emit(StepRef::Begin(name));
-        told.emit(StepRef::Queue(name));
-        told.emit(StepRef::Deliver(delivery));
+        buffer.emit(StepRef::Begin(name));
+        buffer.emit(StepRef::Queue(name));
+        buffer.emit(StepRef::Deliver(delivery));
         self.receive_from(receiver, sender, tag);
         self.pass(sender, ipc);
     }

@@ -20,7 +20,7 @@ use l4_thread::changes::Change;
 use l4_types::ids::GlobalId;
 use l4_types::letters::{Content, Decision, Letter};
 use l4_types::message_ref::MessageRef;
-use l4_types::steps::{Name, What};
+use l4_types::steps::{Name, OrderKind};
 
 impl Core<'_> {
     /// Handles a letter from another processor. Returns the stamp of the event. Lawful, and without
@@ -28,18 +28,18 @@ impl Core<'_> {
     /// caller.
     ///
     /// `Mail`: the letter is not lawful here. `Stamp`: else, where the next stamp would reach 2^62.
-    /// Nothing is changed then. Condition: `told` has begun an event that has no step yet.
+    /// Nothing is changed then. Condition: `buffer` has begun an event that has no step yet.
     pub fn handle_into<S: Sink>(
         &mut self,
         letter: &Letter,
-        told: &mut EventBuffer<S>,
+        buffer: &mut EventBuffer<S>,
     ) -> Result<u64, Fault>
-        requires untold { IsOpen told.old }
+        requires untold { IsOpen buffer.old }
         ensures ok { IfOk result (λ stamp.
             IsEvent
             (handle self.old.machine self.old.cpu self.old.local
-            (letter_of letter.now)) self.old self.new told.old told.new stamp) }
-        ensures err { OnErr result ((self.new ≡ self.old) × (told.new ≡ told.old)) }
+            (letter_of letter.now)) self.old self.new buffer.old buffer.new stamp) }
+        ensures err { OnErr result ((self.new ≡ self.old) × (buffer.new ≡ buffer.old)) }
         ensures faults { IfErr result (λ fault. (fault ≡ Fault.Mail) ⊎ (fault ≡ Fault.Stamp)) }
         ensures mail { IsErrOf result Fault.Mail ↔
             (handle self.old.machine self.old.cpu self.old.local (letter_of letter.now) ≡ None) }
@@ -54,18 +54,18 @@ impl Core<'_> {
             return Err(Fault::Stamp);
         }
         let stamp = self.open(letter.stamp);
-        self.do_task(task, told);
+        self.do_task(task, buffer);
         Ok(stamp)
     }
 
     // Does what a letter asks for.
-    fn do_task<S: Sink>(&mut self, task: Task<'_>, told: &mut EventBuffer<S>)
+    fn do_task<S: Sink>(&mut self, task: Task<'_>, buffer: &mut EventBuffer<S>)
         requires possible { IsTask task self.old }
-        requires room { 3 ≤ told.old.room }
-        requires slots { 2 ≤ told.old.slots }
+        requires room { 3 ≤ buffer.old.room }
+        requires slots { 2 ≤ buffer.old.slots }
         ensures { Does
             (does_task self.old.machine self.old.cpu task.entry)
-            self.old self.new told.old told.new }
+            self.old self.new buffer.old buffer.new }
     {
         match task {
             Task::Arrive {
@@ -75,9 +75,9 @@ impl Core<'_> {
                 to,
                 message,
                 zero_timeout,
-            } => self.take_in(receiver, sender, name, to, message, zero_timeout, told),
+            } => self.take_in(receiver, sender, name, to, message, zero_timeout, buffer),
             Task::End(place, decision) => self.end_split(place, decision),
-            Task::Refuse(place, refusal) => self.refuse(place, refusal, told),
+            Task::Refuse(place, refusal) => self.refuse(place, refusal, buffer),
             Task::Leave => {}
             Task::NoteGone(place) => self.note_gone(place),
             Task::Obey {
@@ -85,9 +85,9 @@ impl Core<'_> {
                 from,
                 caller,
                 what,
-            } => self.obey_for(target, from, caller, what, told),
+            } => self.obey_for(target, from, caller, what, buffer),
             Task::FinishOrder(place) => self.finish_order(place),
-            Task::Retarget(originator, owed) => self.retarget(originator, &owed, told),
+            Task::Retarget(originator, owed) => self.retarget(originator, &owed, buffer),
         }
     }
 
@@ -100,18 +100,18 @@ impl Core<'_> {
         to: GlobalId,
         message: MessageRef<'_>,
         zero_timeout: bool,
-        told: &mut EventBuffer<S>,
+        buffer: &mut EventBuffer<S>,
     )
         requires possible { IsArrival self.old receiver sender message }
-        requires room { 2 ≤ told.old.room }
-        requires slots { 2 ≤ told.old.slots }
+        requires room { 2 ≤ buffer.old.room }
+        requires slots { 2 ≤ buffer.old.slots }
         ensures { Does (does_task self.old.machine self.old.cpu
             (Arrive receiver sender name to message.entry zero_timeout))
-            self.old self.new told.old told.new }
+            self.old self.new buffer.old buffer.new }
     {
         let _few = self.known.len();
         self.stand_in(sender, name, to, message, zero_timeout);
-        self.arrive(receiver, sender, told);
+        self.arrive(receiver, sender, buffer);
     }
 
     // Ends the send of a thread of this processor, which was decided at its receiver's processor.
@@ -122,7 +122,7 @@ impl Core<'_> {
             (decision_of decision) self.old.local.clock) self.old.local) }
     {
         let _few = self.known.len();
-        self.come_to(place, &Change::EndSend(decision));
+        self.apply_change(place, &Change::EndSend(decision));
     }
 
     // Obeys the order of a foreign thread, and notifies its processor.
@@ -131,19 +131,19 @@ impl Core<'_> {
         target: usize,
         from: usize,
         caller: GlobalId,
-        what: What,
-        told: &mut EventBuffer<S>,
+        what: OrderKind,
+        buffer: &mut EventBuffer<S>,
     )
         requires possible { IsObedience self.old target from }
-        requires room { 3 ≤ told.old.room }
-        requires slots { 2 ≤ told.old.slots }
+        requires room { 3 ≤ buffer.old.room }
+        requires slots { 2 ≤ buffer.old.slots }
         ensures { Does (does_task self.old.machine self.old.cpu
-            (Obey target from caller what)) self.old self.new told.old told.new }
+            (Obey target from caller what)) self.old self.new buffer.old buffer.new }
     {
         let _few = self.known.len();
-        self.obey_order(caller, what, target, told);
+        self.obey_order(caller, what, target, buffer);
         let letter = self.letter(Content::OrderDone(caller));
-        told.post(self.known.cpu_of(from), letter);
+        buffer.post(self.known.cpu_of(from), letter);
     }
 
     // Ends the order of a thread of this processor, which was done.
@@ -154,9 +154,9 @@ impl Core<'_> {
         let _few = self.known.len();
         if self.known.is_deleted(place) {
             self.forget_order(place);
-            self.settle(place);
+            self.enter_lists(place);
         } else {
-            self.come_to(place, &Change::Obey);
+            self.apply_change(place, &Change::Obey);
         }
     }
 }

@@ -6,7 +6,7 @@ ghost use Rattle.l4_model.specs.Rules.{ask_act};
 ghost use Rattle.std.specs.Option.{option_map};
 ghost use Rattle.l4_core_model.specs.Letters.{cause_of};
 ghost use Rattle.l4_types.specs.LetterView.{cause_of_withdrawal};
-ghost use Rattle.l4_types.specs.StepView.{what_of};
+ghost use Rattle.l4_types.specs.StepView.{order_kind_of};
 ghost use Rattle.l4_script.specs.Scripts.{instr_of};
 ghost use Rattle.l4_core_model.specs.Local.{declared, thread, held};
 ghost use Rattle.l4_core_model.specs.Acts.{acts, gives_order, obeys, order_goes_to, runs_alone_at};
@@ -20,21 +20,21 @@ use crate::processor::Core;
 use l4_history::sink::Sink;
 use l4_script::instructions::Instr;
 use l4_thread::changes::Change;
-use l4_thread::orders::Asked;
+use l4_thread::orders::PendingOrder;
 use l4_thread::phases::Began;
 use l4_types::ids::{GlobalId, ThreadId};
 use l4_types::letters::{Cause, Content};
 use l4_types::step_ref::StepRef;
-use l4_types::steps::What;
+use l4_types::steps::OrderKind;
 
 // Why an order withdraws a send of its target, if it does.
-fn cause_of(what: What) -> Option<Cause>
-    ensures { option_map cause_of_withdrawal result ≡ cause_of (what_of what) }
+fn cause_of(what: OrderKind) -> Option<Cause>
+    ensures { option_map cause_of_withdrawal result ≡ cause_of (order_kind_of what) }
 {
     match what {
-        What::CancelSend | What::CancelBoth => Some(Cause::ByCancel),
-        What::CancelReceive => None,
-        What::Delete => Some(Cause::ByDeletion),
+        OrderKind::CancelSend | OrderKind::CancelBoth => Some(Cause::ByCancel),
+        OrderKind::CancelReceive => None,
+        OrderKind::Delete => Some(Cause::ByDeletion),
     }
 }
 
@@ -44,64 +44,67 @@ impl Core<'_> {
     pub(super) fn obey_order<S: Sink>(
         &mut self,
         caller: GlobalId,
-        what: What,
+        what: OrderKind,
         place: usize,
-        told: &mut EventBuffer<S>,
+        buffer: &mut EventBuffer<S>,
     )
         requires own { IsOwnOf self.old place }
-        requires room { 0 < told.old.room }
-        requires slots { 2 ≤ told.old.slots }
+        requires room { 0 < buffer.old.room }
+        requires slots { 2 ≤ buffer.old.slots }
         ensures does { Does (obeys self.old.machine self.old.cpu caller
-            (what_of what) place) self.old self.new told.old told.new }
-        ensures slots { 1 ≤ told.new.slots }
+            (order_kind_of what) place) self.old self.new buffer.old buffer.new }
+        ensures slots { 1 ≤ buffer.new.slots }
     {
         let was_deleted = self.known.is_deleted(place);
-        told.emit(StepRef::Obey(caller));
+        buffer.emit(StepRef::Obey(caller));
         self.ask(place, what);
         if !was_deleted {
             if let Some(cause) = cause_of(what) {
-                self.withdraw(place, cause, told);
+                self.withdraw(place, cause, buffer);
             }
         }
     }
 
     /// Runs the next instruction of a thread.
-    pub(super) fn act<S: Sink>(&mut self, place: usize, told: &mut EventBuffer<S>)
+    pub(super) fn act<S: Sink>(&mut self, place: usize, buffer: &mut EventBuffer<S>)
         requires hand { IsAtHand self.old place }
         requires count { (thread self.old.local place).context.begun < self.old.local.stamp }
-        requires room { 3 ≤ told.old.room }
-        requires slots { 2 ≤ told.old.slots }
+        requires room { 3 ≤ buffer.old.room }
+        requires slots { 2 ≤ buffer.old.slots }
         ensures { Does (acts self.old.machine self.old.cpu place
             (act_of self.old.machine
-            (held self.old.machine self.old.local place))) self.old self.new told.old told.new }
+            (held self.old.machine self.old.local place))) self.old self.new buffer.old buffer.new }
     {
-        let instr = self.known.instruction(place);
-        match &instr {
+        let Some(instr) = self.known.instruction(place) else {
+            return self.run(place, &Instr::End, buffer);
+        };
+        match instr {
             Instr::Ipc(ipc) => {
                 let partner = self.known.partner(place, ipc);
                 match self.known.fast_receiver(place, ipc, partner) {
-                    Some(receiver) => self.send_fast(receiver, place, ipc, told),
-                    None => self.ipc(place, &instr, partner, told),
+                    Some(receiver) => self.send_fast(receiver, place, ipc, buffer),
+                    None => self.ipc(place, instr, partner, buffer),
                 }
             }
-            Instr::Order(target, what) => self.order(place, &instr, *target, *what, told),
-            _ => self.run(place, &instr, told),
+            Instr::Order(target, what) => self.order(place, instr, *target, *what, buffer),
+            _ => self.run(place, instr, buffer),
         }
     }
 
     // Runs an instruction that concerns nobody else.
-    fn run<S: Sink>(&mut self, place: usize, instr: &Instr, told: &mut EventBuffer<S>)
+    fn run<S: Sink>(&mut self, place: usize, instr: &Instr, buffer: &mut EventBuffer<S>)
         requires hand { IsAtHand self.old place }
         requires instr { instr_of instr.now ≡
             instruction (held self.old.machine self.old.local place) }
         requires within { is_end (instr_of instr.now) ≡ false →
             (thread self.old.local place).context.place < most_instructions }
-        requires room { 0 < told.old.room }
-        ensures { Does (runs_alone_at self.old.machine place) self.old self.new told.old told.new }
+        requires room { 0 < buffer.old.room }
+        ensures { Does (runs_alone_at self.old.machine place)
+            self.old self.new buffer.old buffer.new }
     {
         let _few = self.known.len();
-        told.emit(StepRef::Local(self.known.id(place)));
-        self.come_to(place, &Change::Run(*instr));
+        buffer.emit(StepRef::Local(self.known.id(place)));
+        self.apply_change(place, &Change::Run(*instr));
     }
 
     // Runs an Ipc. Its send, if it has one, goes to its partner.
@@ -110,7 +113,7 @@ impl Core<'_> {
         place: usize,
         instr: &Instr,
         partner: Option<usize>,
-        told: &mut EventBuffer<S>,
+        buffer: &mut EventBuffer<S>,
     )
         requires hand { IsAtHand self.old place }
         requires instr { instr_of instr.now ≡
@@ -122,19 +125,19 @@ impl Core<'_> {
         requires within { is_end (instr_of instr.now) ≡ false →
             (thread self.old.local place).context.place < most_instructions }
         requires count { (thread self.old.local place).context.begun < self.old.local.stamp }
-        requires room { 3 ≤ told.old.room }
-        requires slots { 2 ≤ told.old.slots }
+        requires room { 3 ≤ buffer.old.room }
+        requires slots { 2 ≤ buffer.old.slots }
         ensures { Does (acts self.old.machine self.old.cpu place
             (act_of self.old.machine
-            (held self.old.machine self.old.local place))) self.old self.new told.old told.new }
+            (held self.old.machine self.old.local place))) self.old self.new buffer.old buffer.new }
     {
         let _few = self.known.len();
         match self.begin(place, instr) {
-            Began::Nothing => self.run(place, instr, told),
-            Began::Receive => told.emit(StepRef::Wait(self.known.id(place))),
+            Began::Nothing => self.run(place, instr, buffer),
+            Began::Receive => buffer.emit(StepRef::Wait(self.known.id(place))),
             Began::Send => {
-                told.emit(StepRef::Begin(self.known.last_name(place)));
-                self.send(place, partner, told);
+                buffer.emit(StepRef::Begin(self.known.last_name(place)));
+                self.send(place, partner, buffer);
             }
         }
     }
@@ -145,24 +148,24 @@ impl Core<'_> {
         place: usize,
         instr: &Instr,
         target: ThreadId,
-        what: What,
-        told: &mut EventBuffer<S>,
+        what: OrderKind,
+        buffer: &mut EventBuffer<S>,
     )
         requires hand { IsAtHand self.old place }
         requires instr { instr_of instr.now ≡
             instruction (held self.old.machine self.old.local place) }
-        requires ask { instr_of instr.now ≡ Ask target (what_of what) }
+        requires ask { instr_of instr.now ≡ Ask target (order_kind_of what) }
         requires within { is_end (instr_of instr.now) ≡ false →
             (thread self.old.local place).context.place < most_instructions }
-        requires room { 3 ≤ told.old.room }
-        requires slots { 2 ≤ told.old.slots }
+        requires room { 3 ≤ buffer.old.room }
+        requires slots { 2 ≤ buffer.old.slots }
         ensures { Does (acts self.old.machine self.old.cpu place
             (act_of self.old.machine
-            (held self.old.machine self.old.local place))) self.old self.new told.old told.new }
+            (held self.old.machine self.old.local place))) self.old self.new buffer.old buffer.new }
     {
         match self.known.admitted(place, target, what) {
-            Some(target) => self.give(place, target, what, told),
-            None => self.run(place, instr, told),
+            Some(target) => self.give(place, target, what, buffer),
+            None => self.run(place, instr, buffer),
         }
     }
 
@@ -171,28 +174,29 @@ impl Core<'_> {
         &mut self,
         place: usize,
         target: GlobalId,
-        what: What,
-        told: &mut EventBuffer<S>,
+        what: OrderKind,
+        buffer: &mut EventBuffer<S>,
     )
         requires hand { IsAtHand self.old place }
         requires within { (thread self.old.local place).context.place < most_instructions }
-        requires room { 2 ≤ told.old.room }
-        requires slots { 2 ≤ told.old.slots }
+        requires room { 2 ≤ buffer.old.room }
+        requires slots { 2 ≤ buffer.old.slots }
         ensures { Does (gives_order self.old.machine self.old.cpu place
-            (record { target = target; what = what_of what })) self.old self.new told.old told.new }
+            (record { target = target; what = order_kind_of what }))
+            self.old self.new buffer.old buffer.new }
     {
         let _few = self.known.len();
         let caller = self.known.id(place);
-        self.come_to(place, &Change::GiveOrder(Asked::new(target, what)));
-        told.emit(StepRef::Order {
+        self.apply_change(place, &Change::GiveOrder(PendingOrder::new(target, what)));
+        buffer.emit(StepRef::Order {
             caller,
             target,
             what,
         });
         match self.known.place_of(target) {
             Some(asked) if self.known.is_own(asked) => {
-                self.obey_order(caller, what, asked, told);
-                self.come_to(place, &Change::Obey);
+                self.obey_order(caller, what, asked, buffer);
+                self.apply_change(place, &Change::Obey);
             }
             Some(asked) => {
                 let letter = self.letter(Content::Order {
@@ -200,7 +204,7 @@ impl Core<'_> {
                     target,
                     what,
                 });
-                told.post(self.known.cpu_of(asked), letter);
+                buffer.post(self.known.cpu_of(asked), letter);
             }
             None => {}
         }

@@ -18,37 +18,37 @@ impl Core<'_> {
     /// Notes a retarget that is owed since this receiver got a message. It is kept beside the
     /// receiver if the originator is of this processor. Else a letter goes to the originator's
     /// processor.
-    pub(super) fn owe<S: Sink>(&mut self, receiver: usize, owed: Owed, told: &mut EventBuffer<S>)
+    pub(super) fn owe<S: Sink>(&mut self, receiver: usize, owed: Owed, buffer: &mut EventBuffer<S>)
         requires receiver { IsOwnOf self.old receiver }
         requires profile { self.old.machine.retargeting ≡ true }
-        requires slots { 0 < told.old.slots }
+        requires slots { 0 < buffer.old.slots }
         ensures { Does (owes_for self.old.machine self.old.cpu receiver
-            (Some (owed_of owed))) self.old self.new told.old told.new }
+            (Some (owed_of owed))) self.old self.new buffer.old buffer.new }
     {
         match self.known.place_of(owed.originator) {
             Some(originator) if self.known.is_own(originator) => self.keep_owed(receiver, owed),
             Some(originator) => {
                 let letter = self.letter(Content::Retarget(owed));
-                told.post(self.known.cpu_of(originator), letter);
+                buffer.post(self.known.cpu_of(originator), letter);
             }
             None => {}
         }
     }
 
     /// Does the retarget that is kept beside a thread.
-    pub(super) fn retarget_owed<S: Sink>(&mut self, place: usize, told: &mut EventBuffer<S>)
+    pub(super) fn retarget_owed<S: Sink>(&mut self, place: usize, buffer: &mut EventBuffer<S>)
         requires own { IsOwnOf self.old place }
-        requires room { 0 < told.old.room }
+        requires room { 0 < buffer.old.room }
         ensures { (owed : ModelOwed) → owed_beside self.old.local place ≡ Some owed →
             Does
             (does_duty self.old.machine self.old.cpu place
-            (Retargets owed)) self.old self.new told.old told.new }
+            (Retargets owed)) self.old self.new buffer.old buffer.new }
     {
         let Some(owed) = self.take_owed(place) else {
             return;
         };
         if let Some(originator) = self.known.place_of(owed.originator) {
-            self.retarget(originator, &owed, told);
+            self.retarget(originator, &owed, buffer);
         }
     }
 
@@ -57,14 +57,14 @@ impl Core<'_> {
         &mut self,
         originator: usize,
         owed: &Owed,
-        told: &mut EventBuffer<S>,
+        buffer: &mut EventBuffer<S>,
     )
         requires originator { originator < length self.old.machine.threads }
-        requires room { 0 < told.old.room }
+        requires room { 0 < buffer.old.room }
         ensures { Does (retargets
-            (owed_of owed.now) originator) self.old self.new told.old told.new }
+            (owed_of owed.now) originator) self.old self.new buffer.old buffer.new }
     {
-        told.emit(StepRef::Retarget(owed.send));
+        buffer.emit(StepRef::Retarget(owed.send));
         self.turn_to(originator, owed);
     }
 }

@@ -49,16 +49,16 @@ impl Core<'_> {
         &mut self,
         place: usize,
         refusal: Refusal,
-        told: &mut EventBuffer<S>,
+        buffer: &mut EventBuffer<S>,
     )
         requires sender { IsSender self.old place }
-        requires room { 0 < told.old.room }
-        requires slots { 0 < told.old.slots }
+        requires room { 0 < buffer.old.room }
+        requires slots { 0 < buffer.old.slots }
         ensures { Does (refuses self.old.machine self.old.cpu
-            (refusal_of_send refusal) place) self.old self.new told.old told.new }
+            (refusal_of_send refusal) place) self.old self.new buffer.old buffer.new }
     {
-        told.emit(refusal_step(refusal, self.known.last_name(place)));
-        self.end_send(place, Decision::Refused(refusal), told);
+        buffer.emit(refusal_step(refusal, self.known.last_name(place)));
+        self.end_send(place, Decision::Refused(refusal), buffer);
     }
 
     /// Delivers the message of a sender to a receiver.
@@ -66,34 +66,34 @@ impl Core<'_> {
         &mut self,
         receiver: usize,
         sender: usize,
-        told: &mut EventBuffer<S>,
+        buffer: &mut EventBuffer<S>,
     )
         requires receiver { IsReceiver self.old receiver }
         requires sender { IsSender self.old sender }
-        requires room { 0 < told.old.room }
-        requires slots { 2 ≤ told.old.slots }
+        requires room { 0 < buffer.old.room }
+        requires slots { 2 ≤ buffer.old.slots }
         ensures { Does
             (delivers self.old.machine self.old.cpu receiver sender)
-            self.old self.new told.old told.new }
+            self.old self.new buffer.old buffer.new }
     {
         let owed = self.known.owed_by(receiver, sender);
-        self.hand_over(receiver, sender, told);
+        self.hand_over(receiver, sender, buffer);
         if let Some(owed) = owed {
-            self.owe(receiver, owed, told);
+            self.owe(receiver, owed, buffer);
         }
     }
 
     // Hands the message of a sender to a receiver, and ends the send.
     #[inline(always)]
-    fn hand_over<S: Sink>(&mut self, receiver: usize, sender: usize, told: &mut EventBuffer<S>)
+    fn hand_over<S: Sink>(&mut self, receiver: usize, sender: usize, buffer: &mut EventBuffer<S>)
         requires receiver { IsReceiver self.old receiver }
         requires sender { IsSender self.old sender }
-        requires room { 0 < told.old.room }
-        requires slots { 0 < told.old.slots }
+        requires room { 0 < buffer.old.room }
+        requires slots { 0 < buffer.old.slots }
         ensures does { Does
             (hands_over self.old.machine self.old.cpu receiver sender)
-            self.old self.new told.old told.new }
-        ensures slots { told.old.slots ≤ told.new.slots + 1 }
+            self.old self.new buffer.old buffer.new }
+        ensures slots { buffer.old.slots ≤ buffer.new.slots + 1 }
     {
         let delivery = DeliveryRef {
             name: self.known.last_name(sender),
@@ -102,29 +102,29 @@ impl Core<'_> {
             cross: !self.known.is_own(sender),
         };
         let tag = delivery.tag();
-        told.emit(StepRef::Deliver(delivery));
+        buffer.emit(StepRef::Deliver(delivery));
         self.receive_from(receiver, sender, tag);
-        self.end_send(sender, Decision::Delivered, told);
+        self.end_send(sender, Decision::Delivered, buffer);
     }
 
     // Ends a send that is decided here. A sender of this processor goes on at once, another one by
     // a letter.
-    fn end_send<S: Sink>(&mut self, place: usize, decision: Decision, told: &mut EventBuffer<S>)
+    fn end_send<S: Sink>(&mut self, place: usize, decision: Decision, buffer: &mut EventBuffer<S>)
         requires sender { IsSender self.old place }
-        requires slots { 0 < told.old.slots }
+        requires slots { 0 < buffer.old.slots }
         ensures does { Does (decides_send self.old.machine self.old.cpu
-            (decision_of decision) place) self.old self.new told.old told.new }
-        ensures slots { told.old.slots ≤ told.new.slots + 1 }
+            (decision_of decision) place) self.old self.new buffer.old buffer.new }
+        ensures slots { buffer.old.slots ≤ buffer.new.slots + 1 }
     {
         if self.known.is_own(place) {
             self.unqueue_send(place);
-            self.come_to(place, &Change::EndSend(decision));
+            self.apply_change(place, &Change::EndSend(decision));
         } else {
             let name = self.known.last_name(place);
             self.unqueue_send(place);
             self.forget_send(place);
             let letter = self.letter(Content::Done { name, decision });
-            told.post(self.known.cpu_of(place), letter);
+            buffer.post(self.known.cpu_of(place), letter);
         }
     }
 
@@ -133,34 +133,35 @@ impl Core<'_> {
         &mut self,
         sender: usize,
         partner: Option<usize>,
-        told: &mut EventBuffer<S>,
+        buffer: &mut EventBuffer<S>,
     )
         requires sender { IsNewSender self.old sender }
         requires partner { (send : Send) → (thread self.old.local sender).send ≡ Some send →
             partner ≡ destination_place self.old.machine send.to }
         requires within { IfSome partner (λ receiver. receiver < length self.old.machine.threads) }
-        requires room { 2 ≤ told.old.room }
-        requires slots { 2 ≤ told.old.slots }
+        requires room { 2 ≤ buffer.old.room }
+        requires slots { 2 ≤ buffer.old.slots }
         ensures { (send : Send) → (thread self.old.local sender).send ≡ Some send →
             Does
             (send_goes_to self.old.machine self.old.cpu sender send
-            (destination_place self.old.machine send.to)) self.old self.new told.old told.new }
+            (destination_place self.old.machine send.to)) self.old self.new buffer.old buffer.new }
     {
         match partner {
-            Some(receiver) if self.known.is_own(receiver) => self.arrive(receiver, sender, told),
-            Some(receiver) => self.post_send(receiver, sender, told),
-            None => self.refuse(sender, Refusal::Nobody, told),
+            Some(receiver) if self.known.is_own(receiver) => self.arrive(receiver, sender, buffer),
+            Some(receiver) => self.post_send(receiver, sender, buffer),
+            None => self.refuse(sender, Refusal::Nobody, buffer),
         }
     }
 
     // Posts a begun send to its receiver's processor.
-    fn post_send<S: Sink>(&mut self, receiver: usize, sender: usize, told: &mut EventBuffer<S>)
+    fn post_send<S: Sink>(&mut self, receiver: usize, sender: usize, buffer: &mut EventBuffer<S>)
         requires receiver { receiver < length self.old.machine.threads }
         requires sender { IsSender self.old sender }
-        requires slots { 0 < told.old.slots }
+        requires slots { 0 < buffer.old.slots }
         ensures { (send : Send) → (thread self.old.local sender).send ≡ Some send →
             Does
-            (posts_send self.old.machine receiver sender send) self.old self.new told.old told.new }
+            (posts_send self.old.machine receiver sender send)
+            self.old self.new buffer.old buffer.new }
     {
         let content = Content::Send {
             name: self.known.last_name(sender),
@@ -169,7 +170,7 @@ impl Core<'_> {
             zero_timeout: self.known.is_zero(sender),
         };
         let letter = self.letter(content);
-        told.post(self.known.cpu_of(receiver), letter);
+        buffer.post(self.known.cpu_of(receiver), letter);
     }
 
     /// Handles a send that has arrived at its receiver's processor, this one: refuses it, or queues
@@ -178,43 +179,43 @@ impl Core<'_> {
         &mut self,
         receiver: usize,
         sender: usize,
-        told: &mut EventBuffer<S>,
+        buffer: &mut EventBuffer<S>,
     )
         requires receiver { IsOwnOf self.old receiver }
         requires sender { IsNewSender self.old sender }
         requires here { IsNotSplit self.old sender }
-        requires room { 2 ≤ told.old.room }
-        requires slots { 2 ≤ told.old.slots }
+        requires room { 2 ≤ buffer.old.room }
+        requires slots { 2 ≤ buffer.old.slots }
         ensures { Does
             (arrives self.old.machine self.old.cpu receiver sender)
-            self.old self.new told.old told.new }
+            self.old self.new buffer.old buffer.new }
     {
         if self.known.is_deleted(receiver) {
-            self.refuse(sender, Refusal::Nobody, told);
+            self.refuse(sender, Refusal::Nobody, buffer);
         } else if self.known.zero_refusable(receiver, sender) {
-            self.refuse(sender, Refusal::TimedOut, told);
+            self.refuse(sender, Refusal::TimedOut, buffer);
         } else {
-            self.queue(receiver, sender, told);
+            self.queue(receiver, sender, buffer);
         }
     }
 
     // Queues a send, and delivers it if its receiver waits and takes it first.
-    fn queue<S: Sink>(&mut self, receiver: usize, sender: usize, told: &mut EventBuffer<S>)
+    fn queue<S: Sink>(&mut self, receiver: usize, sender: usize, buffer: &mut EventBuffer<S>)
         requires receiver { IsOwnOf self.old receiver }
         requires sender { IsNewSender self.old sender }
         requires here { IsNotSplit self.old sender }
-        requires room { 2 ≤ told.old.room }
-        requires slots { 2 ≤ told.old.slots }
+        requires room { 2 ≤ buffer.old.room }
+        requires slots { 2 ≤ buffer.old.slots }
         ensures { (send : Send) → (thread self.old.local sender).send ≡ Some send →
             Does
             (queues_send self.old.machine self.old.cpu receiver sender
-            (Some send)) self.old self.new told.old told.new }
+            (Some send)) self.old self.new buffer.old buffer.new }
     {
-        told.emit(StepRef::Queue(self.known.last_name(sender)));
+        buffer.emit(StepRef::Queue(self.known.last_name(sender)));
         let waiting = self.known.entry(receiver, sender);
         self.queue_send(receiver, waiting);
         if self.known.is_first(receiver, sender) {
-            self.deliver(receiver, sender, told);
+            self.deliver(receiver, sender, buffer);
         }
     }
 
@@ -223,14 +224,14 @@ impl Core<'_> {
         &mut self,
         place: usize,
         cause: Cause,
-        told: &mut EventBuffer<S>,
+        buffer: &mut EventBuffer<S>,
     )
         requires own { IsOwnOf self.old place }
-        requires slots { 0 < told.old.slots }
+        requires slots { 0 < buffer.old.slots }
         ensures does { Does (withdraws self.old.machine (cause_of_withdrawal cause) place
             (split_place self.old.machine self.old.cpu self.old.local place))
-            self.old self.new told.old told.new }
-        ensures slots { told.old.slots ≤ told.new.slots + 1 }
+            self.old self.new buffer.old buffer.new }
+        ensures slots { buffer.old.slots ≤ buffer.new.slots + 1 }
     {
         if let Some(receiver) = self.known.split_place(place) {
             let content = Content::Withdraw {
@@ -239,7 +240,7 @@ impl Core<'_> {
                 cause,
             };
             let letter = self.letter(content);
-            told.post(self.known.cpu_of(receiver), letter);
+            buffer.post(self.known.cpu_of(receiver), letter);
         }
     }
 }

@@ -27,11 +27,11 @@ impl Core<'_> {
         requires { can_stamp self.old.local 0 ≡ true }
         ensures { Turned self.old self.new result }
     {
-        let mut told = EventBuffer::new(EventSteps::new());
-        let Some(stamp) = self.turn_into(&mut told) else {
+        let mut buffer = EventBuffer::new(EventSteps::new());
+        let Some(stamp) = self.turn_into(&mut buffer) else {
             return Turn::Idle;
         };
-        let (event, letters) = told.into_event(stamp);
+        let (event, letters) = buffer.into_event(stamp);
         Turn::Did { event, letters }
     }
 
@@ -52,9 +52,9 @@ impl Core<'_> {
             (IsSome (handle self.old.machine self.old.cpu self.old.local (letter_of letter.now)) ×
             (can_stamp self.old.local letter.now.stamp ≡ false)) }
     {
-        let mut told = EventBuffer::new(EventSteps::new());
-        let stamp = self.handle_into(letter, &mut told)?;
-        Ok(told.into_event(stamp))
+        let mut buffer = EventBuffer::new(EventSteps::new());
+        let stamp = self.handle_into(letter, &mut buffer)?;
+        Ok(buffer.into_event(stamp))
     }
 
     /// Advances the clock to this value, in ticks, as `advance_into` does. A tick posts no letters.
@@ -73,9 +73,9 @@ impl Core<'_> {
             (IsSome (advance self.old.machine self.old.cpu to self.old.local) ×
             (can_stamp self.old.local 0 ≡ false)) }
     {
-        let mut told = EventBuffer::new(EventSteps::new());
-        let stamp = self.advance_into(to, &mut told)?;
-        let (event, _letters) = told.into_event(stamp);
+        let mut buffer = EventBuffer::new(EventSteps::new());
+        let stamp = self.advance_into(to, &mut buffer)?;
+        let (event, _letters) = buffer.into_event(stamp);
         Ok(event)
     }
 }

@@ -4,7 +4,7 @@ ghost use Rattle.std.specs.Option.{option_map};
 ghost use Rattle.l4_model.specs.Words.{last_register};
 ghost use Rattle.l4_model.specs.Machine.{most_processors};
 ghost use Rattle.l4_types.specs.FormatView.{format_of};
-ghost use Rattle.l4_types.specs.StepView.{what_of};
+ghost use Rattle.l4_types.specs.StepView.{order_kind_of};
 ghost use Rattle.l4_script.specs.declared.text.fault.TextFaultKind.TheVariants.{BadId, BadLine};
 ghost use Rattle.l4_words.specs.Words.{one};
 ghost use Rattle.l4_script.specs.Ids.{id_of};
@@ -23,7 +23,7 @@ use crate::machine::Declaration;
 use l4_types::formats::Format;
 use l4_types::ids::ThreadId;
 use l4_types::registers::MESSAGE_REGISTERS;
-use l4_types::steps::{MOST_PROCESSORS, What};
+use l4_types::steps::{MOST_PROCESSORS, OrderKind};
 use l4_types::tags::{MsgTag, TagFault};
 use l4_words::words::Words;
 use std::alloc::Global;
@@ -268,13 +268,13 @@ fn ipc(format: Format, operands: Words<'_>) -> Result<Instr, TextFaultKind>
 
 /// The bits `S`, `R` or `SR` (manual: ExchangeRegisters). None for any other word.
 #[tactic(auto, unfolding(crate::specs::Statements::bits_of))]
-pub fn bits(word: &[u8]) -> Option<What>
-    ensures { option_map what_of result ≡ bits_of word.now }
+pub fn bits(word: &[u8]) -> Option<OrderKind>
+    ensures { option_map order_kind_of result ≡ bits_of word.now }
 {
     match word {
-        b"S" => Some(What::CancelSend),
-        b"R" => Some(What::CancelReceive),
-        b"SR" => Some(What::CancelBoth),
+        b"S" => Some(OrderKind::CancelSend),
+        b"R" => Some(OrderKind::CancelReceive),
+        b"SR" => Some(OrderKind::CancelBoth),
         _ => None,
     }
 }
@@ -297,7 +297,7 @@ fn delete(format: Format, operands: Words<'_>) -> Result<Instr, TextFaultKind>
     ensures { Returns instr_of result (delete_of (format_of format) operands.entry) }
 {
     let target = thread_id(format, only(operands)?)?;
-    Ok(Instr::Order(target, What::Delete))
+    Ok(Instr::Order(target, OrderKind::Delete))
 }
 
 /// The operand of `jump` or `onerr`.

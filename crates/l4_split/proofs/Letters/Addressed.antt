@@ -3,8 +3,8 @@ use Rattle.std.proofs.Common.{◌≡◌, ℕ, ◌<◌, true, Option, Some, None,
 use Rattle.std.specs.Prelude.{is_some}
 use Rattle.std.specs.List.{AllByRecursion}
 use Rattle.l4_model.specs.Words.{GlobalId}
-use Rattle.l4_model.specs.Machine.{Machine, What, place_of, is_declared, is_place}
-use Rattle.l4_model.specs.World.{Send, Asked, Message, is_deleted, Owed}
+use Rattle.l4_model.specs.Machine.{Machine, OrderKind, place_of, is_declared, is_place}
+use Rattle.l4_model.specs.World.{Send, PendingOrder, Message, is_deleted, Owed}
 use Rattle.l4_model.specs.Rules.{Act, RunsAlone, Sends, Receives, Orders, received_tag, is_cross, owed_by}
 use Rattle.l4_model.specs.Steps.{Begin, Queue, Obey, Order}
 use Rattle.l4_model.specs.Effects.{begins, orders, decided}
@@ -119,7 +119,7 @@ withdraws_addressed m cpu cause i x t a = by (split_place m cpu x.local i) refl
 
 -- Orders
 
-pub obeys_addressed : (m : Machine) (cpu : ℕ) (caller : GlobalId) (what : What) (j : ℕ) (x : Work) → IsThread m j → IsAddressed m x →
+pub obeys_addressed : (m : Machine) (cpu : ℕ) (caller : GlobalId) (what : OrderKind) (j : ℕ) (x : Work) → IsThread m j → IsAddressed m x →
     IsAddressed m (obeys m cpu caller what j x)
 obeys_addressed m cpu caller what j x t a = cond_keeps (IsAddressed m) (is_deleted (thread x.local j).phase) _ _ (λ gone. a) (λ alive. by (cause_of what))
   where
@@ -130,7 +130,7 @@ obeys_addressed m cpu caller what j x t a = cond_keeps (IsAddressed m) (is_delet
     by None = a
     by (Some cause) = withdraws_addressed m cpu cause j y t a
 
-order_addressed : (m : Machine) (cpu i : ℕ) (order : Asked) (x : Work) → IsThread m i → IsAddressed m x → IsAddressed m (gives_order m cpu i order x)
+order_addressed : (m : Machine) (cpu i : ℕ) (order : PendingOrder) (x : Work) → IsThread m i → IsAddressed m x → IsAddressed m (gives_order m cpu i order x)
 order_addressed m cpu i order x t a = by (place_of m order.target) refl
   where
     y : Work

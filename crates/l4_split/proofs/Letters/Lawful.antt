@@ -9,7 +9,7 @@ use Rattle.std.specs.Prelude.{◌||◌, is_some, IfSome, slice_index, slice_inde
 use Rattle.std.proofs.lemmas.Option.{slice_get-get_or}
 use Rattle.l4_model.specs.Words.{GlobalId, same_id}
 use Rattle.l4_model.specs.Machine.{Machine, place_of, is_declared}
-use Rattle.l4_model.specs.World.{Thread, World, Send, Asked, Phase, Ready, Sending, Receiving, Ordering, Ended, Deleted, opening_thread, is_deleted, Owed}
+use Rattle.l4_model.specs.World.{Thread, World, Send, PendingOrder, Phase, Ready, Sending, Receiving, Ordering, Ended, Deleted, opening_thread, is_deleted, Owed}
 use Rattle.l4_model.specs.Reached.{Suits, IsSendOf, WorldFacts, IsOwedAmong}
 use Rattle.l4_core_model.specs.Letters.{DoneLetter, OrderDoneLetter, Content, SendLetter, WithdrawLetter, GoneLetter, OrderLetter, Letter, RetargetLetter}
 use Rattle.l4_core_model.specs.Local.{declared, undeclared, thread, Local}
@@ -98,7 +98,7 @@ ordered_lawful m i s w p x machine lt row =
     rw (letter, own, foreign) refl
 
 -- Only one that waits for an order, or is deleted, has one.
-calls : (t : Thread) (order : Asked) → t.order ≡ Some order → t.send ≡ None → Suits t.phase t.send t.order → (is_deleted t.phase || is_ordering t.phase) ≡ true
+calls : (t : Thread) (order : PendingOrder) → t.order ≡ Some order → t.send ≡ None → Suits t.phase t.send t.order → (is_deleted t.phase || is_ordering t.phase) ≡ true
 calls t order has none suits = by t.phase suits
   where
     by : (q : Phase) → Suits q t.send t.order → (is_deleted q || is_ordering q) ≡ true

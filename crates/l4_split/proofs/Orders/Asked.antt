@@ -1,7 +1,7 @@
 -- What is asked of a thread is done in the world and at home, and they agree as before.
 use Rattle.std.proofs.Common.{◌≡◌, ℕ, false, Option, Some, None, refl, ap, sym, ◌∙◌, subst}
-use Rattle.l4_model.specs.Machine.{Machine, What, CancelSend, CancelReceive, CancelBoth, Delete}
-use Rattle.l4_model.specs.World.{Thread, Send, Receive, Asked, Phase, Ready, Sending, Receiving, Ordering, Ended, Deleted, is_alive}
+use Rattle.l4_model.specs.Machine.{Machine, OrderKind, CancelSend, CancelReceive, CancelBoth, Delete}
+use Rattle.l4_model.specs.World.{Thread, Send, Receive, PendingOrder, Phase, Ready, Sending, Receiving, Ordering, Ended, Deleted, is_alive}
 use Rattle.l4_model.specs.Effects.{asked, decided, goes_on, obeyed}
 use Rattle.l4_model.proofs.Chains.{cond_both}
 use Rattle.l4_model.specs.Reached.{Suits}
@@ -26,20 +26,20 @@ agrees_order world t a = by t.phase a.by_phase
 
 -- Where the world has it as home does
 
-asked_receiving : (what : What) (receive : Receive) (since began : ℕ) (t : Thread) → (what ≡ Delete → ⊥) → t.phase ≡ Receiving receive since →
+asked_receiving : (what : OrderKind) (receive : Receive) (since began : ℕ) (t : Thread) → (what ≡ Delete → ⊥) → t.phase ≡ Receiving receive since →
     asked what (record t { phase = Receiving receive began }) ≡ record (asked what t) { phase = Receiving receive began }
 asked_receiving CancelSend receive since began t ne is = rw is refl
 asked_receiving CancelReceive receive since began t ne is = rw is refl
 asked_receiving CancelBoth receive since began t ne is = rw is refl
 asked_receiving Delete receive since began t ne is = absurd (ne refl)
 
-asked_phase : (what : What) (t : Thread) → (what ≡ Delete → ⊥) → (asked what t).phase ≡ t.phase
+asked_phase : (what : OrderKind) (t : Thread) → (what ≡ Delete → ⊥) → (asked what t).phase ≡ t.phase
 asked_phase CancelSend t ne = refl
 asked_phase CancelReceive t ne = refl
 asked_phase CancelBoth t ne = refl
 asked_phase Delete t ne = absurd (ne refl)
 
-asked_left : (what : What) (world t : Thread) → (what ≡ Delete → ⊥) → t.phase ≡ Deleted → IsLeft world t → IsLeft (asked what world) (asked what t)
+asked_left : (what : OrderKind) (world t : Thread) → (what ≡ Delete → ⊥) → t.phase ≡ Deleted → IsLeft world t → IsLeft (asked what world) (asked what t)
 asked_left CancelSend world t ne is a = let gone = a.deleted in let wish = a.cancel_send in record {
   deleted = gone;
   begun = a.begun;
@@ -57,7 +57,7 @@ asked_left CancelBoth world t ne is a = let gone = a.deleted in let wish = a.can
 }
 asked_left Delete world t ne is a = absurd (ne refl)
 
-cancelled_by_phase : (what : What) (world t : Thread) → (what ≡ Delete → ⊥) → AgreesByPhase world t → AgreesByPhase (asked what world) (asked what t)
+cancelled_by_phase : (what : OrderKind) (world t : Thread) → (what ≡ Delete → ⊥) → AgreesByPhase world t → AgreesByPhase (asked what world) (asked what t)
 cancelled_by_phase what world t ne a = by t.phase refl a
   where
     at : (p : Phase) → t.phase ≡ p → AgreesIn p (asked what world) (asked what t) → AgreesByPhase (asked what world) (asked what t)
@@ -84,18 +84,18 @@ deleted_by_phase world t a = record {
   cancel_send = agrees_wish world t a;
 }
 
-asked_by_phase : {m : Machine} (what : What) (world t : Thread) → Agrees m world t → AgreesByPhase (asked what world) (asked what t)
+asked_by_phase : {m : Machine} (what : OrderKind) (world t : Thread) → Agrees m world t → AgreesByPhase (asked what world) (asked what t)
 asked_by_phase Delete world t a = deleted_by_phase world t a
 asked_by_phase CancelSend world t a = cancelled_by_phase CancelSend world t (λ e. cc) a.by_phase
 asked_by_phase CancelReceive world t a = cancelled_by_phase CancelReceive world t (λ e. cc) a.by_phase
 asked_by_phase CancelBoth world t a = cancelled_by_phase CancelBoth world t (λ e. cc) a.by_phase
 
-pub asked_agrees : {m : Machine} (what : What) (world t : Thread) → Agrees m world t → Agrees m (asked what world) (asked what t)
+pub asked_agrees : {m : Machine} (what : OrderKind) (world t : Thread) → Agrees m world t → Agrees m (asked what world) (asked what t)
 asked_agrees what world t a = record { by_phase = asked_by_phase what world t a; together = λ one. ap (asked what) (a.together one) }
 
 -- While the decision of its send is under way: to be asked and to hear of it can be done in any order.
 
-asked_ended : (what : What) (result : Result) (clock : ℕ) (t : Thread) (send : Send) → (what ≡ Delete → ⊥) → t.phase ≡ Sending → t.send ≡ Some send →
+asked_ended : (what : OrderKind) (result : Result) (clock : ℕ) (t : Thread) (send : Send) → (what ≡ Delete → ⊥) → t.phase ≡ Sending → t.send ≡ Some send →
     asked what (after_decision result clock t) ≡ after_decision result clock (asked what t)
 asked_ended Delete result clock t send ne is has = absurd (ne refl)
 asked_ended CancelSend (Refused TimedOut) clock t send ne is has = rw is refl
@@ -127,7 +127,7 @@ asked_ended CancelBoth Delivered clock t send ne is has = by send.receive refl
     by (Some receive) e = rw (has, is, e) refl
 
 -- of a deleted thread
-asked_decided : (what : What) (t : Thread) → (what ≡ Delete → ⊥) → t.phase ≡ Deleted → asked what (decided t) ≡ decided (asked what t)
+asked_decided : (what : OrderKind) (t : Thread) → (what ≡ Delete → ⊥) → t.phase ≡ Deleted → asked what (decided t) ≡ decided (asked what t)
 asked_decided CancelSend t ne is = rw is refl
 asked_decided CancelReceive t ne is = rw is refl
 asked_decided CancelBoth t ne is = rw is refl
@@ -150,19 +150,19 @@ ended_wish (Refused Nobody) clock t send has = cond_both (λ (u : Thread). u.can
 ended_wish (Refused Cancelled) clock t send has = cond_both (λ (u : Thread). u.cancel_send) false (is_alive t.phase) _ (decided t) refl refl
 ended_wish (Refused Dropped) clock t send has = cond_both (λ (u : Thread). u.cancel_send) false (is_alive t.phase) _ (decided t) refl refl
 
-pub send_asked : (what : What) (t : Thread) → (asked what t).send ≡ t.send
+pub send_asked : (what : OrderKind) (t : Thread) → (asked what t).send ≡ t.send
 send_asked CancelSend t = refl
 send_asked CancelReceive t = refl
 send_asked CancelBoth t = refl
 send_asked Delete t = refl
 
 -- A thread is asked while the answer to its send is under way: they agree again once it hears.
-pub asked_while_decided : {m : Machine} (what : What) (result : Result) (clock : ℕ) (world t : Thread) (send : Send) → t.send ≡ Some send →
+pub asked_while_decided : {m : Machine} (what : OrderKind) (result : Result) (clock : ℕ) (world t : Thread) (send : Send) → t.send ≡ Some send →
     t.order ≡ None → Suits t.phase (Some send) t.order → (AreTogether m → ⊥) → Agrees m world (after_decision result clock t) →
     Agrees m (asked what world) (after_decision result clock (asked what t))
 asked_while_decided {m = m} what result clock world t send has order suits split a = by what t.phase refl suits
   where
-    cancelled : (what : What) → (what ≡ Delete → ⊥) → (p : Phase) → t.phase ≡ p → Suits p (Some send) t.order →
+    cancelled : (what : OrderKind) → (what ≡ Delete → ⊥) → (p : Phase) → t.phase ≡ p → Suits p (Some send) t.order →
         Agrees m (asked what world) (after_decision result clock (asked what t))
     cancelled what ne Ready is s = cc
     cancelled what ne Sending is s =
@@ -176,7 +176,7 @@ asked_while_decided {m = m} what result clock world t send has order suits split
         ended_deleted result clock (asked what t) send (asked_phase what t ne ∙ is) (send_asked what t ∙ has) in
         subst (Agrees m (asked what world)) (ap (asked what) before ∙ asked_decided what t ne is ∙ sym after) (asked_agrees what world (after_decision result clock t) a)
 
-    by : (what : What) (p : Phase) → t.phase ≡ p → Suits p (Some send) t.order → Agrees m (asked what world) (after_decision result clock (asked what t))
+    by : (what : OrderKind) (p : Phase) → t.phase ≡ p → Suits p (Some send) t.order → Agrees m (asked what world) (after_decision result clock (asked what t))
     by Delete p is s =
         let after : after_decision result clock (asked Delete t) ≡ decided (asked Delete t) = ended_deleted result clock (asked Delete t) send refl has in
         let none = ended_none result clock t send has order in
@@ -193,7 +193,7 @@ asked_while_decided {m = m} what result clock world t send has order suits split
     by CancelBoth p is s = cancelled CancelBoth (λ e. cc) p is s
 
 -- So with the answer to its order.
-pub asked_obeyed : (what : What) (t : Thread) → (what ≡ Delete → ⊥) → (p : Phase) → t.phase ≡ p → Suits p None t.order → (order : Asked) →
+pub asked_obeyed : (what : OrderKind) (t : Thread) → (what ≡ Delete → ⊥) → (p : Phase) → t.phase ≡ p → Suits p None t.order → (order : PendingOrder) →
     t.order ≡ Some order → asked what (obeyed t) ≡ obeyed (asked what t)
 asked_obeyed Delete t ne p is s order has = absurd (ne refl)
 asked_obeyed CancelSend t ne Ordering is s order has = rw is refl

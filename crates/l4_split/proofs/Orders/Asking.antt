@@ -3,7 +3,7 @@ use Rattle.l4_model.proofs.Sends.{Status, status-asked}
 use Rattle.l4_split.proofs.Relation.Whereabouts.{where_then}
 use Rattle.std.proofs.Common.{◌≡◌, ℕ, Option, Some, None, List, [], ◌∷◌, refl, ap, sym, ◌∙◌, subst, inr, arith, ◌<◌, filter, length}
 use Rattle.std.specs.Prelude.{IfSome, ◌==◌, not, slice_index_or}
-use Rattle.l4_model.specs.Machine.{Machine, What, CancelSend, CancelReceive, CancelBoth, Delete}
+use Rattle.l4_model.specs.Machine.{Machine, OrderKind, CancelSend, CancelReceive, CancelBoth, Delete}
 use Rattle.l4_model.specs.World.{Thread, Send, is_alive, World, change, opening_thread}
 use Rattle.l4_model.specs.Effects.{asked, obeyed}
 use Rattle.l4_model.proofs.Chains.{cond_both}
@@ -35,7 +35,7 @@ use Rattle.l4_split.proofs.Frames.Going.{IsHere, home_is, put_other, sized_here}
 
 -- What is asked of a thread leaves its send and its order as they are.
 
-begun_asked : (what : What) (t : Thread) → (asked what t).context.begun ≡ t.context.begun
+begun_asked : (what : OrderKind) (t : Thread) → (asked what t).context.begun ≡ t.context.begun
 begun_asked what t = ap (λ (s : Status). s.begun) (status-asked what t)
 
 -- The world and home agree again, whatever letter is under way.
@@ -49,7 +49,7 @@ obeyed_deleted world t a = record {
   cancel_send = agrees_wish world (obeyed t) a ∙ cond_both (λ (u : Thread). u.cancel_send) t.cancel_send (is_alive t.phase) _ _ refl refl;
 }
 
-asked_learned : (m : Machine) (i : ℕ) (what : What) (v : View) → Known m i v →
+asked_learned : (m : Machine) (i : ℕ) (what : OrderKind) (v : View) → Known m i v →
     Agrees m (asked what v.world) (learned (locators v.mail) (at_home m i v).clock (asked what (at_home m i v).thread))
 asked_learned m i what v known = where_then m i v known
     (λ quiet none row a. seen (learned_is [] quiet) (asked_agrees what v.world t a))
@@ -74,14 +74,14 @@ asked_learned m i what v known = where_then m i v known
         Agrees m (asked what v.world) (learned (locators v.mail) clock (asked what t))
     seen is a = subst (Agrees m (asked what v.world)) (sym is) a
 
-    cancelled : (what : What) → (what ≡ Delete → ⊥) → IsOrdering m i (seats m i v) → Agrees m v.world (obeyed t) →
+    cancelled : (what : OrderKind) → (what ≡ Delete → ⊥) → IsOrdering m i (seats m i v) → Agrees m v.world (obeyed t) →
         Agrees m (asked what v.world) (obeyed (asked what t))
     cancelled what ne row a =
         subst (Agrees m (asked what v.world))
         (asked_obeyed what t ne t.phase refl (subst (λ o. Suits t.phase o t.order) row.no_send known.kept.at_home.good.suits) row.order row.has)
         (asked_agrees what v.world (obeyed t) a)
 
-    asked_while_obeyed : (what : What) → IsOrdering m i (seats m i v) → Agrees m v.world (obeyed t) → Agrees m (asked what v.world) (obeyed (asked what t))
+    asked_while_obeyed : (what : OrderKind) → IsOrdering m i (seats m i v) → Agrees m v.world (obeyed t) → Agrees m (asked what v.world) (obeyed (asked what t))
     asked_while_obeyed Delete row a =
         split_agrees (asked Delete v.world) (obeyed (asked Delete t)) (λ one. row.split (one row.target i)) (obeyed_deleted v.world t a)
     asked_while_obeyed CancelSend row a = cancelled CancelSend (λ e. cc) row a
@@ -90,7 +90,7 @@ asked_learned m i what v known = where_then m i v known
 
 -- All else that is kept of it
 
-asked_cause : (cause : Cause) (what : What) (clock : ℕ) (t : Thread) (send : Send) → IsCause cause clock t send → IsCause cause clock (asked what t) send
+asked_cause : (cause : Cause) (what : OrderKind) (clock : ℕ) (t : Thread) (send : Send) → IsCause cause clock t send → IsCause cause clock (asked what t) send
 asked_cause ByTimeout what clock t send h = h
 asked_cause ByCancel CancelSend clock t send h = rw h refl
 asked_cause ByCancel CancelReceive clock t send h = h
@@ -101,42 +101,42 @@ asked_cause ByDeletion CancelReceive clock t send h = h
 asked_cause ByDeletion CancelBoth clock t send h = h
 asked_cause ByDeletion Delete clock t send h = refl
 
-asked_causes : (cause : Cause) (what : What) (clock : ℕ) (t : Thread) (o : Option Send) → IfSome o (IsCause cause clock t) →
+asked_causes : (cause : Cause) (what : OrderKind) (clock : ℕ) (t : Thread) (o : Option Send) → IfSome o (IsCause cause clock t) →
     IfSome o (IsCause cause clock (asked what t))
 asked_causes cause what clock t None h = tt
 asked_causes cause what clock t (Some send) h = asked_cause cause what clock t send h
 
-asked_good : (what : What) (clock : ℕ) (t : Thread) → IsGood clock t → IsGood clock (asked what t)
+asked_good : (what : OrderKind) (clock : ℕ) (t : Thread) → IsGood clock t → IsGood clock (asked what t)
 asked_good CancelSend clock t g = record { suits = g.suits; sends = g.sends; receives = g.receives }
 asked_good CancelReceive clock t g = record { suits = g.suits; sends = g.sends; receives = g.receives }
 asked_good CancelBoth clock t g = record { suits = g.suits; sends = g.sends; receives = g.receives }
 asked_good Delete clock t g = deletes_good clock t g
 
 -- Its entry after it: a deleted thread is neither ready nor armed.
-abbrev pub asked_kept : What → ℕ → Kept → Kept
+abbrev pub asked_kept : OrderKind → ℕ → Kept → Kept
 asked_kept Delete j k = record k { thread = asked Delete k.thread; ready = []; armed = [] }
 asked_kept what j k = record k { thread = asked what k.thread }
 
-pub asked_at_home : (what : What) (j : ℕ) (k : Kept) → IsKeptAtHome j k → IsKeptAtHome j (asked_kept what j k)
+pub asked_at_home : (what : OrderKind) (j : ℕ) (k : Kept) → IsKeptAtHome j k → IsKeptAtHome j (asked_kept what j k)
 asked_at_home CancelSend j k h = record { good = asked_good CancelSend k.clock k.thread h.good; armed = h.armed; owes = h.owes }
 asked_at_home CancelReceive j k h = record { good = asked_good CancelReceive k.clock k.thread h.good; armed = h.armed; owes = h.owes }
 asked_at_home CancelBoth j k h = record { good = asked_good CancelBoth k.clock k.thread h.good; armed = h.armed; owes = h.owes }
 asked_at_home Delete j k h = record { good = asked_good Delete k.clock k.thread h.good; armed = inr refl; owes = deleted_owes k.owed }
 
-asked_ready : (what : What) (j : ℕ) (k : Kept) → k.ready ≡ readied k.thread.phase j [] →
+asked_ready : (what : OrderKind) (j : ℕ) (k : Kept) → k.ready ≡ readied k.thread.phase j [] →
     (asked_kept what j k).ready ≡ readied (asked_kept what j k).thread.phase j []
 asked_ready CancelSend j k h = h
 asked_ready CancelReceive j k h = h
 asked_ready CancelBoth j k h = h
 asked_ready Delete j k h = refl
 
-pub asked_thread : (what : What) (j : ℕ) (k : Kept) → (asked_kept what j k).thread ≡ asked what k.thread
+pub asked_thread : (what : OrderKind) (j : ℕ) (k : Kept) → (asked_kept what j k).thread ≡ asked what k.thread
 asked_thread CancelSend j k = refl
 asked_thread CancelReceive j k = refl
 asked_thread CancelBoth j k = refl
 asked_thread Delete j k = refl
 
-pub asked_stays_true : (what : What) (j : ℕ) (k : Kept) → StaysTrue k (asked_kept what j k)
+pub asked_stays_true : (what : OrderKind) (j : ℕ) (k : Kept) → StaysTrue k (asked_kept what j k)
 asked_stays_true CancelSend j k = record {
   deleted = λ gone. gone;
   begun = omega arith;
@@ -162,7 +162,7 @@ asked_stays_true Delete j k = record {
 
 -- Its view after it
 
-asked_matches : (m : Machine) (j : ℕ) (what : What) (v after : View) → after.world ≡ asked what v.world → after.mail ≡ v.mail →
+asked_matches : (m : Machine) (j : ℕ) (what : OrderKind) (v after : View) → after.world ≡ asked what v.world → after.mail ≡ v.mail →
     at_home m j after ≡ asked_kept what j (at_home m j v) → (at_home m j after).listed ≡ (at_home m j v).listed →
     (at_home m j after).clock ≡ (at_home m j v).clock →
     ((c : ℕ) → (c ≡ home m j → ⊥) → after.kept c ≡ v.kept c) → Matches m j v → Matches m j after
@@ -207,14 +207,14 @@ dropped_other : (l : Local) (j i : ℕ) → (j ≡ i → ⊥) → kept (relists 
 dropped_other l j i ne =
     ap (λ is. record (kept l i) { ready = is }) (filter_kept (λ k. i == k) (λ k. not (j == k)) (λ k is. of_other j i k ne is) l.lists.ready)
 
-pub asks_here : (what : What) (l : Local) (j : ℕ) → j < length l.threads → kept (asks what j l) j ≡ asked_kept what j (kept l j)
+pub asks_here : (what : OrderKind) (l : Local) (j : ℕ) → j < length l.threads → kept (asks what j l) j ≡ asked_kept what j (kept l j)
 asks_here CancelSend l j lt = changes_here l j (asked CancelSend) lt
 asks_here CancelReceive l j lt = changes_here l j (asked CancelReceive) lt
 asks_here CancelBoth l j lt = changes_here l j (asked CancelBoth) lt
 asks_here Delete l j lt =
     comes_here (relists (plain.dropped j) l) j (asked Delete) lt ∙ ap (λ (k : Kept). record k { thread = asked Delete k.thread; armed = [] }) (dropped_here l j)
 
-pub asks_other : (what : What) (l : Local) (j i : ℕ) → (j ≡ i → ⊥) → kept (asks what j l) i ≡ kept l i
+pub asks_other : (what : OrderKind) (l : Local) (j i : ℕ) → (j ≡ i → ⊥) → kept (asks what j l) i ≡ kept l i
 asks_other CancelSend l j i ne = changes_other l j i (asked CancelSend) ne
 asks_other CancelReceive l j i ne = changes_other l j i (asked CancelReceive) ne
 asks_other CancelBoth l j i ne = changes_other l j i (asked CancelBoth) ne
@@ -230,26 +230,26 @@ dropped_sized m j l z = record {
   listed = z.listed;
 }
 
-pub asks_sized : (m : Machine) (what : What) (j : ℕ) (except : List ℕ) (l : Local) → j < length m.threads → IsSized m l → IsSized m (asks what j l)
+pub asks_sized : (m : Machine) (what : OrderKind) (j : ℕ) (except : List ℕ) (l : Local) → j < length m.threads → IsSized m l → IsSized m (asks what j l)
 asks_sized m CancelSend j except l lt z = (changes_spares m j (j ∷ except) l (asked CancelSend) (first_about j except)).sized z
 asks_sized m CancelReceive j except l lt z = (changes_spares m j (j ∷ except) l (asked CancelReceive) (first_about j except)).sized z
 asks_sized m CancelBoth j except l lt z = (changes_spares m j (j ∷ except) l (asked CancelBoth) (first_about j except)).sized z
 asks_sized m Delete j except l lt z =
     (comes_spares m j (j ∷ except) (relists (plain.dropped j) l) (asked Delete) lt (first_about j except)).sized (dropped_sized m j l z)
 
-pub asks_clock : (what : What) (l : Local) (j : ℕ) → (asks what j l).clock ≡ l.clock
+pub asks_clock : (what : OrderKind) (l : Local) (j : ℕ) → (asks what j l).clock ≡ l.clock
 asks_clock CancelSend l j = refl
 asks_clock CancelReceive l j = refl
 asks_clock CancelBoth l j = refl
 asks_clock Delete l j = refl
 
-pub asks_owed : (what : What) (l : Local) (j : ℕ) → (asks what j l).owed ≡ l.owed
+pub asks_owed : (what : OrderKind) (l : Local) (j : ℕ) → (asks what j l).owed ≡ l.owed
 asks_owed CancelSend l j = refl
 asks_owed CancelReceive l j = refl
 asks_owed CancelBoth l j = refl
 asks_owed Delete l j = refl
 
-pub asks_lists : (what : What) (l : Local) (j : ℕ) → (asks what j l).lists.waiting ≡ l.lists.waiting
+pub asks_lists : (what : OrderKind) (l : Local) (j : ℕ) → (asks what j l).lists.waiting ≡ l.lists.waiting
 asks_lists CancelSend l j = refl
 asks_lists CancelReceive l j = refl
 asks_lists CancelBoth l j = refl
@@ -259,7 +259,7 @@ pub kept_lists : (a b : Local) (j : ℕ) → a.lists.waiting ≡ b.lists.waiting
 kept_lists a b j e = ap (λ ess. λ r. filter (is_of j) (slice_index_or ess r [])) e
 
 -- All stays related where a thread of this processor is asked, in the world and here.
-pub asks_relates : (m : Machine) (cpu j : ℕ) (what : What) (except : List ℕ) (s : Scene) (w : World) (x : Work) → IsHere m cpu j →
+pub asks_relates : (m : Machine) (cpu j : ℕ) (what : OrderKind) (except : List ℕ) (s : Scene) (w : World) (x : Work) → IsHere m cpu j →
     Matches m j (view m (amid cpu s x) w j) → RelatesExcept m (Matches m) (j ∷ except) (amid cpu s x) w →
     RelatesExcept m (Matches m) except (amid cpu s (x ▷ does (asks what j))) (change w j (asked what))
 asks_relates m cpu j what except s w x here matches rel =

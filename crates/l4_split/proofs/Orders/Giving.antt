@@ -3,14 +3,14 @@ use Rattle.l4_model.proofs.Keeping.{order-asked}
 use Rattle.std.proofs.Common.{◌≡◌, ℕ, ◌<◌, Bool, true, false, cond, Option, Some, None, [], ◌∷◌, ◌++◌, length, refl, ap, sym, ◌∙◌, subst, arith}
 use Rattle.std.specs.Prelude.{◌==◌, not}
 use Rattle.std.proofs.lemmas.Bool.{eqb-true}
-use Rattle.l4_model.specs.Machine.{Machine, What, CancelSend, CancelReceive, CancelBoth, Delete, place_of}
-use Rattle.l4_model.specs.World.{Thread, World, Asked, Ordering, change, is_deleted, opening_thread}
+use Rattle.l4_model.specs.Machine.{Machine, OrderKind, CancelSend, CancelReceive, CancelBoth, Delete, place_of}
+use Rattle.l4_model.specs.World.{Thread, World, PendingOrder, Ordering, change, is_deleted, opening_thread}
 use Rattle.l4_split.proofs.Frames.Owes.{none_owed}
 use Rattle.l4_model.specs.Effects.{asked, orders, obeyed}
 use Rattle.l4_model.specs.History.{run}
 use Rattle.l4_model.specs.Rules.{Orders}
 use Rattle.l4_model.specs.Conditions.{act_of}
-use Rattle.l4_model.specs.Steps.{Order, Obey, what_code, order_of, next}
+use Rattle.l4_model.specs.Steps.{Order, Obey, order_kind_code, order_of, next}
 use Rattle.l4_model.proofs.Chains.{cond_both}
 use Rattle.l4_model.specs.Reached.{Suits}
 use Rattle.l4_core_model.specs.Letters.{Cause, OrderLetter, cause_of}
@@ -40,16 +40,16 @@ use Rattle.l4_split.proofs.Orders.Asking.{asks_other, asked_kept, asked_thread, 
 use Rattle.l4_split.proofs.Orders.Obeying.{obeys_relates, obeys_steps}
 use Rattle.l4_split.proofs.Orders.Ordered.{obeys_local, obeys_mail}
 
-abbrev given : Machine → ℕ → Asked → Work → Work
+abbrev given : Machine → ℕ → PendingOrder → Work → Work
 given m i order x = x ▷ does (comes_to i (orders order)) ▷ tells (Order (declared m i).id order.target order.what)
 
 -- The event has told that a thread of this processor gives an order, and all but that thread is related.
-pub record HasCalled (m : Machine) (cpu i : ℕ) (order : Asked) (s : Scene) (w : World) (y : Work) : Type 0 where
+pub record HasCalled (m : Machine) (cpu i : ℕ) (order : PendingOrder) (s : Scene) (w : World) (y : Work) : Type 0 where
   pub here : IsHere m cpu i
   pub goes : Goes m cpu s w (i ∷ []) y
   pub calls : IsCalling m i order (view m (amid cpu s y) goes.now i)
 
-calls_goes : (m : Machine) (cpu i : ℕ) (order : Asked) (s : Scene) (w : World) (x : Work) → (e : Goes m cpu s w (i ∷ []) x) → IsPicked m cpu i s x e.now →
+calls_goes : (m : Machine) (cpu i : ℕ) (order : PendingOrder) (s : Scene) (w : World) (x : Work) → (e : Goes m cpu s w (i ∷ []) x) → IsPicked m cpu i s x e.now →
     act_of m (held m x.local i) ≡ Orders order → HasCalled m cpu i order s w (given m i order x)
 calls_goes m cpu i order s w x e r act_is =
     let now = e.now in
@@ -66,7 +66,7 @@ calls_goes m cpu i order s w x e r act_is =
     let ready = r.ready in
     let asks_it = ap order_of act_is in
     let t0 = same_ids order.target in
-    let t1 = same_nat (what_code order.what) in
+    let t1 = same_nat (order_kind_code order.what) in
     let possible : next m now (Order (declared m i).id order.target order.what) ≡ Some u = rw (found_now, ready, asks_it, t0, t1) refl in
     let good = orders_good x.local.clock order (thread x.local i) ready running.good in
     let moves : Moves m i v after = record {
@@ -104,7 +104,7 @@ calls_goes m cpu i order s w x e r act_is =
     }
 
 -- To another processor's thread
-foreign_goes : (m : Machine) (cpu i j : ℕ) (order : Asked) (s : Scene) (w : World) (y : Work) → HasCalled m cpu i order s w y →
+foreign_goes : (m : Machine) (cpu i j : ℕ) (order : PendingOrder) (s : Scene) (w : World) (y : Work) → HasCalled m cpu i order s w y →
     place_of m order.target ≡ Some j → (home m j ≡ cpu → ⊥) → Goes m cpu s w [] (posts (home m j) (OrderLetter (declared m i).id order.target order.what) y)
 foreign_goes m cpu i j order s w y h at away =
     let e = h.goes in
@@ -155,11 +155,11 @@ foreign_goes m cpu i j order s w y h at away =
 -- To a thread of this processor
 
 -- What the caller is after its target has obeyed, and that all else is related
-pub record HasObeyed (m : Machine) (cpu i j : ℕ) (order : Asked) (s : Scene) (w : World) (y : Work) : Type 0 where
+pub record HasObeyed (m : Machine) (cpu i j : ℕ) (order : PendingOrder) (s : Scene) (w : World) (y : Work) : Type 0 where
   pub relates : RelatesExcept m (Matches m) (i ∷ []) (amid cpu s (obeys m cpu (declared m i).id order.what j y)) (change w j (asked order.what))
   pub calls : IsCalling m i order (view m (amid cpu s (obeys m cpu (declared m i).id order.what j y)) (change w j (asked order.what)) i)
 
-own_goes : (m : Machine) (cpu i j : ℕ) (order : Asked) (s : Scene) (w : World) (y : Work) → (h : HasCalled m cpu i order s w y) →
+own_goes : (m : Machine) (cpu i j : ℕ) (order : PendingOrder) (s : Scene) (w : World) (y : Work) → (h : HasCalled m cpu i order s w y) →
     place_of m order.target ≡ Some j → HasObeyed m cpu i j order s h.goes.now y →
     Goes m cpu s w [] (y ▷ obeys m cpu (declared m i).id order.what j ▷ does (comes_to i obeyed))
 own_goes m cpu i j order s w y h at o =
@@ -178,7 +178,7 @@ own_goes m cpu i j order s w y h at o =
       relates = obeyed_here m cpu i order s (change now j (asked order.what)) z h.here o.calls o.relates;
     }
 
-other_obeyed : (m : Machine) (cpu i j : ℕ) (order : Asked) (s : Scene) (w : World) (y : Work) → (h : HasCalled m cpu i order s w y) → IsHere m cpu j →
+other_obeyed : (m : Machine) (cpu i j : ℕ) (order : PendingOrder) (s : Scene) (w : World) (y : Work) → (h : HasCalled m cpu i order s w y) → IsHere m cpu j →
     (j ≡ i → ⊥) → HasObeyed m cpu i j order s h.goes.now y
 other_obeyed m cpu i j order s w y h target ne =
     let now = h.goes.now in
@@ -200,7 +200,7 @@ other_obeyed m cpu i j order s w y h target ne =
 -- To itself
 
 -- It has no send to withdraw.
-self_work : (m : Machine) (cpu i : ℕ) (what : What) (y : Work) → (thread (asks what i y.local) i).send ≡ None →
+self_work : (m : Machine) (cpu i : ℕ) (what : OrderKind) (y : Work) → (thread (asks what i y.local) i).send ≡ None →
     obeys m cpu (declared m i).id what i y ≡ (y ▷ tells (Obey (declared m i).id) ▷ does (asks what i))
 self_work m cpu i what y none =
     let z : Work = y ▷ tells (Obey (declared m i).id) ▷ does (asks what i) in
@@ -210,13 +210,13 @@ self_work m cpu i what y none =
     for z None none = refl
     for z (Some cause) none = ap (λ o. withdraws m cause i (split_receiver m cpu o) z) none
 
-asked_out : (what : What) (i : ℕ) (k : Kept) → k.ready ≡ [] → (asked_kept what i k).ready ≡ []
+asked_out : (what : OrderKind) (i : ℕ) (k : Kept) → k.ready ≡ [] → (asked_kept what i k).ready ≡ []
 asked_out CancelSend i k h = h
 asked_out CancelReceive i k h = h
 asked_out CancelBoth i k h = h
 asked_out Delete i k h = refl
 
-self_obeyed : (m : Machine) (cpu i : ℕ) (order : Asked) (s : Scene) (w : World) (y : Work) → (h : HasCalled m cpu i order s w y) →
+self_obeyed : (m : Machine) (cpu i : ℕ) (order : PendingOrder) (s : Scene) (w : World) (y : Work) → (h : HasCalled m cpu i order s w y) →
     HasObeyed m cpu i i order s h.goes.now y
 self_obeyed m cpu i order s w y h =
     let now = h.goes.now in
@@ -277,7 +277,7 @@ self_obeyed m cpu i order s w y h =
     }
 
 -- An order, wherever its target is
-pub gives_goes : (m : Machine) (cpu i : ℕ) (s : Scene) (w : World) (x : Work) → (e : Goes m cpu s w (i ∷ []) x) → IsPicked m cpu i s x e.now → (order : Asked) →
+pub gives_goes : (m : Machine) (cpu i : ℕ) (s : Scene) (w : World) (x : Work) → (e : Goes m cpu s w (i ∷ []) x) → IsPicked m cpu i s x e.now → (order : PendingOrder) →
     act_of m (held m x.local i) ≡ Orders order → Goes m cpu s w [] (gives_order m cpu i order x)
 gives_goes m cpu i s w x e r order act_is = by (place_of m order.target) refl
   where

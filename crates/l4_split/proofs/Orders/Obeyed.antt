@@ -3,7 +3,7 @@ use Rattle.std.proofs.Common.{◌≡◌, ℕ, false, Option, Some, None, [], ◌
 use Rattle.std.specs.Prelude.{◌||◌}
 use Rattle.l4_model.specs.Words.{GlobalId}
 use Rattle.l4_model.specs.Machine.{Machine, place_of}
-use Rattle.l4_model.specs.World.{Thread, World, Send, Asked, Phase, Ready, Sending, Receiving, Ordering, Ended, Deleted, change, is_alive, is_deleted, Owed}
+use Rattle.l4_model.specs.World.{Thread, World, Send, PendingOrder, Phase, Ready, Sending, Receiving, Ordering, Ended, Deleted, change, is_alive, is_deleted, Owed}
 use Rattle.l4_model.specs.Effects.{obeyed}
 use Rattle.l4_model.proofs.Chains.{bind_then, guard_then, some_is, cond_both, cond_keeps}
 use Rattle.l4_model.specs.Reached.{Suits}
@@ -52,7 +52,7 @@ obeyed_fresh clock t = cond_keeps (λ (u : Thread). IsFresh clock u.phase u.send
     (λ gone. caller_fresh clock t.phase t.send gone)
 
 -- A caller beside which a retarget is owed is deleted, and stays so.
-obeyed_owes : (t : Thread) (order : Asked) (owed : Option Owed) → Suits t.phase t.send (Some order) → OwesIn t.phase owed → OwesIn (obeyed t).phase owed
+obeyed_owes : (t : Thread) (order : PendingOrder) (owed : Option Owed) → Suits t.phase t.send (Some order) → OwesIn t.phase owed → OwesIn (obeyed t).phase owed
 obeyed_owes t order None suits owes = tt
 obeyed_owes t order (Some o) suits owes = by t.phase refl suits owes
   where
@@ -64,7 +64,7 @@ obeyed_owes t order (Some o) suits owes = by t.phase refl suits owes
     by Ended is s h = absurd h
     by Deleted is s h = let gone = obeyed_deleted t is in rw gone tt
 
-pub caller_unready : (i : ℕ) (p : Phase) (send : Option Send) (order : Asked) → Suits p send (Some order) → readied p i [] ≡ []
+pub caller_unready : (i : ℕ) (p : Phase) (send : Option Send) (order : PendingOrder) → Suits p send (Some order) → readied p i [] ≡ []
 caller_unready i Ready send order s = cc
 caller_unready i Sending send order s = refl
 caller_unready i (Receiving receive since) send order s = refl
@@ -136,7 +136,7 @@ handles_order_done m from cpu letter s w x caller h content is =
 -- Where the target is of the same processor, the order is done in the event that gives it.
 
 -- A thread of this processor that has given an order, which is neither done nor under way
-pub record IsCalling (m : Machine) (i : ℕ) (order : Asked) (v : View) : Type 0 where
+pub record IsCalling (m : Machine) (i : ℕ) (order : PendingOrder) (v : View) : Type 0 where
   pub kept : IsKept m i v
   pub out : (at_home m i v).ready ≡ []
   pub send : (at_home m i v).thread.send ≡ None
@@ -146,7 +146,7 @@ pub record IsCalling (m : Machine) (i : ℕ) (order : Asked) (v : View) : Type 0
   pub agrees : Agrees m v.world (at_home m i v).thread
 
 -- Its order is done: it goes on.
-pub obeyed_here : (m : Machine) (cpu i : ℕ) (order : Asked) (s : Scene) (w : World) (x : Work) → IsHere m cpu i →
+pub obeyed_here : (m : Machine) (cpu i : ℕ) (order : PendingOrder) (s : Scene) (w : World) (x : Work) → IsHere m cpu i →
     IsCalling m i order (view m (amid cpu s x) w i) → RelatesExcept m (Matches m) (i ∷ []) (amid cpu s x) w →
     RelatesExcept m (Matches m) [] (amid cpu s (x ▷ does (comes_to i obeyed))) (change w i obeyed)
 obeyed_here m cpu i order s w x here c rel =

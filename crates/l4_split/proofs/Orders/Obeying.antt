@@ -4,7 +4,7 @@ use Rattle.l4_model.proofs.Lists.{or_right}
 use Rattle.std.proofs.Common.{◌≡◌, ℕ, ◌<◌, true, false, Option, Some, None, List, [], ◌∷◌, ◌++◌, length, refl, ap, sym, ◌∙◌, subst, arith}
 use Rattle.std.specs.Prelude.{IfSome}
 use Rattle.l4_model.specs.Words.{GlobalId}
-use Rattle.l4_model.specs.Machine.{Machine, What, CancelSend, CancelReceive, CancelBoth, Delete}
+use Rattle.l4_model.specs.Machine.{Machine, OrderKind, CancelSend, CancelReceive, CancelBoth, Delete}
 use Rattle.l4_model.specs.World.{Thread, World, Send, Phase, Ready, Sending, Receiving, Ordering, Ended, Deleted, change, is_deleted}
 use Rattle.l4_model.specs.Effects.{asked}
 use Rattle.l4_model.proofs.Chains.{cond_both, cond_keeps, some_is}
@@ -24,7 +24,7 @@ use Rattle.l4_split.proofs.Letters.Noticing.{withdraws_relates, withdraws_steps}
 use Rattle.l4_split.proofs.Orders.Asking.{asked_thread, asks_here, asks_relates}
 
 -- Why the send of a living thread that was asked is withdrawn is true.
-wished : (p : Phase) (t : Thread) (o : Option Send) → t.phase ≡ p → t.send ≡ o → is_deleted p ≡ false → Suits p o t.order → (what : What) (cause : Cause) →
+wished : (p : Phase) (t : Thread) (o : Option Send) → t.phase ≡ p → t.send ≡ o → is_deleted p ≡ false → Suits p o t.order → (what : OrderKind) (cause : Cause) →
     cause_of what ≡ Some cause → (clock : ℕ) → IfSome o (IsCause cause clock (asked what t))
 wished p t None is has alive suits what cause why clock = tt
 wished Ready t (Some send) is has alive suits what cause why clock = cc
@@ -39,7 +39,7 @@ wished Sending t (Some send) is has alive suits CancelBoth cause why clock =
     subst (λ c. IsCause c clock (asked CancelBoth t) send) (some_is ByCancel cause why) (rw is (or_right t.cancel_send true refl))
 wished Sending t (Some send) is has alive suits Delete cause why clock = subst (λ c. IsCause c clock (asked Delete t) send) (some_is ByDeletion cause why) refl
 
-withdraws_for_relates : (m : Machine) (cpu j : ℕ) (what : What) (o : Option Cause) (except : List ℕ) (s : Scene) (w : World) (y : Work) → cause_of what ≡ o →
+withdraws_for_relates : (m : Machine) (cpu j : ℕ) (what : OrderKind) (o : Option Cause) (except : List ℕ) (s : Scene) (w : World) (y : Work) → cause_of what ≡ o →
     IsHere m cpu j → RelatesExcept m (Matches m) except (amid cpu s y) w → NotIn j except →
     ((cause : Cause) → cause_of what ≡ Some cause → IfSome (thread y.local j).send (IsCause cause y.local.clock (thread y.local j))) →
     RelatesExcept m (Matches m) except (amid cpu s (withdraws_for m cpu j o y)) w
@@ -47,7 +47,7 @@ withdraws_for_relates m cpu j what None except s w y is here rel out just = rel
 withdraws_for_relates m cpu j what (Some cause) except s w y is here rel out just = withdraws_relates m cpu j cause except s w y here rel out (just cause is)
 
 -- The target of an order obeys.
-pub obeys_relates : (m : Machine) (cpu j : ℕ) (caller : GlobalId) (what : What) (except : List ℕ) (s : Scene) (w : World) (x : Work) → IsHere m cpu j →
+pub obeys_relates : (m : Machine) (cpu j : ℕ) (caller : GlobalId) (what : OrderKind) (except : List ℕ) (s : Scene) (w : World) (x : Work) → IsHere m cpu j →
     NotIn j except → RelatesExcept m (Matches m) except (amid cpu s x) w →
     RelatesExcept m (Matches m) except (amid cpu s (obeys m cpu caller what j x)) (change w j (asked what))
 obeys_relates m cpu j caller what except s w x here out rel =
@@ -71,7 +71,7 @@ obeys_relates m cpu j caller what except s w x here out rel =
     (subst (λ o. IfSome o (IsCause cause y.local.clock (asked what (thread x.local j)))) (sym (send_asked what (thread x.local j)))
     (wished (thread x.local j).phase (thread x.local j) (thread x.local j).send refl refl alive good.suits what cause why y.local.clock))))
 
-pub obeys_steps : (m : Machine) (cpu j : ℕ) (caller : GlobalId) (what : What) (x : Work) → (obeys m cpu caller what j x).steps ≡ x.steps ++ Obey caller ∷ []
+pub obeys_steps : (m : Machine) (cpu j : ℕ) (caller : GlobalId) (what : OrderKind) (x : Work) → (obeys m cpu caller what j x).steps ≡ x.steps ++ Obey caller ∷ []
 obeys_steps m cpu j caller what x =
     let y : Work = x ▷ tells (Obey caller) ▷ does (asks what j) in
     cond_both (λ (a : Work). a.steps) (x.steps ++ Obey caller ∷ []) (is_deleted (thread x.local j).phase) y (withdraws_for m cpu j (cause_of what) y) refl

@@ -2,8 +2,8 @@
 use Rattle.std.proofs.Common.{◌≡◌, ℕ, ◌<◌, Option, Some, None, [], ◌∷◌, ◌++◌, filter, length, refl, ap, sym, ◌∙◌, subst, arith}
 use Rattle.std.specs.Prelude.{not}
 use Rattle.l4_model.specs.Words.{GlobalId}
-use Rattle.l4_model.specs.Machine.{Machine, What, place_of}
-use Rattle.l4_model.specs.World.{Thread, World, Asked, Phase, Ready, Sending, Receiving, Ordering, Ended, Deleted, change, is_deleted, opening_thread}
+use Rattle.l4_model.specs.Machine.{Machine, OrderKind, place_of}
+use Rattle.l4_model.specs.World.{Thread, World, PendingOrder, Phase, Ready, Sending, Receiving, Ordering, Ended, Deleted, change, is_deleted, opening_thread}
 use Rattle.l4_model.specs.Effects.{asked, obeyed}
 use Rattle.l4_model.specs.History.{run}
 use Rattle.l4_model.specs.Steps.{Obey, next}
@@ -35,7 +35,7 @@ use Rattle.l4_split.proofs.Orders.Asking.{asks_other}
 use Rattle.l4_split.proofs.Orders.Obeying.{obeys_relates, obeys_steps}
 
 -- The caller goes on, in the world; home hears of it later.
-obeyed_by_phase : (world t : Thread) (order : Asked) → t.order ≡ Some order → Suits t.phase t.send (Some order) → AgreesByPhase world t →
+obeyed_by_phase : (world t : Thread) (order : PendingOrder) → t.order ≡ Some order → Suits t.phase t.send (Some order) → AgreesByPhase world t →
     AgreesByPhase (obeyed world) (obeyed t)
 obeyed_by_phase world t order has suits a = by t.phase refl suits a
   where
@@ -60,7 +60,7 @@ obeyed_by_phase world t order has suits a = by t.phase refl suits a
         (subst (AgreesByPhase (record world { order = None })) (sym v)
         (subst (λ p. AgreesIn p (record world { order = None }) (record t { order = None })) (sym is) left))
 
-pub obeyed_agrees : {m : Machine} (world t : Thread) (order : Asked) → t.order ≡ Some order → Suits t.phase t.send (Some order) → Agrees m world t →
+pub obeyed_agrees : {m : Machine} (world t : Thread) (order : PendingOrder) → t.order ≡ Some order → Suits t.phase t.send (Some order) → Agrees m world t →
     Agrees m (obeyed world) (obeyed t)
 obeyed_agrees world t order has suits a = record {
   by_phase = obeyed_by_phase world t order has suits a.by_phase;
@@ -69,7 +69,7 @@ obeyed_agrees world t order has suits a = record {
 
 -- Of another thread than the target nothing changes.
 
-pub obeys_local : (m : Machine) (cpu j : ℕ) (caller : GlobalId) (what : What) (x : Work) → (obeys m cpu caller what j x).local ≡ asks what j x.local
+pub obeys_local : (m : Machine) (cpu j : ℕ) (caller : GlobalId) (what : OrderKind) (x : Work) → (obeys m cpu caller what j x).local ≡ asks what j x.local
 obeys_local m cpu j caller what x =
     let y : Work = x ▷ tells (Obey caller) ▷ does (asks what j) in
     cond_both (λ (a : Work). a.local) (asks what j x.local) (is_deleted (thread x.local j).phase) y (withdraws_for m cpu j (cause_of what) y) refl
@@ -83,7 +83,7 @@ obeys_local m cpu j caller what x =
     for None y = refl
     for (Some cause) y = go cause (split_place m cpu y.local j) y
 
-pub obeys_mail : (m : Machine) (cpu j i : ℕ) (caller : GlobalId) (what : What) (s : Scene) (x : Work) → place_of m (declared m j).id ≡ Some j → (j ≡ i → ⊥) →
+pub obeys_mail : (m : Machine) (cpu j i : ℕ) (caller : GlobalId) (what : OrderKind) (s : Scene) (x : Work) → place_of m (declared m j).id ≡ Some j → (j ≡ i → ⊥) →
     filter (is_about m i) (amid cpu s (obeys m cpu caller what j x)).mail ≡ filter (is_about m i) (amid cpu s x).mail
 obeys_mail m cpu j i caller what s x placed ne =
     let y : Work = x ▷ tells (Obey caller) ▷ does (asks what j) in
@@ -104,12 +104,12 @@ obeys_mail m cpu j i caller what s x placed ne =
 
 -- The letter
 
-order_letter : (caller target : GlobalId) (what : What) (id : GlobalId) (order : Asked) →
+order_letter : (caller target : GlobalId) (what : OrderKind) (id : GlobalId) (order : PendingOrder) →
     OrderLetter caller target what ≡ OrderLetter id order.target order.what → (target ≡ order.target) × (what ≡ order.what)
 order_letter caller target what id order h = (cc, cc)
 
 -- The order of another processor's thread is obeyed, and the answer is posted: in the world its caller goes on at once.
-order_goes : (m : Machine) (cpu i j : ℕ) (s : Scene) (w : World) (x : Work) (before : View) (p : Posted) (caller target : GlobalId) (what : What) →
+order_goes : (m : Machine) (cpu i j : ℕ) (s : Scene) (w : World) (x : Work) (before : View) (p : Posted) (caller target : GlobalId) (what : OrderKind) →
     IsHere m cpu j → i < length m.threads → (home m i ≡ cpu → ⊥) → place_of m caller ≡ Some i → place_of m target ≡ Some j → p.to ≡ cpu →
     p.letter.content ≡ OrderLetter caller target what →
     IsReached m w → IsTakenOut m i before (view m (amid cpu s x) w i) p → RelatesExcept m (Matches m) (i ∷ []) (amid cpu s x) w → x.steps ≡ [] →
@@ -189,7 +189,7 @@ order_goes m cpu i j s w x before p caller target what here lt away at_i at_j to
     }
 
 -- The letter of an order is handled.
-pub handles_order : (m : Machine) (from cpu : ℕ) (letter : Letter) (s : Scene) (w : World) (x : Work) (caller target : GlobalId) (what : What) →
+pub handles_order : (m : Machine) (from cpu : ℕ) (letter : Letter) (s : Scene) (w : World) (x : Work) (caller target : GlobalId) (what : OrderKind) →
     IsLetter m from cpu letter s w → letter.content ≡ OrderLetter caller target what →
     handled m cpu (OrderLetter caller target what) (at_work cpu letter s) ≡ Some x → Goes m cpu (without from cpu s) w [] x
 handles_order m from cpu letter s w x caller target what h content is =

@@ -3,8 +3,8 @@ use Rattle.l4_split.proofs.Lists.{all_true}
 use Rattle.std.proofs.Common.{◌≡◌, ℕ, ◌<◌, true, false, Option, Some, None, [], length, refl, ap, sym, ◌∙◌, subst, inl, inr, ◌⊎◌, arith}
 use Rattle.std.proofs.lemmas.Bool.{eqb-true}
 use Rattle.l4_model.specs.Words.{GlobalId}
-use Rattle.l4_model.specs.Machine.{Machine, What, CancelSend, CancelReceive, CancelBoth, Delete, place_of}
-use Rattle.l4_model.specs.World.{Asked, Thread, Ordering, Deleted, is_ready, is_deleted, is_alive}
+use Rattle.l4_model.specs.Machine.{Machine, OrderKind, CancelSend, CancelReceive, CancelBoth, Delete, place_of}
+use Rattle.l4_model.specs.World.{PendingOrder, Thread, Ordering, Deleted, is_ready, is_deleted, is_alive}
 use Rattle.l4_model.specs.Steps.{Order, Obey}
 use Rattle.l4_model.specs.Effects.{asked, orders, obeyed}
 use Rattle.l4_model.proofs.Chains.{cond_both, cond_keeps}
@@ -40,18 +40,18 @@ obeyed_keeps m cpu i s x processor here (inr dead) p =
     (sym (cond_both (λ (a : Thread). a.context.begun) t.context.begun (is_alive t.phase) _ _ refl refl)) p
 
 -- What is asked of a thread leaves the caller waiting, or deletes it.
-asks_asked : (what : What) (i j : ℕ) (l : Local) → i < length l.threads → (thread l i).phase ≡ Ordering → HasAsked (thread (asks what j l) i)
+asks_asked : (what : OrderKind) (i j : ℕ) (l : Local) → i < length l.threads → (thread l i).phase ≡ Ordering → HasAsked (thread (asks what j l) i)
 asks_asked what i j l lt is = same_or_apart (HasAsked (thread (asks what j l) i)) i j
     (λ e. subst (λ j. HasAsked (thread (asks what j l) i)) e (by what))
     (λ ne. other what ne)
   where
-    by : (what : What) → HasAsked (thread (asks what i l) i)
+    by : (what : OrderKind) → HasAsked (thread (asks what i l) i)
     by CancelSend = inl (ap (λ (k : Kept). k.thread.phase) (changes_here l i (asked CancelSend) lt) ∙ is)
     by CancelReceive = inl (ap (λ (k : Kept). k.thread.phase) (changes_here l i (asked CancelReceive) lt) ∙ is)
     by CancelBoth = inl (ap (λ (k : Kept). k.thread.phase) (changes_here l i (asked CancelBoth) lt) ∙ is)
     by Delete = inr (ap (λ (k : Kept). k.thread.phase) (comes_here (relists (plain.dropped i) l) i (asked Delete) lt))
 
-    other : (what : What) → (i ≡ j → ⊥) → HasAsked (thread (asks what j l) i)
+    other : (what : OrderKind) → (i ≡ j → ⊥) → HasAsked (thread (asks what j l) i)
     other CancelSend ne = inl (ap (λ (k : Kept). k.thread.phase) (changes_other l j i (asked CancelSend) (λ e. ne (sym e))) ∙ is)
     other CancelReceive ne = inl (ap (λ (k : Kept). k.thread.phase) (changes_other l j i (asked CancelReceive) (λ e. ne (sym e))) ∙ is)
     other CancelBoth ne = inl (ap (λ (k : Kept). k.thread.phase) (changes_other l j i (asked CancelBoth) (λ e. ne (sym e))) ∙ is)
@@ -65,7 +65,7 @@ withdraws_local m cpu j (Some cause) x = by (split_place m cpu x.local j)
     by None = refl
     by (Some r) = refl
 
-obeys_asked : (m : Machine) (cpu i j : ℕ) (caller : GlobalId) (what : What) (x : Work) → i < length x.local.threads → (thread x.local i).phase ≡ Ordering →
+obeys_asked : (m : Machine) (cpu i j : ℕ) (caller : GlobalId) (what : OrderKind) (x : Work) → i < length x.local.threads → (thread x.local i).phase ≡ Ordering →
     HasAsked (thread (obeys m cpu caller what j x).local i)
 obeys_asked m cpu i j caller what x lt is =
     let y : Work = x ▷ tells (Obey caller) ▷ does (asks what j) in
@@ -74,7 +74,7 @@ obeys_asked m cpu i j caller what x lt is =
     (λ alive. subst (λ l. HasAsked (thread l i)) (sym (withdraws_local m cpu j (cause_of what) y)) (asks_asked what i j x.local lt is))
 
 -- An instruction gives an order.
-pub gives_keeps : (m : Machine) (cpu i : ℕ) (order : Asked) (s : Scene) (x : Work) → cpu < m.cpus → i < length m.threads → home m i ≡ cpu →
+pub gives_keeps : (m : Machine) (cpu i : ℕ) (order : PendingOrder) (s : Scene) (x : Work) → cpu < m.cpus → i < length m.threads → home m i ≡ cpu →
     is_ready (thread x.local i).phase ≡ true → StaysPromised m cpu s x → StaysPromised m cpu s (gives_order m cpu i order x)
 gives_keeps m cpu i order s x processor lt here ready p = by (place_of m order.target)
   where

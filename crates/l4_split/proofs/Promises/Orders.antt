@@ -3,7 +3,7 @@ use Rattle.l4_split.proofs.Lists.{all_true, other_is}
 use Rattle.std.proofs.Common.{◌≡◌, ℕ, ◌<◌, Bool, true, false, Option, Some, None, [], ◌∷◌, length, refl, ap, sym, ◌∙◌, subst, inr, arith}
 use Rattle.std.specs.Prelude.{◌||◌}
 use Rattle.l4_model.specs.Words.{GlobalId}
-use Rattle.l4_model.specs.Machine.{Machine, What, CancelSend, CancelReceive, CancelBoth, Delete}
+use Rattle.l4_model.specs.Machine.{Machine, OrderKind, CancelSend, CancelReceive, CancelBoth, Delete}
 use Rattle.l4_model.specs.World.{Send, Thread, Phase, Ready, Sending, Receiving, Ordering, Ended, Deleted, is_deleted, is_sending}
 use Rattle.l4_model.specs.Steps.{Obey}
 use Rattle.l4_model.specs.Effects.{asked, asked_send}
@@ -101,11 +101,11 @@ neither true b p q = cc
 send_calm : (t : Thread) → IsCalm t → IsCalm (asked_send t)
 send_calm t h unsent living = neither t.cancel_send (is_sending t.phase) (h unsent living) (not_sending t.phase unsent)
 
-abbrev asks_at : ℕ → What → GlobalId → Work → Work
+abbrev asks_at : ℕ → OrderKind → GlobalId → Work → Work
 asks_at j what caller x = x ▷ tells (Obey caller) ▷ does (asks what j)
 
 -- of a deleted thread
-asks_dead : (m : Machine) (cpu j : ℕ) (caller : GlobalId) (what : What) (s : Scene) (x : Work) → cpu < m.cpus → home m j ≡ cpu →
+asks_dead : (m : Machine) (cpu j : ℕ) (caller : GlobalId) (what : OrderKind) (s : Scene) (x : Work) → cpu < m.cpus → home m j ≡ cpu →
     (thread x.local j).phase ≡ Deleted → StaysPromised m cpu s x → StaysPromised m cpu s (asks_at j what caller x)
 asks_dead m cpu j caller CancelSend s x processor here dead p =
     changes_steady m cpu j s x (asked CancelSend) processor here (send_calm (thread x.local j))
@@ -132,7 +132,7 @@ asks_send m cpu j cause f s x processor here calm armed p =
     (armed (subst (IsArmedUnlessSplit m j) (ap (λ l. kept l j) (put_home m cpu j s x.local here)) (p.armed j lt tt))))
     (local_keeps m cpu (j ∷ []) s x (changes j f) processor (changes_harmless m cpu j [] x.local f here calm) (leaves_one m j [] (amid cpu s x) p))
 
-asks_living : (m : Machine) (cpu j : ℕ) (caller : GlobalId) (what : What) (s : Scene) (x : Work) → cpu < m.cpus → home m j ≡ cpu → StaysPromised m cpu s x →
+asks_living : (m : Machine) (cpu j : ℕ) (caller : GlobalId) (what : OrderKind) (s : Scene) (x : Work) → cpu < m.cpus → home m j ≡ cpu → StaysPromised m cpu s x →
     StaysPromised m cpu s (asks_at j what caller x ▷ withdraws_for m cpu j (cause_of what))
 asks_living m cpu j caller CancelSend s x processor here p =
     asks_send m cpu j ByCancel (asked CancelSend) s (x ▷ tells (Obey caller)) processor here (send_calm (thread x.local j)) (λ h. h) p
@@ -150,7 +150,7 @@ asks_living m cpu j caller Delete s x processor here p =
     (comes_harmless m cpu j [] y.local (asked Delete) here (λ h unsent living. absurd (living refl))) (leaves_one m j [] (amid cpu s y) q))
 
 -- The target of an order obeys.
-pub obeys_keeps : (m : Machine) (cpu j : ℕ) (caller : GlobalId) (what : What) (s : Scene) (x : Work) → cpu < m.cpus → home m j ≡ cpu → StaysPromised m cpu s x →
+pub obeys_keeps : (m : Machine) (cpu j : ℕ) (caller : GlobalId) (what : OrderKind) (s : Scene) (x : Work) → cpu < m.cpus → home m j ≡ cpu → StaysPromised m cpu s x →
     StaysPromised m cpu s (obeys m cpu caller what j x)
 obeys_keeps m cpu j caller what s x processor here p =
     cond_keeps (StaysPromised m cpu s) (is_deleted (thread x.local j).phase) (asks_at j what caller x)

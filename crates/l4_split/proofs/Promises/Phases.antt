@@ -1,6 +1,6 @@
 -- The phases that a thread comes to: a send that it still has is not to end there.
 use Rattle.std.proofs.Common.{◌≡◌, ℕ, true, false, Option, Some, None, refl, sym, ◌∙◌, subst, inl, inr}
-use Rattle.l4_model.specs.World.{Receive, Message, Send, Asked, Thread, Phase, Ready, Sending, Receiving, Ordering, Deleted, is_ready, is_alive}
+use Rattle.l4_model.specs.World.{Receive, Message, Send, PendingOrder, Thread, Phase, Ready, Sending, Receiving, Ordering, Deleted, is_ready, is_alive}
 use Rattle.l4_model.specs.Machine.{Instr, End}
 use Rattle.l4_model.specs.Effects.{phase_after, runs, begins, waits, fails, decided, refused, receives, goes_on, delivered, orders, obeyed}
 use Rattle.l4_model.proofs.Chains.{cond_both, cond_keeps}
@@ -53,7 +53,7 @@ begins_afresh send t ready = let free = ready_wishless t.phase ready in record {
   send = λ h. inr (h free.unsent free.alive, λ e. cc);
 }
 
-pub orders_afresh : (order : Asked) (t : Thread) → is_ready t.phase ≡ true → StartsAfresh t (orders order t)
+pub orders_afresh : (order : PendingOrder) (t : Thread) → is_ready t.phase ≡ true → StartsAfresh t (orders order t)
 orders_afresh order t ready = wishless_afresh t (orders order t) (ready_wishless t.phase ready) refl (λ e. cc)
 
 pub receives_afresh : (message : Message) (tag : ℕ) (t : Thread) → IsWishless t.phase → StartsAfresh t (receives message tag t)

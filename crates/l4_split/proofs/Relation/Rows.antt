@@ -3,7 +3,7 @@ use Rattle.std.specs.Prelude.{ℕ, ◌≤◌, ◌≡◌, ◌⊎◌, true, false,
 use Rattle.std.specs.List.{AllByRecursion}
 use Rattle.l4_model.specs.Words.{GlobalId}
 use Rattle.l4_model.specs.Machine.{Machine, place_of}
-use Rattle.l4_model.specs.World.{Name, Receive, Send, Asked, Owed, Phase, Ready, Receiving, Deleted, Thread, is_deleted}
+use Rattle.l4_model.specs.World.{Name, Receive, Send, PendingOrder, Owed, Phase, Ready, Receiving, Deleted, Thread, is_deleted}
 use Rattle.l4_model.specs.Conditions.{is_zero, has_passed}
 use Rattle.l4_model.specs.Effects.{obeyed}
 use Rattle.l4_core_model.specs.Plain as plain
@@ -67,7 +67,7 @@ name_of m i t = record { thread = (declared m i).id; k = t.context.begun }
 -- What the processors have of a thread's order and send: the order at home, and on each of them the send in the thread's entry, with
 -- its number, and the thread's entries in the list of each receiver.
 pub record Seats : Type 0 where
-  pub order : Option Asked
+  pub order : Option PendingOrder
   pub sent : (cpu : ℕ) → Option Send
   pub begun : (cpu : ℕ) → ℕ
   pub listed : (cpu receiver : ℕ) → List plain.Waiting
@@ -142,7 +142,7 @@ pub record IsDecided (m : Machine) (i : ℕ) (v : Seats) (p : Posted) (s : Name)
 -- It has an order for a thread of another processor.
 pub record IsOrdering (m : Machine) (i : ℕ) (v : Seats) : Type 0 where
   pub no_send : v.sent (home m i) ≡ None
-  pub order : Asked
+  pub order : PendingOrder
   pub has : v.order ≡ Some order
   pub target : ℕ
   pub place : place_of m order.target ≡ Some target

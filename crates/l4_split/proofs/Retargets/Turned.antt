@@ -4,7 +4,7 @@ use Rattle.std.specs.Prelude.{IfSome}
 use Rattle.std.specs.Option.{option_map}
 use Rattle.l4_model.specs.Words.{is_id_of}
 use Rattle.l4_model.specs.Machine.{Machine}
-use Rattle.l4_model.specs.World.{Thread, Send, Receive, Asked, Owed, Phase, Ready, Sending, Receiving, Ordering, Ended, Deleted}
+use Rattle.l4_model.specs.World.{Thread, Send, Receive, PendingOrder, Owed, Phase, Ready, Sending, Receiving, Ordering, Ended, Deleted}
 use Rattle.l4_model.specs.Effects.{obeyed, turned_receive, turned_send, turns_in, turns}
 use Rattle.l4_model.specs.Reached.{Suits}
 use Rattle.l4_model.proofs.Chains.{cond_both}
@@ -83,7 +83,7 @@ turned_while_decided {m = m} o result clock world t send has suits a = by t.phas
         (subst (Agrees m (turns o world)) (turns_deleted o (after_decision result clock t) gone) (turned_agrees o world (after_decision result clock t) a))
 
 -- So with the answer to its order.
-turned_while_obeyed : {m : Machine} (o : Owed) (world t : Thread) (order : Asked) → t.order ≡ Some order → Suits t.phase t.send (Some order) → Agrees m world (obeyed t) →
+turned_while_obeyed : {m : Machine} (o : Owed) (world t : Thread) (order : PendingOrder) → t.order ≡ Some order → Suits t.phase t.send (Some order) → Agrees m world (obeyed t) →
     Agrees m (turns o world) (obeyed (turns o t))
 turned_while_obeyed {m = m} o world t order has suits a = by t.phase refl suits
   where
@@ -149,7 +149,7 @@ turned_deadlines o i t = by t.phase refl
     by Ended is = refl
     by Deleted is = refl
 
-suits_turned : (o : Owed) (p : Phase) (send : Option Send) (order : Option Asked) → Suits p send order → Suits p (option_map (turned_send o) send) order
+suits_turned : (o : Owed) (p : Phase) (send : Option Send) (order : Option PendingOrder) → Suits p send order → Suits p (option_map (turned_send o) send) order
 suits_turned o Ready send order s = (ap (option_map (turned_send o)) s.0, s.1)
 suits_turned o Sending None order s = s
 suits_turned o Sending (Some send) order s = (refl, s.1)

@@ -1,7 +1,7 @@
 -- A send is decided on the processor where it is: its sender goes on, at once or by a letter.
 use Rattle.std.proofs.Common.{◌≡◌, ℕ, false, Option, Some, None, List, [], ◌∷◌, refl, ap, sym, ◌∙◌, subst, arith}
 use Rattle.l4_model.specs.Machine.{Machine}
-use Rattle.l4_model.specs.World.{Thread, World, Send, Asked, Owed, Receive, Phase, Ready, Sending, Receiving, Ordering, Ended, Deleted, change, unqueued, is_alive}
+use Rattle.l4_model.specs.World.{Thread, World, Send, PendingOrder, Owed, Receive, Phase, Ready, Sending, Receiving, Ordering, Ended, Deleted, change, unqueued, is_alive}
 use Rattle.l4_model.specs.Effects.{decided, goes_on}
 use Rattle.l4_model.proofs.Chains.{cond_both, cond_keeps}
 use Rattle.l4_model.specs.Reached.{Suits}
@@ -41,7 +41,7 @@ pub record IsSendAt (m : Machine) (cpu i : ℕ) (send : Send) (v : View) : Type 
   pub no_other : (c : ℕ) → (c ≡ home m i → ⊥) → (cpu ≡ c → ⊥) → (v.kept c).thread.send ≡ None
 
 -- A thread with an undecided send is in no ready list.
-pub sender_unready : (i : ℕ) (p : Phase) (send : Send) (order : Option Asked) → Suits p (Some send) order → readied p i [] ≡ []
+pub sender_unready : (i : ℕ) (p : Phase) (send : Send) (order : Option PendingOrder) → Suits p (Some send) order → readied p i [] ≡ []
 sender_unready i Ready send order s = cc
 sender_unready i Sending send order s = refl
 sender_unready i (Receiving receive since) send order s = refl

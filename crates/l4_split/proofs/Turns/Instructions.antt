@@ -3,7 +3,7 @@ use Rattle.l4_split.proofs.Relation.Whereabouts.{where_then, not_both}
 use Rattle.l4_model.proofs.Sends.{begun-ran}
 use Rattle.std.proofs.Common.{◌≡◌, ℕ, true, Option, Some, None, [], ◌∷◌, refl, ap, ◌∙◌, subst, arith, sym}
 use Rattle.l4_model.specs.Machine.{Machine, Instr, End}
-use Rattle.l4_model.specs.World.{Thread, World, Send, Receive, is_ready, Asked}
+use Rattle.l4_model.specs.World.{Thread, World, Send, Receive, is_ready, PendingOrder}
 use Rattle.l4_model.specs.Steps.{Local as RanLocal, Wait, runs_alone, receive_of}
 use Rattle.l4_model.specs.Conditions.{instruction, act_of, found}
 use Rattle.l4_model.specs.Effects.{runs, waits, phase_after, receives}
@@ -33,7 +33,7 @@ free_is m i v known no_send no_order = where_then m i v known
     (λ p is row agrees. no_other (sym row.orders.has ∙ no_order))
     (λ p caller is content row agrees. no_other (sym row.orders.has ∙ no_order))
   where
-    no_other : {P : Type 0} {order : Asked} → Some order ≡ None → P
+    no_other : {P : Type 0} {order : PendingOrder} → Some order ≡ None → P
     no_other h = cc
 
 -- What is known of a thread that runs: it was taken out of the ready ones.

@@ -10,7 +10,7 @@ ghost use Rattle.l4_core_model.specs.Local.{after_decision, is_gone_now, stand_i
 ghost use Rattle.l4_types.specs.Codes.{code_of};
 ghost use Rattle.l4_types.specs.Ids.{global_of};
 ghost use Rattle.l4_types.specs.PeriodView.{period_of, IsTimely};
-ghost use Rattle.l4_types.specs.StepView.{what_of};
+ghost use Rattle.l4_types.specs.StepView.{order_kind_of};
 ghost use Rattle.l4_types.specs.LetterView.{decision_of};
 ghost use Rattle.l4_script.specs.Scripts.{instr_of};
 ghost use Rattle.l4_thread.specs.Changes.{change_of, may_advance};
@@ -21,7 +21,7 @@ ghost use Rattle.l4_thread.specs.Partners.{owed_between, send_turned_from};
 ghost use Rattle.l4_thread.specs.Requests.{asks_to_send, is_end, receive_from};
 
 use crate::changes::Change;
-use crate::orders::Asked;
+use crate::orders::PendingOrder;
 use crate::phases::{Began, Phase};
 use crate::sends::{Head, Receive, Send, Words};
 use crate::tcb::Tcb;
@@ -33,7 +33,7 @@ use l4_types::ids::{GlobalId, ThreadId};
 use l4_types::letters::{Decision, Refusal};
 use l4_types::message_ref::MessageRef;
 use l4_types::messages::MOST_WORDS;
-use l4_types::steps::What;
+use l4_types::steps::OrderKind;
 use l4_types::tags::MsgTag;
 use l4_types::times::Period;
 
@@ -265,17 +265,18 @@ impl Tcb {
     /// Cancels a phase of it, or deletes it (manual: ExchangeRegisters, ThreadControl). `S` cancels
     /// a send phase, `R` a receive phase, also that of an Ipc that is still in its send phase.
     /// Where there is no such phase, a cancellation has no effect.
-    pub fn ask(&mut self, what: What)
-        ensures { self.new ≡ record self.old { thread = asked (what_of what) self.old.thread } }
+    pub fn ask(&mut self, what: OrderKind)
+        ensures { self.new ≡
+            record self.old { thread = asked (order_kind_of what) self.old.thread } }
     {
         match what {
-            What::CancelSend => self.ask_send(),
-            What::CancelReceive => self.ask_receive(),
-            What::CancelBoth => {
+            OrderKind::CancelSend => self.ask_send(),
+            OrderKind::CancelReceive => self.ask_receive(),
+            OrderKind::CancelBoth => {
                 self.ask_send();
                 self.ask_receive();
             }
-            What::Delete => {
+            OrderKind::Delete => {
                 self.phase = Phase::Deleted;
                 self.cancel_receive = false;
             }
@@ -311,7 +312,7 @@ impl Tcb {
     }
 
     /// Gives an order, and waits until that is done.
-    pub fn give_order(&mut self, order: Asked)
+    pub fn give_order(&mut self, order: PendingOrder)
         ensures { self.new ≡ record self.old { thread = orders order self.old.thread } }
     {
         self.phase = Phase::Ordering;

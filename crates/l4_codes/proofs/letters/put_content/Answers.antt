@@ -1,8 +1,8 @@
 use Rattle.l4_states.specs.Codes.{cause_code, content_code, flag_code, global_code, message_code, name_code, number_code, owed_code, result_code}
-use Rattle.l4_model.specs.Steps.{what_code}
+use Rattle.l4_model.specs.Steps.{order_kind_code}
 use Rattle.l4_types.specs.LetterView.{cause_of_withdrawal, content_of, decision_of}
 use Rattle.l4_types.specs.OwedView.{owed_of}
-use Rattle.l4_types.specs.StepView.{what_of}
+use Rattle.l4_types.specs.StepView.{order_kind_of}
 use Rattle.l4_types.specs.declared.letters.Content.{Content}
 use Rattle.std.proofs.Common.{ap, sym}
 use Rattle.l4_codes.proofs.Writing.{last, same_last, then}
@@ -64,18 +64,18 @@ returns-in_ok-put-in-Gone c =
 
 pub returns-in_ok-put_global-in-Order-2 : goal.returns-in_ok-put_global-in-Order-2
 returns-in_ok-put_global-in-Order-2 c =
-    same_last c.put_what.result (λ rest. number_code 4 (global_code c.in-Order.caller (global_code
-    c.in-Order.target (number_code (what_code (what_of c.in-Order.what)) rest)))) (content_code
-    (content_of c.args.content.now)) c.args.code.now c.put_what.new.code (λ rest. ap
+    same_last c.put_order_kind.result (λ rest. number_code 4 (global_code c.in-Order.caller (global_code
+    c.in-Order.target (number_code (order_kind_code (order_kind_of c.in-Order.what)) rest)))) (content_code
+    (content_of c.args.content.now)) c.args.code.now c.put_order_kind.new.code (λ rest. ap
     (λ (d : Content). content_code (content_of d) rest) (sym c.in-Order.is))
-    (last c.put_what.result (λ rest. number_code 4 (global_code c.in-Order.caller (global_code
-    c.in-Order.target rest))) (number_code (what_code (what_of c.in-Order.what))) c.args.code.now
-    c.put_global-in-Order-2.new.code c.put_what.new.code (then (λ rest. number_code 4 (global_code
+    (last c.put_order_kind.result (λ rest. number_code 4 (global_code c.in-Order.caller (global_code
+    c.in-Order.target rest))) (number_code (order_kind_code (order_kind_of c.in-Order.what))) c.args.code.now
+    c.put_global-in-Order-2.new.code c.put_order_kind.new.code (then (λ rest. number_code 4 (global_code
     c.in-Order.caller rest)) (global_code c.in-Order.target) c.args.code.now
     c.put_global-in-Order.new.code c.put_global-in-Order-2.new.code (then (number_code 4)
     (global_code c.in-Order.caller) c.args.code.now c.put-in-Order.new.self
     c.put_global-in-Order.new.code c.in_ok-put-in-Order.ensures c.in_ok-put_global-in-Order.ensures)
-    c.in_ok-put_global-in-Order-2.ensures) c.put_what.ensures)
+    c.in_ok-put_global-in-Order-2.ensures) c.put_order_kind.ensures)
 
 pub returns-in_ok-put-in-OrderDone : goal.returns-in_ok-put-in-OrderDone
 returns-in_ok-put-in-OrderDone c =

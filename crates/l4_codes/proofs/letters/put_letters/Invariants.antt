@@ -6,7 +6,7 @@ use Rattle.l4_states.specs.Codes.{chained, content_code}
 use Rattle.l4_codes.specs.Written.{with_numbers}
 use Rattle.l4_codes.proofs.letters.put_letters.Given as goal
 
--- With any others behind it, it is the code of those before them and these.
+-- With any other letters behind it, it is the code of those before them and of these.
 abbrev pub invariant-loop-letter : goal.invariant-loop-letter
 invariant-loop-letter l =
     (left : List Content) (rest : List ℕ) → with_numbers l.code (chained content_code left rest)

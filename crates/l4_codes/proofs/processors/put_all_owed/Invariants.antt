@@ -3,7 +3,7 @@ use Rattle.l4_states.specs.Codes.{each, optional, owed_code, sized}
 use Rattle.l4_codes.specs.Written.{with_numbers}
 use Rattle.l4_codes.proofs.processors.put_all_owed.Given as goal
 
--- With those that are left it is the code of all.
+-- With the threads that are left it is the code of all.
 abbrev pub invariant-loop-place : goal.invariant-loop-place
 invariant-loop-place l =
     (rest : List ℕ) →

@@ -3,7 +3,7 @@ use Rattle.l4_states.specs.Codes.{chained, number_code}
 use Rattle.l4_codes.specs.Written.{with_numbers}
 use Rattle.l4_codes.proofs.processors.put_ready.Given as goal
 
--- With those that are left it is the code of all.
+-- With the threads that are left it is the code of all.
 abbrev pub invariant-loop-block : goal.invariant-loop-block
 invariant-loop-block l =
     (rest : List ℕ) → with_numbers l.code (chained number_code l.block-iterator rest) ≡ with_numbers

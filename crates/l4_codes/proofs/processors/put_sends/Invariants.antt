@@ -4,7 +4,7 @@ use Rattle.l4_states.specs.Codes.{chained, waiting_code}
 use Rattle.l4_codes.specs.Written.{with_numbers}
 use Rattle.l4_codes.proofs.processors.put_sends.Given as goal
 
--- With those that are left it is the code of all.
+-- With the sends that are left it is the code of all.
 abbrev pub invariant-loop-send : goal.invariant-loop-send
 invariant-loop-send l =
     (rest : List ℕ) → with_numbers l.code (chained waiting_code l.send-iterator rest) ≡ with_numbers

@@ -3,7 +3,7 @@ use Rattle.l4_states.specs.Codes.{chained, each, sized, waiting_code}
 use Rattle.l4_codes.specs.Written.{with_numbers}
 use Rattle.l4_codes.proofs.processors.put_waiting.Given as goal
 
--- With those that are left it is the code of all.
+-- With the receivers that are left it is the code of all.
 abbrev pub invariant-loop-receiver : goal.invariant-loop-receiver
 invariant-loop-receiver l =
     (rest : List ℕ) →

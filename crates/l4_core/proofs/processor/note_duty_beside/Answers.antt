@@ -4,7 +4,7 @@ use Rattle.l4_core.proofs.Covering.{but-noted, but-unnoted}
 use Rattle.l4_core.proofs.processor.note_duty_beside.Goals as goal
 
 pub returns-then-may_have_duty : goal.returns-then-may_have_duty
-returns-then-may_have_duty c = but-noted c.args.duties.now c.note.new.duties _ _ _ c.args.place c.args.other c.requires.others c.requires.own c.note.ensures.put
+returns-then-may_have_duty c = but-noted c.args.duties.now c.insert_place.new.duties _ _ _ c.args.place c.args.other c.requires.others c.requires.own c.insert_place.ensures.put
 
 pub returns-else-may_have_duty : goal.returns-else-may_have_duty
 returns-else-may_have_duty c = but-unnoted c.args.duties.now _ _ _ c.args.place c.args.other c.requires.others (or_parts _ _ (sym c.may_have_duty.ensures ∙ c.if-may_have_duty.false)).1

@@ -10,7 +10,7 @@ use Rattle.l4_types.specs.declared.step_ref.DeliveryRef.{DeliveryRef}
 use Rattle.l4_types.specs.declared.steps.Step.{Step}
 use Rattle.l4_types.specs.declared.steps.Step.TheVariants.{Local, Begin, Queue, Deliver, Wait, SendTimeout, ReceiveTimeout, SendNobody, ReceiveNobody, SendCancel, ReceiveCancel, Drop, Order, Obey, Tick, Retarget}
 use Rattle.l4_types.specs.ClockTick.{ClockTick}
-use Rattle.l4_types.specs.StepView.{delivered, seen, what_of}
+use Rattle.l4_types.specs.StepView.{delivered, seen, order_kind_of}
 use Rattle.l4_counts.specs.declared.counts.Counts.{Counts}
 use Rattle.l4_counts.specs.Few.{AreFew}
 use Rattle.l4_counts.specs.Threads.{each_with_step, with_step_at}
@@ -111,7 +111,7 @@ returns-in-Local c =
     (⊎_elim (λ e. one_as t step (ReceiveTimeout t) e (of_receive_timeout t))
     (⊎_elim (λ e. one_as t step (ReceiveNobody t) e (of_receive_nobody t))
     (⊎_elim (λ e. one_as t step (ReceiveCancel t) e (of_receive_cancel t))
-    (λ e. one_as t step (Order t e.0 e.1) e.2 (of_order t e.0 (what_of e.1))))))) c.in-Local.is in
+    (λ e. one_as t step (Order t e.0 e.1) e.2 (of_order t e.0 (order_kind_of e.1))))))) c.in-Local.is in
     c.count_at-in-Local.ensures ∙ counted_one c.args.machine.now c.requires.lawful t (seen step) c.args.counts.now one c.requires.each
 
 -- Steps of nobody

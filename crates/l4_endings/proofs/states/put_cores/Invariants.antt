@@ -6,7 +6,7 @@ use Rattle.l4_states.specs.Codes.{each, local_code, sized}
 use Rattle.l4_codes.specs.Written.{with_numbers}
 use Rattle.l4_endings.proofs.states.put_cores.Given as goal
 
--- With those that are left it is the code of all.
+-- With the processors that are left it is the code of all.
 abbrev pub invariant-loop-cpu : goal.invariant-loop-cpu
 invariant-loop-cpu l =
     (m : Machine) (r : Run) → IsRun m r l.walk → (rest : List ℕ) →

@@ -6,7 +6,7 @@ use Rattle.l4_states.specs.Codes.{each, mail_code, mail_to_code}
 use Rattle.l4_codes.specs.Written.{with_numbers}
 use Rattle.l4_endings.proofs.states.put_mail.Given as goal
 
--- With those to the processors that are left it is the code of all.
+-- With the letters to the processors that are left it is the code of all.
 abbrev pub invariant-loop-to : goal.invariant-loop-to
 invariant-loop-to l =
     (m : Machine) (r : Run) → IsRun m r l.walk → (rest : List ℕ) →

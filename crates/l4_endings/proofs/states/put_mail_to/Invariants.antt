@@ -6,7 +6,7 @@ use Rattle.l4_states.specs.Codes.{each, mail_from_code, mail_to_code}
 use Rattle.l4_codes.specs.Written.{with_numbers}
 use Rattle.l4_endings.proofs.states.put_mail_to.Given as goal
 
--- With those of the posters that are left it is the code of all.
+-- With the letters of the posters that are left it is the code of all.
 abbrev pub invariant-loop-from : goal.invariant-loop-from
 invariant-loop-from l =
     (m : Machine) (r : Run) → IsRun m r l.walk → (rest : List ℕ) →

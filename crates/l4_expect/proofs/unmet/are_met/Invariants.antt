@@ -3,7 +3,7 @@ use Rattle.l4_expect.specs.Unmet.{are_met}
 use Rattle.l4_expect.specs.Views.{expected_of}
 use Rattle.l4_expect.proofs.unmet.are_met.Given as goal
 
--- It is to be seen of those that are left.
+-- The expectations that are left decide.
 abbrev pub invariant-loop-expected : goal.invariant-loop-expected
 invariant-loop-expected l =
     are_met l.report (map expected_of (drop l.expected-index l.expectations))

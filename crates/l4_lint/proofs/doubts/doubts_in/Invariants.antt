@@ -3,7 +3,7 @@ use Rattle.l4_lint.specs.Doubts.{doubts_from, lines_of}
 use Rattle.l4_lint.specs.Views.{doubtful_of}
 use Rattle.l4_lint.proofs.doubts.doubts_in.Given as goal
 
--- What was found and what is doubtful in the lines that are left are all doubts.
+-- What was found, and the doubts of the lines that are left, are all doubts.
 abbrev pub invariant-lines : goal.invariant-lines
 invariant-lines l = record {
   whole :

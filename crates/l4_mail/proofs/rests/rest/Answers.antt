@@ -7,4 +7,4 @@ use Rattle.l4_mail.proofs.rests.rest.Goals as goal
 pub list-requires : goal.list-requires
 list-requires c =
     let few = are_few c.args.ports.now (sym c.if-not-are_all.ensures) in
-    let len = same_length account c.settle.new.ports c.args.ports.now c.settle.ensures.same in omega arith
+    let len = same_length account c.rest_all.new.ports c.args.ports.now c.rest_all.ensures.same in omega arith

@@ -4,7 +4,7 @@ use Rattle.l4_machine.specs.Entries.{entry_from, first_stranger}
 use Rattle.l4_machine.proofs.Replays.{IsReplaying}
 use Rattle.l4_questions.proofs.closed.walk_along.Given as goal
 
--- It has come as far as the entries before the next one lead, and the others are of the machine.
+-- The walk is where the entries before the next one lead, and the others are of the machine.
 abbrev pub invariant-loop-entry : goal.invariant-loop-entry
 invariant-loop-entry l = record {
   run :

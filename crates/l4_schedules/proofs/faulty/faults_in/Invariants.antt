@@ -5,7 +5,7 @@ use Rattle.l4_schedules.specs.Items.{items_of}
 use Rattle.l4_schedules.specs.Views.{fault_of}
 use Rattle.l4_schedules.proofs.faulty.faults_in.Given as goal
 
--- What was found, and what the items that are left have.
+-- What was found, and the faults of the items that are left, are all faults.
 abbrev pub invariant-loop-item : goal.invariant-loop-item
 invariant-loop-item l = record {
   whole :

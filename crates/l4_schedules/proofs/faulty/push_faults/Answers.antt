@@ -6,7 +6,7 @@ use Rattle.l4_schedules.specs.Faulty.{fault_line, faults_text}
 use Rattle.l4_schedules.specs.Views.{fault_of}
 use Rattle.l4_schedules.proofs.faulty.push_faults.Goals as goal
 
--- One more is the last of them.
+-- The line of one more fault comes last.
 
 abbrev told : List ItemFault → List ℕ
 told found = faults_text (map fault_of found)

@@ -1,7 +1,7 @@
 use Rattle.std.proofs.Common.{◌<◌, length, ap, sym, ◌∙◌, arith}
 use Rattle.std.proofs.lemmas.List.{length-map}
 use Rattle.l4_model.specs.Effects.{asked}
-use Rattle.l4_types.specs.StepView.{what_of}
+use Rattle.l4_types.specs.StepView.{order_kind_of}
 use Rattle.l4_thread.specs.Parts.{Block}
 use Rattle.l4_audit.specs.Audited.{Audited, senders_of}
 use Rattle.l4_audit.proofs.Writing.{as_many, written, still_of}
@@ -23,5 +23,5 @@ invariant_of-self c =
 pub returns : goal.returns
 returns c =
     let s = c.self.inside in
-    written s.machine.now s.threads.items (senders_of s.lists.waiting) s.clocks.items _ c.args.self.now c.args.place (asked (what_of c.args.what)) _ _ c.self.view_is
+    written s.machine.now s.threads.items (senders_of s.lists.waiting) s.clocks.items _ c.args.self.now c.args.place (asked (order_kind_of c.args.what)) _ _ c.self.view_is
     (omega (arith, c.requires, as_many s.machine.now s.threads.items (senders_of s.lists.waiting) s.clocks.items _ c.args.self.now c.self.view_is c.self.invariant)) c.index_mut.ensures.value c.ask.ensures

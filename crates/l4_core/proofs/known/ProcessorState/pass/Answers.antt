@@ -28,5 +28,5 @@ returns c =
     let s = c.self.inside in
     let receive : Option Receive = receive_phase c.args.ipc.now.from (period_of c.args.ipc.now.receive_period) in
     let hand = subst (λ (p : Processor). IsAtHand p c.args.place) (sym c.self.view_is) c.requires.hand in
-    come-written s.machine.now s.cpu s.threads.items s.lists s.told.items (kept_of s.machine.now s.owed.items) s.clock s.stamp c.args.place (passes receive s.clock) _ _ _ _ c.self.invariant hand.own.within c.index_mut.ensures.value c.pass.ensures c.self.view_is c.settle.ensures
+    come-written s.machine.now s.cpu s.threads.items s.lists s.told.items (kept_of s.machine.now s.owed.items) s.clock s.stamp c.args.place (passes receive s.clock) _ _ _ _ c.self.invariant hand.own.within c.index_mut.ensures.value c.pass.ensures c.self.view_is c.enter_lists.ensures
     ∙ ap (λ n. with_local c.args.self.now (comes_to c.args.place (passes receive n) c.args.self.now.local)) (ap (λ (p : Processor). p.local.clock) c.self.view_is)

@@ -2,7 +2,7 @@ use Rattle.std.proofs.Common.{◌≡◌, ◌<◌, List, length, refl, sym, ap, �
 use Rattle.std.proofs.lemmas.List.{length-set, places, with_items_is}
 use Rattle.l4_model.specs.Words.{word_of_tag}
 use Rattle.l4_model.specs.Effects.{receives}
-use Rattle.l4_core.specs.Settling.{settles}
+use Rattle.l4_core.specs.PhaseLists.{enters_lists}
 use Rattle.l4_core_model.specs.Local.{comes_to, declared, thread}
 use Rattle.l4_thread.specs.Parts.{Block}
 use Rattle.l4_thread.specs.Messages.{outgoing}
@@ -38,11 +38,11 @@ returns c =
     let size : length c.pass_message.new.blocks ≡ length s.threads.items = ap length p.is ∙ length-set s.threads.items c.args.receiver _ in
     let whole = with_items_is s.threads c.pass_message.new.blocks (search (rules, places)) in
     come-written s.machine.now s.cpu s.threads.items s.lists s.told.items (kept_of s.machine.now s.owed.items) s.clock s.stamp c.args.receiver (receives (outgoing (declared s.machine.now c.args.sender).id (thread (local_of s.threads.items s.lists s.told.items (kept_of s.machine.now s.owed.items) s.clock s.stamp) c.args.sender)) tag) p.old _ _ _ c.self.invariant r.own.within p.at refl c.self.view_is
-    (subst (λ (bs : List Block). c.settle.new.self ≡ with_local (record { machine = s.machine.now; cpu = s.cpu; local = local_of bs s.lists s.told.items (kept_of s.machine.now s.owed.items) s.clock s.stamp }) (settles c.args.receiver (local_of bs s.lists s.told.items (kept_of s.machine.now s.owed.items) s.clock s.stamp))) (whole ∙ p.is) c.settle.ensures)
+    (subst (λ (bs : List Block). c.enter_lists.new.self ≡ with_local (record { machine = s.machine.now; cpu = s.cpu; local = local_of bs s.lists s.told.items (kept_of s.machine.now s.owed.items) s.clock s.stamp }) (enters_lists c.args.receiver (local_of bs s.lists s.told.items (kept_of s.machine.now s.owed.items) s.clock s.stamp))) (whole ∙ p.is) c.enter_lists.ensures)
     ∙ ap (λ (q : Processor). with_local c.args.self.now (comes_to c.args.receiver (receives (outgoing (declared q.machine c.args.sender).id (thread q.local c.args.sender)) tag) c.args.self.now.local)) c.self.view_is
 
-pub settle-requires-clause-unready : goal.settle-requires-clause-unready
-settle-requires-clause-unready c =
+pub enter_lists-requires-clause-unready : goal.enter_lists-requires-clause-unready
+enter_lists-requires-clause-unready c =
     let s = c.self.inside in
     let r = subst (λ (p : Processor). IsReceiver p c.args.receiver) (sym c.self.view_is) c.requires.receiver in
     unready s.machine.now s.cpu (local_of s.threads.items s.lists s.told.items (kept_of s.machine.now s.owed.items) s.clock s.stamp) c.args.receiver c.self.invariant.core.settled (waits_not_ready _ r.waits)

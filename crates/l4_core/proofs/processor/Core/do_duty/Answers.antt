@@ -25,4 +25,4 @@ pub returns-in-Retarget : goal.returns-in-Retarget
 returns-in-Retarget g c =
     let p = c.args.self.now in
     let there = kept_there p c.args.place (kept_beside p.local.owed c.args.place) (c.requires.first.has_duty ∙ ap (λ d. Some (duty_of p.local.owed c.args.place d)) c.in-Retarget.is) in
-    subst (λ d. Does (does_duty p.machine p.cpu c.args.place (duty_of p.local.owed c.args.place d)) p c.retarget_owed.new.self c.args.told.now c.retarget_owed.new.told) (sym c.in-Retarget.is) (c.retarget_owed.ensures _ there)
+    subst (λ d. Does (does_duty p.machine p.cpu c.args.place (duty_of p.local.owed c.args.place d)) p c.retarget_owed.new.self c.args.buffer.now c.retarget_owed.new.buffer) (sym c.in-Retarget.is) (c.retarget_owed.ensures _ there)

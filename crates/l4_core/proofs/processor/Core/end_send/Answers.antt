@@ -5,8 +5,8 @@ use Rattle.l4_core.specs.Processor.{Processor}
 use Rattle.l4_core.proofs.Deciding.{sender_free, unqueued_is}
 use Rattle.l4_core.proofs.processor.Core.end_send.Goals as goal
 
-pub come_to-requires-clause-free : goal.come_to-requires-clause-free
-come_to-requires-clause-free g c =
+pub apply_change-requires-clause-free : goal.apply_change-requires-clause-free
+apply_change-requires-clause-free g c =
     sender_free c.args.self.now c.unqueue_send.new.self c.args.place (subst AreCore c.self.view_is c.is_own.ensures.core) c.requires.sender
     (subst (λ (p : Processor). is_own p.machine p.cpu c.args.place ≡ true) c.self.view_is (sym c.is_own.ensures.value ∙ c.if-is_own.true)) c.unqueue_send.ensures
 

@@ -3,5 +3,5 @@ use Rattle.l4_core.specs.Parts.{AreCore}
 use Rattle.l4_core.proofs.Handling.{split_free}
 use Rattle.l4_core.proofs.processor.Core.end_split.Goals as goal
 
-pub come_to-requires-clause-free : goal.come_to-requires-clause-free
-come_to-requires-clause-free c = split_free c.args.self.now c.args.place (subst AreCore c.self.view_is c.len-few.ensures.core) c.requires
+pub apply_change-requires-clause-free : goal.apply_change-requires-clause-free
+apply_change-requires-clause-free c = split_free c.args.self.now c.args.place (subst AreCore c.self.view_is c.len-few.ensures.core) c.requires

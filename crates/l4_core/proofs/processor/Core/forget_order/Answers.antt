@@ -9,6 +9,6 @@ pub invariant_of-self : goal.invariant_of-self
 invariant_of-self c =
     let s = c.self.inside in
     let own = subst (λ (p : Processor). IsOwnOf p c.args.place) (sym c.self.view_is) c.requires in
-    let noted = covered-put s.duties c.note.new.duties s.zeros s.known c.args.place c.self.invariant own c.note.ensures.put in
-    covered-changed c.note.new.duties s.zeros s.known c.forget_order.new.self c.args.place forgets_order noted (omega (arith, own.within, c.note.ensures.core.settled.threads))
-    (λ mine. put_there s.duties c.note.new.duties c.args.place c.note.ensures.put) refl (inr refl) c.forget_order.ensures
+    let noted = covered-put s.duties c.insert_place.new.duties s.zeros s.known c.args.place c.self.invariant own c.insert_place.ensures.put in
+    covered-changed c.insert_place.new.duties s.zeros s.known c.forget_order.new.self c.args.place forgets_order noted (omega (arith, own.within, c.insert_place.ensures.core.settled.threads))
+    (λ mine. put_there s.duties c.insert_place.new.duties c.args.place c.insert_place.ensures.put) refl (inr refl) c.forget_order.ensures

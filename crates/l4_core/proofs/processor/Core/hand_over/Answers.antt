@@ -19,7 +19,7 @@ end_send-requires-clause-sender g c = still_sends c.args.self.now c.receive_from
 pub returns-clause-does : goal.returns-clause-does
 returns-clause-does g c =
     let v = c.self.view_is in
-    hand_over_does c.args.self.now c.receive_from.new.self c.end_send.new.self c.args.receiver c.args.sender c.args.told.now c.emit.new.self c.end_send.new.told
+    hand_over_does c.args.self.now c.receive_from.new.self c.end_send.new.self c.args.receiver c.args.sender c.args.buffer.now c.emit.new.self c.end_send.new.buffer
     (record { name = c.last_name.result; receiver = c.id.result; message = c.message.result; cross = not c.is_own.result }) (word_of_tag c.tag-tag.result) (subst AreCore c.self.view_is c.is_own.ensures.core) c.requires.receiver c.requires.sender
     (c.last_name.ensures ∙ ap (λ (p : Processor). last_name p.machine p.local c.args.sender) v)
     (c.id.ensures ∙ ap (λ (p : Processor). (declared p.machine c.args.receiver).id) v)

@@ -27,5 +27,5 @@ send-requires-clause-partner g c = λ send has.
 pub returns-in-Send : goal.returns-in-Send
 returns-in-Send g c =
     let core = subst AreCore c.self.view_is c.len-few.ensures.core in
-    act_sends c.args.self.now c.begin.new.self c.send.new.self c.args.place _ c.args.told.now c.emit-in-Send.new.self c.send.new.told core c.requires.hand (sym c.in-Send.is ∙ c.begin.ensures.began) c.begin.ensures.state
-    (c.emit-in-Send.ensures ∙ ap (λ n. with_step (Begin n) c.args.told.now) (c.last_name.ensures ∙ ap (λ (p : Processor). last_name p.machine p.local c.args.place) c.self-in-Send.view_is)) c.send.ensures
+    act_sends c.args.self.now c.begin.new.self c.send.new.self c.args.place _ c.args.buffer.now c.emit-in-Send.new.self c.send.new.buffer core c.requires.hand (sym c.in-Send.is ∙ c.begin.ensures.began) c.begin.ensures.state
+    (c.emit-in-Send.ensures ∙ ap (λ n. with_step (Begin n) c.args.buffer.now) (c.last_name.ensures ∙ ap (λ (p : Processor). last_name p.machine p.local c.args.place) c.self-in-Send.view_is)) c.send.ensures

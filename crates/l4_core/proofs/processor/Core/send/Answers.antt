@@ -16,7 +16,7 @@ pub returns-in-Some : goal.returns-in-Some
 returns-in-Some g c = λ send has.
     let goes = c.requires.partner send has in
     let here = subst (λ (p : Processor). is_own p.machine p.cpu c.in-Some.receiver ≡ true) c.self.view_is (sym c.is_own.ensures.value ∙ c.if-is_own.true) in
-    goes_here c.args.self.now c.arrive.new.self c.in-Some.receiver c.args.sender send c.args.told.now c.arrive.new.told _ (sym goes ∙ c.in-Some.is)
+    goes_here c.args.self.now c.arrive.new.self c.in-Some.receiver c.args.sender send c.args.buffer.now c.arrive.new.buffer _ (sym goes ∙ c.in-Some.is)
     here c.arrive.ensures
 
 pub returns-in-Some-2 : goal.returns-in-Some-2
@@ -26,5 +26,5 @@ returns-in-Some-2 g c = λ send has.
     let same : c.in-Some.receiver ≡ c.in-Some-2.receiver = cc in
     let foreign = subst (λ r. is_own c.self.inside.known.machine c.self.inside.known.cpu r ≡ false) same (sym c.is_own.ensures.value ∙ c.if-is_own.false) in
     let away = subst (λ (p : Processor). is_own p.machine p.cpu c.in-Some-2.receiver ≡ false) c.self.view_is foreign in
-    goes_away c.args.self.now c.post_send.new.self c.in-Some-2.receiver c.args.sender send c.args.told.now c.post_send.new.told _ (sym goes ∙ c.in-Some-2.is)
+    goes_away c.args.self.now c.post_send.new.self c.in-Some-2.receiver c.args.sender send c.args.buffer.now c.post_send.new.buffer _ (sym goes ∙ c.in-Some-2.is)
     away (c.post_send.ensures send has)

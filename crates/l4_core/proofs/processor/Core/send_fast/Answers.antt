@@ -47,7 +47,7 @@ pub returns : goal.returns
 returns g c =
     let v = c.self.view_is in
     let ipc = c.args.ipc.now in
-    fast_does c.args.self.now c.receive_from.new.self c.pass.new.self c.args.receiver c.args.sender c.args.told.now c.emit.new.self c.emit-2.new.self c.emit-3.new.self
+    fast_does c.args.self.now c.receive_from.new.self c.pass.new.self c.args.receiver c.args.sender c.args.buffer.now c.emit.new.self c.emit-2.new.self c.emit-3.new.self
     (record { name = c.next_name-name.result; receiver = c.id.result; message = c.outgoing.result; cross = false }) (word_of_tag c.tag-tag.result)
     (to_of ipc.to) ipc.from (period_of ipc.send_period) (period_of ipc.receive_period)
     (subst AreCore v c.len-few.ensures.core) c.requires.receiver c.requires.hand c.requires.instr c.requires.fast

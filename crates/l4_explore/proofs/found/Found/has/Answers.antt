@@ -1,7 +1,24 @@
-use Rattle.std.proofs.Common.{◌∙◌}
-use Rattle.l4_explore.proofs.Growing.{has_key}
+use Rattle.std.proofs.Common.{◌≡◌, ◌<◌, ℕ, List, length, Option, None, Some, is_some, IfSome, IfNone, sym, ◌∙◌}
+use Rattle.l4_explore.specs.Codes.{code_at}
+use Rattle.l4_explore.specs.Search.{has_code}
+use Rattle.l4_explore.specs.Grown.{seen_of}
+use Rattle.l4_explore.specs.Views.{nodes_from, AreArrivals}
+use Rattle.l4_explore.specs.declared.found.Arrival.{Arrival}
+use Rattle.l4_explore.proofs.Growing.{has_found, has_none}
 use Rattle.l4_explore.proofs.found.Found.has.Goals as goal
+
+module _ (codes : List (List ℕ)) (arrivals : List Arrival) (are : AreArrivals codes arrivals)
+    (code : List ℕ) where
+  is_found : (found : Option ℕ) →
+      IfSome found (λ place. (place < length codes) × (code_at codes place ≡ code)) →
+      IfNone found ((place : ℕ) → place < length codes → code_at codes place ≡ code → ⊥) →
+      is_some found ≡ has_code (seen_of (nodes_from codes arrivals)) code
+  is_found None there absent = sym (has_none codes arrivals are code absent)
+  is_found (Some place) there absent =
+      sym (has_found codes arrivals are code place there.0 there.1)
 
 pub returns : goal.returns
 returns c = rw (← c.self.view_is)
-    (c.contains_key.ensures ∙ has_key c.args.code.now.items c.self.inside.states.entries)
+    (c.is_some.ensures
+    ∙ is_found c.self.inside.codes c.self.inside.arrivals.items c.self.invariant c.args.code.now
+    c.find.result c.find.ensures.found c.find.ensures.absent)

@@ -7,7 +7,7 @@ use Rattle.l4_history.proofs.history.History.push_delivery.Goals as goal
 
 pub returns : goal.returns
 returns c =
-    let wrote : c.extend_from_slice.new.self.items ≡ c.self.inside.words.items ++ c.args.delivery.now.message.words = grind (arith, common_steps) in
+    let wrote : c.append.new.words.items ≡ c.self.inside.words.items ++ c.args.delivery.now.message.words = grind (arith, common_steps) in
     let place : c.len.result ≡ length c.self.inside.heads.items = grind (arith, common_steps) in
     let start : c.len-2.result ≡ length c.self.inside.words.items = grind (arith, common_steps) in
     rw (← c.self.view_is)

@@ -14,7 +14,7 @@ invariant_of-self-in-Break-branch-2 c =
 pub invariant_of-self-then-has_mail : goal.invariant_of-self-then-has_mail
 invariant_of-self-then-has_mail c =
     let before = as_before_then _ _ _ (as_before_then _ _ _ c.reserve.ensures.same c.flush.ensures.same) c.has_mail.ensures.same in
-    let next = next_taken _ _ _ c.take-self.ensures.some c.take-self.ensures.none c.take-self.ensures.kept in
+    let next = next_taken _ _ _ c.take_mail.ensures.some c.take_mail.ensures.none c.take_mail.ensures.kept in
     record { whole = whole_next c.args.self.now.port _ _ c.args.self.now.worker _ _ before next c.in_ok-begin.ensures.ok c.args.self.now.whole }
 
 pub invariant_of-self-else-is_none : goal.invariant_of-self-else-is_none
@@ -26,7 +26,7 @@ invariant_of-self-else-is_none c =
 pub returns-then-has_mail-clause-ok : goal.returns-then-has_mail-clause-ok
 returns-then-has_mail-clause-ok c =
     let flush = as_before_then _ _ _ c.flush.ensures.same c.has_mail.ensures.same in
-    let next = next_taken _ _ _ c.take-self.ensures.some c.take-self.ensures.none c.take-self.ensures.kept in
+    let next = next_taken _ _ _ c.take_mail.ensures.some c.take_mail.ensures.none c.take_mail.ensures.kept in
     let is = readied_empty _ _ _ _ _ _ c.if-is_none.ensures c.reserve.ensures.same c.in_ok-reserve.ensures.room flush next in
     record {
       core = refl;

@@ -1,0 +1,78 @@
+-- What a doubt that is marked `always` says. It holds in every history of the machine that the text
+-- declares.
+use Rattle.std.specs.Prelude.{ℕ, ◌≡◌, ◌-◌, Bool, false, not, ◌&&◌, ◌||◌, nat_lt, nat_le, Option, Ok, unwrap_or, IsSomeAnd, List, [], ◌∷◌, length, take}
+use Rattle.std.specs.List.{AllByRecursion, count_by, list_any}
+use Rattle.l4_model.specs.Words.{GlobalId, same_id}
+use Rattle.l4_model.specs.Machine.{Declaration, Machine}
+use Rattle.l4_model.specs.Steps.{Step, Local, Begin, Queue, Deliver, Wait, SendTimeout, ReceiveTimeout, SendNobody, ReceiveNobody, SendCancel, ReceiveCancel, Drop, Order, Obey, Tick, Retarget}
+use Rattle.l4_model.specs.History.{IsHistory}
+use Rattle.l4_words.specs.Threads.{thread_of}
+use Rattle.l4_script.specs.Numbers.{number_of}
+use Rattle.l4_script.specs.Texts.{machine_of_text}
+use Rattle.l4_lint.specs.declared.doubts.Doubt.{Doubt}
+use Rattle.l4_lint.specs.declared.doubts.Doubt.TheVariants.{NoThread, NoLimit, NotSent, NotPropagated}
+use Rattle.l4_lint.specs.declared.doubts.Mark.TheVariants.{Always}
+use Rattle.l4_lint.specs.Doubts.{Doubtful, asks_to_propagate, lines_of, marked, thread_after}
+use Rattle.l4_lint.specs.Reading.{begins_script}
+
+-- The threads that a step names.
+abbrev pub threads_in : Step → List GlobalId
+threads_in (Local t) = t ∷ []
+threads_in (Begin s) = s.thread ∷ []
+threads_in (Queue s) = s.thread ∷ []
+threads_in (Deliver s receiver shown actual tag words) =
+    s.thread ∷ receiver ∷ shown ∷ actual ∷ []
+threads_in (Wait t) = t ∷ []
+threads_in (SendTimeout s) = s.thread ∷ []
+threads_in (ReceiveTimeout t) = t ∷ []
+threads_in (SendNobody s) = s.thread ∷ []
+threads_in (ReceiveNobody t) = t ∷ []
+threads_in (SendCancel s) = s.thread ∷ []
+threads_in (ReceiveCancel t) = t ∷ []
+threads_in (Drop s) = s.thread ∷ []
+threads_in (Order caller target what) = caller ∷ target ∷ []
+threads_in (Obey caller) = caller ∷ []
+threads_in (Tick cpu clock) = []
+threads_in (Retarget s) = s.thread ∷ []
+
+abbrev pub names_thread : GlobalId → Step → Bool
+names_thread t step = list_any (same_id t) (threads_in step)
+
+-- A message of this sender is delivered with this register: its words are those of register 1 and
+-- the next ones.
+abbrev pub delivers_register : (register : ℕ) → (sender : GlobalId) → Step → Bool
+delivers_register register sender (Deliver s receiver shown actual tag words) =
+    same_id sender s.thread && (nat_lt 0 register && nat_le register (length words))
+delivers_register register sender _ = false
+
+-- A message of this sender is delivered as propagated: with the flag `p`, or in another's name.
+abbrev pub delivers_propagated : (sender : GlobalId) → Step → Bool
+delivers_propagated sender (Deliver s receiver shown actual tag words) =
+    same_id sender s.thread && (asks_to_propagate tag || not (same_id sender shown))
+delivers_propagated sender _ = false
+
+abbrev pub NoStep : (Step → Bool) → List Step → Type 0
+NoStep test h = list_any test h ≡ false
+
+-- Of an id: no step names the thread. Of a register that is written: no delivered message of the
+-- script's thread has it. Of a tag: none is propagated. Of an answer nothing is certain.
+abbrev pub Says : Doubt → (word : List ℕ) → Option Declaration → List Step → Type 0
+Says NoThread word thread h = IsSomeAnd (thread_of word) (λ t. NoStep (names_thread t) h)
+Says NotSent word thread h =
+    IsSomeAnd thread (λ d. NoStep (delivers_register (unwrap_or (number_of word) 0) d.id) h)
+Says NotPropagated word thread h = IsSomeAnd thread (λ d. NoStep (delivers_propagated d.id) h)
+Says NoLimit word thread h = ⊥
+
+-- The thread in whose script a line of this number stands.
+abbrev pub thread_on : Machine → (lines : List (List ℕ)) → (number : ℕ) → Option Declaration
+thread_on m lines number = thread_after m (count_by begins_script (take (number - 1) lines))
+
+abbrev pub IsAlwaysSo : Machine → (lines : List (List ℕ)) → List Step → Doubtful → Type 0
+IsAlwaysSo m lines h d = marked d.doubt ≡ Always →
+    Says d.doubt d.word (thread_on m lines d.line) h
+
+-- Each of these doubts of a text that is marked `always` holds in every history.
+abbrev pub AreAlwaysSo : (text : List ℕ) → List Doubtful → Type 0
+AreAlwaysSo text found =
+    (m : Machine) (h : List Step) → machine_of_text text ≡ Ok m → IsHistory m h →
+    AllByRecursion (IsAlwaysSo m (lines_of text) h) found

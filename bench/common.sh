@@ -35,7 +35,7 @@ test_program() {
     local crate=$BENCH/../crates/$1 program
     program=$crate/out/$1_tests
     if [ ! -x "$program" ] ||
-        [ -n "$(find "$BENCH/../crates" \( -name out -o -name must-fail \) -prune -o -type f -newer "$program" -print -quit)" ]; then
+        [ -n "$(find "$BENCH/../crates" -name out -prune -o -type f -newer "$program" -print -quit)" ]; then
         (cd "$crate" && rt test -- "$2") >"$work/log" 2>&1 || { cat "$work/log" >&2; return 1; }
     fi
     echo "$program"

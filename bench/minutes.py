@@ -1,9 +1,9 @@
 #!/usr/bin/env python3
 """Prints where the gate's minutes are: the processor seconds of each crate's proof, of the proof of its tests and of its edits, in a run from nothing.
 
-Runs `rt ci --anew`, with the names of crates that are given, in a clone of this repository as it was committed, and looks twice a second at the
-provers that it started. What is not theirs (compilers, linkers, the tests and programs themselves) is the difference to the whole in the last line. A prover that
-works on an edit stands in a folder of edits, and one that proves tests is told so.
+Runs `rt ci --anew`, with the names of crates that are given, in a clone of this repository as it was committed, then plants the gate's mistakes, and looks
+twice a second at the provers that it started. What is not theirs (compilers, linkers, the tests and programs themselves) is the difference to the whole
+in the last line. A prover that works on a mistake stands in a folder of its own, and one that proves tests is told so.
 
     bench/minutes.py            all crates: hours
     bench/minutes.py l4_mail    this one and those below it
@@ -18,7 +18,8 @@ import tempfile
 import time
 
 TOP = pathlib.Path(__file__).resolve().parent.parent
-KINDS = ("proof", "tests", "edits")
+KINDS = ("proof", "tests", "mistakes")
+BOTH = 'rt ci --anew "$@" && mistakes/run.py gate --built --anew "$@"'
 TICKS = os.sysconf("SC_CLK_TCK")
 
 
@@ -34,8 +35,8 @@ def prover(pid):
     if "--crate-name" not in words:
         return None
     crate = words[words.index("--crate-name") + 1]
-    if os.path.basename(os.readlink(f"/proc/{pid}/cwd")).startswith("rt-edit"):
-        return crate, "edits"
+    if os.path.basename(os.readlink(f"/proc/{pid}/cwd")).startswith("mistake-"):
+        return crate, "mistakes"
     return crate, "tests" if "--test" in words else "proof"
 
 
@@ -81,7 +82,7 @@ def table(seen):
         row = spent.setdefault(crate, dict.fromkeys(KINDS, 0.0))
         row[kind] += seconds
     order = [line.split(":")[0].split()[0] for line in (TOP / "crates.txt").read_text().splitlines() if line.strip() and line[0] != "#"]
-    yield "| Crate | Proof | Tests | Edits | Together |"
+    yield "| Crate | Proof | Tests | Mistakes | Together |"
     yield "|---|---:|---:|---:|---:|"
     for crate in sorted(spent, key=lambda it: order.index(it) if it in order else len(order)):
         row = [spent[crate][kind] for kind in KINDS]
@@ -96,7 +97,7 @@ def main(names):
         subprocess.run(["git", "clone", "-q", str(TOP), f"{room}/clone"], check=True)
         before = resource.getrusage(resource.RUSAGE_CHILDREN)
         with open(f"{room}/log", "w+", encoding="utf-8", errors="replace") as log:
-            gate = subprocess.Popen(["rt", "ci", "--anew", *names], cwd=f"{room}/clone", stdout=log, stderr=log)
+            gate = subprocess.Popen(["bash", "-c", BOTH, "gate", *names], cwd=f"{room}/clone", stdout=log, stderr=log)
             while gate.poll() is None:
                 look(gate.pid, seen)
                 time.sleep(0.5)

@@ -1,6 +1,7 @@
-// Stands between a test program and the C library, and refuses one growth of memory. A growth is a call of malloc or realloc between a line `call NAME`
-// that the program prints and its line `end`; elsewhere nothing is refused or counted. REFUSE_AT says which growth it is, counted from 1. The name of the
-// call in which it was refused is written to the file that REFUSE_TO names; where the program grows less often, that file stays as it is.
+// Stands between a program and the C library, and refuses one growth of memory. A growth is a call of malloc or realloc between a line `call NAME` that the
+// program prints and its line `end`; elsewhere nothing is refused or counted. Where REFUSE_ALL is set, each call of malloc or realloc is a growth.
+// REFUSE_AT says which growth it is, counted from 1. The name of the call in which it was refused, `program` where all are counted, is written to the
+// file that REFUSE_TO names; where the program grows less often, that file stays as it is.
 #define _GNU_SOURCE
 #include <dlfcn.h>
 #include <errno.h>
@@ -29,6 +30,10 @@ __attribute__((constructor)) static void find(void) {
     c_write = dlsym(RTLD_NEXT, "write");
     const char *at = getenv("REFUSE_AT");
     refused_at = at ? atol(at) : 0;
+    if (getenv("REFUSE_ALL")) {
+        call_length = strlen(strcpy(call, "program"));
+        within = 1;
+    }
 }
 
 // Writes down the call under way.
@@ -68,7 +73,7 @@ void *realloc(void *old, size_t size) {
 // Looks whether a line that is printed begins or ends a call.
 static void look(int file, const char *line, size_t length) {
     size_t begins = sizeof BEGINS - 1;
-    if (file != STDOUT_FILENO) {
+    if (file != STDOUT_FILENO || getenv("REFUSE_ALL")) {
         return;
     }
     if (length > begins && length - begins <= sizeof call && !memcmp(line, BEGINS, begins)) {

@@ -1,5 +1,6 @@
 """Edits that plant a mistake: how they are read, and in which function they stand."""
 
+import itertools
 import pathlib
 import re
 
@@ -89,11 +90,38 @@ def function_at(text, at):
     return name
 
 
+def is_of(path, function):
+    """Whether this is the path of the function. A type's trait is told in one word with it."""
+    *types, name = function.split("::")
+    *above, last = path.split("::")
+    return last == name and all(above and above[-1].startswith(one) for one in types)
+
+
+def is_of_trait(rows):
+    """Whether the last of these rows stands in the implementation of a trait."""
+    head = next((line for line in reversed(rows) if line.startswith(("impl", "}"))), "")
+    return " for " in head
+
+
+def paths_of(home):
+    """The functions of a crate: the path of each, and by which path the prover is asked for it. One of a trait is asked for by its module."""
+    found = []
+    for file in sorted((home / "src").rglob("*.rt")):
+        text, module = file.read_text(), "::".join(file.relative_to(home / "src").with_suffix("").parts)
+        rows = text.split("\n")
+        for row, end in enumerate(itertools.accumulate(len(row) + 1 for row in rows)):
+            if FUNCTION.match(rows[row]):
+                name = function_at(text, end - 2)
+                path = f"{module}::{name}".removeprefix("lib::")
+                found.append((path, module if is_of_trait(rows[: row + 1]) else name if "::" in name else path))
+    return found
+
+
 def edits_of(crate):
     """Those of a crate: first those that the gate tries. Or those of definitions."""
     if crate == DEFINITIONS:
         return [Edit(path, home_of(path)) for path in sorted((TOP / "mistakes" / DEFINITIONS).glob("*.edit"))]
-    folders = CRATES / crate / "must-fail", TOP / "mistakes" / crate
+    folders = TOP / "mistakes" / crate / "must-fail", TOP / "mistakes" / crate
     return [Edit(path, CRATES / crate) for folder in folders for path in sorted(folder.glob("*.edit"))]
 
 

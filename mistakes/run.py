@@ -3,133 +3,40 @@
 
   at-once      those of different functions together, in minutes
   alone        each by itself, which takes far longer: for one that at-once can't judge
-  gate         the gate's cut, crates/CRATE/must-fail, as the gate does: each by itself, by `rt must-fail`
+  gate         the gate's cut, mistakes/CRATE/must-fail, those of different functions together
   definitions  wrong definitions, mistakes/definitions, those that are named or all, each by itself
   list         tries none: counts them, or lists each of what is named (also `definitions`), and which fit no more
 
-They are planted in a copy of the repository, with what its crates keep in out/. One `rt check` says of each function whether it
-is proved. A function is judged by its own contract and those of the functions that it calls, so a mistake in one does not hide one
-in another. One that stands in no function, as in a constant, is planted by itself.
+They are planted in a copy of their crate, and the prover is asked for the functions that each is judged by, over the crates below: these
+are built first, but with --built they are taken as `rt ci` has just built them. A function is judged by its own contract and those of the
+functions that it calls, so a mistake in one does not hide one in another. Where one of several is not refused, each of those left is tried
+by itself. So is one that stands in no function, as in a constant. What was refused is not tried again until its crate or one below has
+changed; with --anew it is.
 
 A mistake counts as refused where the function that its line `clause:` names, or the one that it stands in, is refused for what it
-says: not only since it calls another that is, and not since a name of a proof is gone. All others are printed. The last line has the
-sums; the status is 1 where one was not refused so, or fits no more.
+says: not only since it calls another that is, and not since a name of a proof is gone. All others are printed. In the gate's cut one of
+the latter counts, and is named. The last line has the sums; the status is 1 where one was not refused so, or fits no more.
 """
 
-import pathlib
-import re
-import shutil
-import subprocess
 import sys
-import tempfile
 
 from definitions import try_definitions
 from edits import CRATES, DEFINITIONS, TOP, crates_with_edits, edits_of
-
-VERDICT = re.compile(r"fn \w+::(\S+): (.*)")
-UNREAD = re.compile(r"src/\S+: error\[.*")
-ERROR = re.compile(r"(?:so far: )?\./proofs/(\S+)/Answers\.antt:\d+:\d+: error: (.*)")
+from trials import try_edits
 
 
-class Batch:
-    """Mistakes that are planted together."""
-
-    def __init__(self, first):
-        self.edits, self.judges, self.texts = [first], first.judges(), first.planted({})
-
-    def takes(self, edit):
-        """Takes one more, where other functions judge it and its texts stand once where they have been planted."""
-        changed = edit.planted(self.texts)
-        if changed is None or self.judges & edit.judges():
-            return False
-        self.edits.append(edit)
-        self.judges |= edit.judges()
-        self.texts |= changed
-        return True
-
-    def write(self, home):
-        for file, text in self.texts.items():
-            (home / file).write_text(text)
-
-
-def batches_of(edits, is_alone):
-    together, alone = [], []
-    for edit in edits:
-        if is_alone or None in edit.functions():
-            alone.append(Batch(edit))
-        elif not any(batch.takes(edit) for batch in together):
-            together.append(Batch(edit))
-    return together + alone
-
-
-def told(form, said):
-    """The path and the text of each line of this form."""
-    return [found.groups() for line in said if (found := form.match(line))]
-
-
-def is_of(path, function):
-    """Whether this is the path of the function. A type's trait is told in one word with it."""
-    *types, name = function.split("::")
-    *above, last = path.split("::")
-    return last == name and all(above and above[-1].startswith(one) for one in types)
-
-
-def why_refused(said, function):
-    """Why a function is refused. None where it is not, or not for what it says."""
-    verdicts = [text for path, text in told(VERDICT, said) if is_of(path, function)]
-    if all(text == "proved" for text in verdicts):
-        return None
-    errors = [text for path, text in told(ERROR, said) if is_of(path.replace("/", "::"), function)]
-    real = [text for text in errors if " has no " not in text]
-    return next((text for text in verdicts if "`search` did not prove" in text), real[0] if real else None)
-
-
-def is_refused(edit, said):
-    return any(why_refused(said, function) for function in edit.judges())
-
-
-def try_batch(batch, home):
-    """Answers those that were not refused."""
-    batch.write(home)
-    done = subprocess.run(["rt", "check"], cwd=home, stdout=subprocess.PIPE, stderr=subprocess.STDOUT, text=True)
-    said = done.stdout.splitlines()
-    # One that does not compile keeps all of its batch from being judged. Where no function was looked at, the last line says why.
-    for line in list(filter(UNREAD.match, said)) or ([] if told(VERDICT, said) else said[-1:]):
-        print(f"  of {', '.join(edit.name for edit in batch.edits)}: {line}", flush=True)
-    for file in batch.texts:
-        shutil.copy(batch.edits[0].home / file, home / file)
-    return [edit for edit in batch.edits if not is_refused(edit, said)]
-
-
-def copy_repository(copy):
-    copy.mkdir()
-    for name in ("HANDLES", "crates.txt"):
-        shutil.copy(TOP / name, copy)
-    shutil.copytree(CRATES, copy / "crates", symlinks=True)
-
-
-def try_crates(crates, is_alone):
-    refused = others = 0
-    with tempfile.TemporaryDirectory() as work:
-        copy = pathlib.Path(work) / "copy"
-        copy_repository(copy)
-        for crate in crates:
-            edits = edits_of(crate)
-            left = [edit for edit in edits if not edit.fits()]
-            for batch in batches_of([edit for edit in edits if edit not in left], is_alone):
-                left += try_batch(batch, copy / "crates" / crate)
-            print(f"{crate}: {len(edits) - len(left)} of {len(edits)} refused", flush=True)
-            for edit in left:
-                print(f"  not refused by {edit.clause or edit.place()}: {edit.name}", flush=True)
-            refused += len(edits) - len(left)
-            others += len(left)
-    print(f"{refused} refused, {others} not")
-    return others > 0
-
-
-def try_gate(crates):
-    crates = [crate for crate in crates if any(edit.in_gate for edit in edits_of(crate))]
-    return subprocess.run(["rt", "must-fail", *crates], cwd=TOP).returncode if crates else 0
+def try_crates(crates, is_in_cut, **how):
+    """Tries those mistakes of these crates that are in the cut, and prints which are not refused."""
+    edits = [edit for crate in crates for edit in edits_of(crate) if is_in_cut(edit)]
+    stale = [edit for edit in edits if not edit.fits()]
+    left = stale + try_edits([edit for edit in edits if edit not in stale], **how)
+    for crate in dict.fromkeys(edit.home.name for edit in edits):
+        own, others = ([edit for edit in those if edit.home.name == crate] for those in (edits, left))
+        print(f"{crate}: {len(own) - len(others)} of {len(own)} mistakes refused")
+        for edit in others:
+            print(f"  not refused by {edit.clause or edit.place()}: {edit.name}")
+    print(f"{len(edits) - len(left)} mistakes refused, {len(left)} not")
+    return len(left) > 0
 
 
 def row(*cells):
@@ -179,16 +86,18 @@ def with_edits(names):
     return [name for name in names if edits_of(name)] if names else crates_with_edits()
 
 
-def main(verb, names):
+def main(verb, words):
+    names = [word for word in words if not word.startswith("--")]
+    how = {"is_alone": verb == "alone", "is_anew": "--anew" in words, "is_built": "--built" in words, "takes_names": verb == "gate"}
     match verb:
         case "list":
             return show(names)
         case "definitions":
             return try_definitions(names)
         case "gate":
-            return try_gate(with_edits(names))
+            return try_crates(with_edits(names), lambda edit: edit.in_gate, **how)
         case "at-once" | "alone":
-            return try_crates(with_edits(names), verb == "alone")
+            return try_crates(with_edits(names), lambda _: True, **how)
     sys.exit(__doc__)
 
 

@@ -55,6 +55,7 @@ impl<'m> Auditor<'m> {
 
     /// Judges the next step. If the step is not possible, or memory is refused, nothing changes:
     /// all calls then answer for the world before the step.
+    #[inline(always)]
     pub fn step(&mut self, step: &StepRef<'_>) -> Result<(), StepFault>
         ensures { Judges self.old (seen step.now) result self.new }
     {

@@ -75,6 +75,7 @@ impl<'a> Found<'a> {
     }
 
     /// The processor of a declared thread. For this thread no look-up is needed.
+    #[inline(always)]
     pub fn cpu_of(&self, machine: &Machine, id: GlobalId) -> Option<u8>
         requires { IsFound machine.now self.now }
         ensures { result ≡ option_map (λ d. d.cpu) (declaration_of machine.now id) }

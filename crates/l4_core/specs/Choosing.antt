@@ -4,7 +4,7 @@ use Rattle.l4_model.specs.World.{Owed}
 use Rattle.l4_core_model.specs.Plain.{due_block}
 use Rattle.l4_core_model.specs.Turns as turns
 use Rattle.l4_core.specs.declared.known.duties.Duty.{Duty}
-use Rattle.l4_core.specs.declared.known.duties.Duty.TheVariants.{Retarget, DropOwn, RefuseFirst, TellGone, CancelOwn, CancelReceive, DeliverFirst, CloseReceive, RefuseZero}
+use Rattle.l4_core.specs.declared.known.duties.Duty.TheVariants.{Retarget, DropOwn, RefuseFirst, NotifyDeletion, CancelOwn, CancelReceive, DeliverFirst, CloseReceive, RefuseZero}
 use Rattle.l4_core.specs.declared.processor.Choice.{Choice}
 use Rattle.l4_core.specs.declared.processor.Choice.TheVariants.{ByDuty, ByDue, ByReady}
 use Rattle.l4_core.specs.Processor.{Processor}
@@ -29,7 +29,7 @@ abbrev pub duty_of : (owed : List (Option Owed)) → (place : ℕ) → Duty → 
 duty_of owed i Retarget = turns.Retargets (kept_beside owed i)
 duty_of owed i DropOwn = turns.DropsOwn
 duty_of owed i (RefuseFirst sender) = turns.RefusesFirst sender
-duty_of owed i (TellGone cpu) = turns.TellsGone cpu
+duty_of owed i (NotifyDeletion cpu) = turns.TellsGone cpu
 duty_of owed i CancelOwn = turns.CancelsOwn
 duty_of owed i CancelReceive = turns.CancelsReceive
 duty_of owed i (DeliverFirst sender) = turns.DeliversFirst sender

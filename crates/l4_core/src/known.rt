@@ -19,6 +19,7 @@ ghost use Rattle.l4_core_model.specs.Plain.{due_block, is_queued};
 ghost use Rattle.l4_core_model.specs.Local.{declared, held, is_own, last_name, opening_local};
 ghost use Rattle.l4_core_model.specs.Local.{thread};
 ghost use Rattle.l4_core_model.specs.Acts.{entry, first_acceptable, split_place};
+ghost use Rattle.l4_core_model.specs.Runs.{IsMachine};
 ghost use Rattle.l4_core_model.specs.Turns.{can_stamp};
 ghost use Rattle.l4_core.specs.Covered.{is_zero_send};
 ghost use Rattle.l4_core.specs.Opening.{lists_below, opening_lists};
@@ -57,7 +58,7 @@ pub(crate) struct ProcessorState<'m> {
     threads: Vec<Tcb>,
     lists: Arena,
     // For each thread: all processors below this number have been notified of its deletion.
-    told: Vec<u8>,
+    notified: Vec<u8>,
     // For each thread the retarget that is owed since it received a message. Empty in profile 1.
     owed: Vec<Option<Owed>>,
     clock: u64,
@@ -74,12 +75,12 @@ impl<'m> Model for ProcessorState<'m> {
         record {
           machine = c.machine.now;
           cpu = c.cpu;
-          local = local_of c.threads.items c.lists c.told.items
+          local = local_of c.threads.items c.lists c.notified.items
               (kept_of c.machine.now c.owed.items) c.clock c.stamp;
         } };
 
     ghost invariant = { λ c.
-        IsKept c.machine.now c.cpu c.threads.items c.lists c.told.items
+        IsKept c.machine.now c.cpu c.threads.items c.lists c.notified.items
         (kept_of c.machine.now c.owed.items) c.clock c.stamp };
 }
 
@@ -95,21 +96,29 @@ impl<'m> ProcessorState<'m> {
             known ≡
             record { machine = machine.now; cpu = cpu; local = opening_local machine.now cpu }) }
     {
-        let _few = machine.threads();
         let threads = opening_threads(alloc, machine)?;
         let lists = opening_lists(alloc, machine, cpu)?;
-        let told = untold(alloc, machine)?;
+        let notified = none_notified(alloc, machine)?;
         let owed = nothing_owed(alloc, machine)?;
         Ok(ProcessorState {
             machine,
             cpu,
             threads,
             lists,
-            told,
+            notified,
             owed,
             clock: 0,
             stamp: 0,
         })
+    }
+
+    /// Gives the prover what always holds of it; no code.
+    #[inline(always)]
+    pub(crate) fn facts(&self)
+        ensures core { AreCore self.now }
+        ensures few { length self.now.machine.threads ≤ most_threads }
+    {
+        let _ = &self.machine;
     }
 
     /// The clock, in ticks.
@@ -234,7 +243,6 @@ impl<'m> ProcessorState<'m> {
         ensures thread { result.now.thread ≡ thread self.now.local place }
         ensures id { result.now.id ≡ (declared self.now.machine place).id }
     {
-        let _ = &self.machine;
         &self.threads[place]
     }
 
@@ -250,8 +258,7 @@ impl<'m> ProcessorState<'m> {
         requires { place < length self.now.machine.threads }
         ensures { result ≡ slice_index_or self.now.local.told place 0 }
     {
-        let _ = &self.machine;
-        self.told[place]
+        self.notified[place]
     }
 
     /// The report of a thread, as far as it is known here.
@@ -300,7 +307,6 @@ impl<'m> ProcessorState<'m> {
         requires { place < length self.now.machine.threads }
         ensures { result ≡ is_queued self.now.local.lists place }
     {
-        let _ = &self.machine;
         self.lists.is_queued(place)
     }
 
@@ -309,7 +315,7 @@ impl<'m> ProcessorState<'m> {
         requires { IsSender self.now place }
         ensures { result ≡ last_name self.now.machine self.now.local place }
     {
-        let _ = &self.machine;
+        self.facts();
         Name::new(self.id(place), self.begun(place)).unwrap()
     }
 
@@ -320,7 +326,7 @@ impl<'m> ProcessorState<'m> {
             Some result }
         ensures actual { result.actual ≡ (declared self.now.machine sender).id }
     {
-        let _ = &self.machine;
+        self.facts();
         self.send_of(sender).unwrap().message()
     }
 
@@ -388,7 +394,7 @@ impl<'m> ProcessorState<'m> {
         ensures { result ≡ same_space self.now.machine (declared self.now.machine one).id
             (declared self.now.machine other).id }
     {
-        let _ = &self.machine;
+        self.facts();
         self.space_of(one) == self.space_of(other)
     }
 
@@ -448,6 +454,8 @@ fn opening_threads(alloc: Global, machine: &Machine) -> Result<Vec<Tcb>, NoMemor
         threads_of blocks.items ≡ replicate (length machine.now.threads) opening_thread) }
     ensures ids { IfOk result (λ blocks.
         ids_of blocks.items ≡ map (λ d. d.id) machine.now.threads) }
+    ensures machine { IsMachine machine.now }
+    ensures few { length machine.now.threads ≤ most_threads }
 {
     let declared = machine.threads();
     let count = declared.len();
@@ -482,16 +490,15 @@ fn open_place(lists: &mut Arena, machine: &Machine, cpu: u8, place: usize)
 }
 
 // No processor has been notified of a deletion.
-fn untold(alloc: Global, machine: &Machine) -> Result<Vec<u8>, NoMemory>
-    ensures { IfOk result (λ told. told.items ≡ map (λ d. 0) machine.now.threads) }
+fn none_notified(alloc: Global, machine: &Machine) -> Result<Vec<u8>, NoMemory>
+    ensures { IfOk result (λ notified. notified.items ≡ map (λ d. 0) machine.now.threads) }
 {
     let declared = machine.threads();
-    let mut told = Vec::with_capacity(alloc, declared.len())?;
-    for place in 0..declared.len() {
-        let _ = place;
-        told.push(0)?;
+    let mut notified = Vec::with_capacity(alloc, declared.len())?;
+    for _ in 0..declared.len() {
+        notified.push(0)?;
     }
-    Ok(told)
+    Ok(notified)
 }
 
 // No retarget is owed. Only a machine of profile 2 has a place for each thread.
@@ -504,8 +511,7 @@ fn nothing_owed(alloc: Global, machine: &Machine) -> Result<Vec<Option<Owed>>, N
     }
     let declared = machine.threads();
     let mut owed = Vec::with_capacity(alloc, declared.len())?;
-    for place in 0..declared.len() {
-        let _ = place;
+    for _ in 0..declared.len() {
         owed.push(None)?;
     }
     Ok(owed)

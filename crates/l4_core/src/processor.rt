@@ -112,6 +112,15 @@ impl<'m> Core<'m> {
         self.known.cpu()
     }
 
+    /// Gives the prover what always holds of it; no code.
+    #[inline(always)]
+    pub fn facts(&self)
+        ensures machine { IsMachine self.now.machine }
+        ensures cpu { self.now.cpu < self.now.machine.cpus }
+    {
+        self.known.facts();
+    }
+
     /// How many threads the machine has, at most 1,024.
     pub fn thread_count(&self) -> usize
         ensures value { result ≡ length self.now.machine.threads }
@@ -136,10 +145,10 @@ impl<'m> Core<'m> {
     /// `buffer` has begun an event that has no step yet.
     pub fn turn_into<S: Sink>(&mut self, buffer: &mut EventBuffer<S>) -> Option<u64>
         requires stamp { can_stamp self.old.local 0 ≡ true }
-        requires untold { IsOpen buffer.old }
+        requires open { IsOpen buffer.old }
         ensures { IsTurn self.old self.new buffer.old buffer.new result }
     {
-        let _few = self.known.len();
+        self.known.facts();
         let choice = self.choice()?;
         let stamp = self.open(0);
         self.carry_out(&choice, buffer);
@@ -318,7 +327,7 @@ fn insert_place(known: &ProcessorState, duties: &mut Places, place: usize)
     ensures core { AreCore known.now }
     ensures put { (other : ℕ) → has duties.new other ≡ (has duties.old other || other == place) }
 {
-    let _few = known.len();
+    known.facts();
     duties.insert(place);
 }
 
@@ -332,7 +341,7 @@ fn note_duty(known: &ProcessorState, duties: &mut Places, zeros: &Places, place:
     requires zeros { CoversZeros zeros.now known.now.local }
     ensures { Covers duties.new known.now.machine known.now.cpu known.now.local }
 {
-    let _few = known.len();
+    known.facts();
     if known.may_have_duty(place, zeros.contains(place)) {
         insert_place(known, duties, place);
     }
@@ -352,7 +361,7 @@ fn note_duty_beside(
     requires zeros { CoversZeros zeros.now known.now.local }
     ensures { CoversOthers other duties.new known.now.machine known.now.cpu known.now.local }
 {
-    let _few = known.len();
+    known.facts();
     if known.may_have_duty(place, zeros.contains(place)) {
         insert_place(known, duties, place);
     }

@@ -81,7 +81,7 @@ pub fn endings_heard<P: Progress>(
     ensures whole { IfOk result (λ r.
         r.is_whole ≡ true → (r.depth < depth) × IsDeepest machine.now r.depth) }
 {
-    let _ = machine.cpus();
+    machine.facts();
     let explored = explore_heard(alloc, &Choices { machine }, depth, most, progress)?;
     Ok(FoundEndings {
         endings: ends(alloc, machine, &explored.found)?,

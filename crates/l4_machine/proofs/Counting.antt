@@ -17,7 +17,7 @@ first_counted p ps = length-append (events p.worker.log) (all_events (pasts ps))
 -- The events of a processor are its turns and its ticks.
 pub turns_and_ticks : (p : Processor) → events_in p ≡ turns_of p + p.worker.log.ticks
 turns_and_ticks p =
-    let many = as_many p.worker.log.cpu 0 p.worker.log.ends.items (all_steps p.worker.log.told) in
+    let many = as_many p.worker.log.cpu 0 p.worker.log.ends.items (all_steps p.worker.log.buffer) in
     let few = p.worker.log.few in
     omega arith
 

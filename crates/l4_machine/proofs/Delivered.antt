@@ -68,7 +68,7 @@ next_delivered from first ss i j s t u v to letter d r is same out read there co
     let more : IsPosted from (letters_of ss from) rest (map station_of mid) (set (map station_of mid) j (station_of v)) =
     post_more from to j (letter_of letter) (letters_of ss from) rest (map station_of mid) (station_of u) (station_of v) there whole can at comes in
     let left : letters_of (set mid j v) from ≡ rest =
-    ap (λ ls. get_or ls from []) (map-set_same letters_out mid j v u (ap (λ (w : Worker). w.log.told.letters) worker ∙ ap letters_out read.at)) ∙ out_after ss i s t r same from is in
+    ap (λ ls. get_or ls from []) (map-set_same letters_out mid j v u (ap (λ (w : Worker). w.log.buffer.letters) worker ∙ ap letters_out read.at)) ∙ out_after ss i s t r same from is in
     let written : map station_of (set mid j v) ≡ set (map station_of mid) j (station_of v) = map-set station_of mid j v in
     record {
       come = ap (λ ls. with_letters from ls (map station_of (set mid j v))) left ∙ ap (with_letters from rest) written
@@ -98,7 +98,7 @@ module _ (from : ℕ) (first ss : List program.Station) (i : ℕ) (s t : program
   pub next_fewer : (j : ℕ) (u v : program.Station) → IsRead (set ss i t) j u → v.worker ≡ u.worker → length (letters_of (set (set ss i t) j v) from) < length (letters_of ss from)
   next_fewer j u v read worker =
       let left : letters_of (set (set ss i t) j v) from ≡ letters_out t =
-      ap (λ ls. get_or ls from []) (map-set_same letters_out (set ss i t) j v u (ap (λ (w : Worker). w.log.told.letters) worker ∙ ap letters_out read.at)) ∙ out_after ss i s t r same from is in
+      ap (λ ls. get_or ls from []) (map-set_same letters_out (set ss i t) j v u (ap (λ (w : Worker). w.log.buffer.letters) worker ∙ ap letters_out read.at)) ∙ out_after ss i s t r same from is in
       let a = ap length left in
       let b = ap length (out_here ss from i s is r ∙ out) in
       omega arith

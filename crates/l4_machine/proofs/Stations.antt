@@ -41,20 +41,20 @@ core_is p c machine cpu =
     ∙ ap (λ (n : ℕ). record { machine = c.machine; cpu = n; local = p.local }) cpu
 
 module _ (old w new : Worker) (hand : Option (ℕ × letters.Letter)) (k : Keeps old) (h : IsAtHand old w hand) (t : HasTakenTurn w new) where
-  turned_log : IsLogged old.log new.log t.stamp t.choice t.told.log.told.steps
-  turned_log = logged old.log w.log t.told.log new.log t.stamp t.choice t.told.log.ticks k.closed h.log t.done.cpu (ap (λ ends. ends.items) t.done.ends) t.done.event.kept t.ended
+  turned_log : IsLogged old.log new.log t.stamp t.choice t.middle.log.buffer.steps
+  turned_log = logged old.log w.log t.middle.log new.log t.stamp t.choice t.middle.log.ticks k.closed h.log t.done.cpu (ap (λ ends. ends.items) t.done.ends) t.done.event.kept t.ended
 
-  turned_core : new.core ≡ t.told.core
+  turned_core : new.core ≡ t.middle.core
   turned_core = ap (λ (w : Worker). w.core) t.is
 
   abbrev turned_work : Work
-  turned_work = work t.told.core.local t.told.log.told
+  turned_work = work t.middle.core.local t.middle.log.buffer
 
   turned_kept : Keeps new
   turned_kept = record {
     empty = ap (λ (w : Worker). w.hand) t.is ∙ t.done.hand;
     closed = turned_log.closed;
-    own = t.ended.cpu ∙ t.done.cpu ∙ h.log.cpu ∙ k.own ∙ sym (ap (λ (c : Processor). c.cpu) (turned_core ∙ core_is t.told.core w.core t.done.event.machine t.done.event.cpu ∙ ap (λ (c : Processor). record c { local = t.told.core.local }) h.core));
+    own = t.ended.cpu ∙ t.done.cpu ∙ h.log.cpu ∙ k.own ∙ sym (ap (λ (c : Processor). c.cpu) (turned_core ∙ core_is t.middle.core w.core t.done.event.machine t.done.event.cpu ∙ ap (λ (c : Processor). record c { local = t.middle.core.local }) h.core));
   }
 
   turned_event : work_of old.core.machine old.core.cpu old.core.local (event_in_hand hand) ≡ Some turned_work
@@ -64,12 +64,12 @@ module _ (old w new : Worker) (hand : Option (ℕ × letters.Letter)) (k : Keeps
 
   turned_core_is : new.core ≡ record { machine = old.core.machine; cpu = old.core.cpu; local = turned_work.local }
   turned_core_is =
-      turned_core ∙ core_is t.told.core w.core t.done.event.machine t.done.event.cpu
-      ∙ ap (λ (c : Processor). record { machine = c.machine; cpu = c.cpu; local = t.told.core.local }) h.core
+      turned_core ∙ core_is t.middle.core w.core t.done.event.machine t.done.event.cpu
+      ∙ ap (λ (c : Processor). record { machine = c.machine; cpu = c.cpu; local = t.middle.core.local }) h.core
 
   turned_events : events new.log ≡ events old.log ++ event_of old.core turned_work ∷ []
   turned_events =
-      let event : ℕ → ℕ → List Event = λ c s. record { cpu = c; stamp = s; steps = t.told.log.told.steps } ∷ [] in
+      let event : ℕ → ℕ → List Event = λ c s. record { cpu = c; stamp = s; steps = t.middle.log.buffer.steps } ∷ [] in
       turned_log.events
       ∙ ap (λ c. events old.log ++ event c t.stamp) k.own
       ∙ ap (λ s. events old.log ++ event old.core.cpu s) t.done.event.stamped
@@ -81,7 +81,7 @@ station_done : (old new : program.Station) (w : Worker) (hand : Option (ℕ × l
 station_done old new w hand k h t = record {
   core = turned_core_is old.worker w new.worker hand k h t;
   events = turned_events old.worker w new.worker hand k h t;
-  letters = ap (λ told. told.letters) t.ended.told;
+  letters = ap (λ b. b.letters) t.ended.buffer;
 }
 
 -- It was the core's turn.
@@ -217,21 +217,21 @@ can_turn old w (Some p) can h first stop.Stamp why =
 -- The clock of a station goes on.
 pub station_ticked : (clock : ℕ) (old new : program.Station) → Keeps old.worker → letters_in new.inbox ≡ letters_in old.inbox → HasTickedTo clock old.worker new.worker → IsTick clock old new
 station_ticked clock old new k inbox t =
-    let x : Work = work new.worker.core.local t.after.told in
+    let x : Work = work new.worker.core.local t.after.buffer in
     let l = ticked_log clock old.worker new.worker k t in
-    let event : ℕ → ℕ → List Event = λ c s. record { cpu = c; stamp = s; steps = t.after.told.steps } ∷ [] in
+    let event : ℕ → ℕ → List Event = λ c s. record { cpu = c; stamp = s; steps = t.after.buffer.steps } ∷ [] in
     record {
       work = x;
       is = t.is.event.is;
       done = record {
         core = core_is new.worker.core old.worker.core t.is.event.machine t.is.event.cpu;
         events = l.events ∙ ap (λ c. events old.worker.log ++ event c t.stamp) k.own ∙ ap (λ s. events old.worker.log ++ event old.worker.core.cpu s) t.is.event.stamped;
-        letters = ap (λ told. told.letters) t.is.ended.told;
+        letters = ap (λ b. b.letters) t.is.ended.buffer;
       };
       rest = inbox;
     }
   where
-    ticked_log : (clock : ℕ) (old new : Worker) → Keeps old → (t : HasTickedTo clock old new) → IsLogged old.log new.log t.stamp t.choice t.after.told.steps
+    ticked_log : (clock : ℕ) (old new : Worker) → Keeps old → (t : HasTickedTo clock old new) → IsLogged old.log new.log t.stamp t.choice t.after.buffer.steps
     ticked_log clock old new k t =
         logged old.log t.before t.after new.log t.stamp t.choice (t.after.ticks + 1) k.closed t.is.begun t.is.cpu (ap (λ ends. ends.items) t.is.ends) t.is.event.kept t.is.ended
 
@@ -259,13 +259,13 @@ same_station old new inbox same = record {
 pub letters_taken : (old new : program.Station) → letters_in new.inbox ≡ letters_in old.inbox → new.worker.core ≡ old.worker.core → HasLetters old.worker.log new.worker.log → IsSameStation old new
 letters_taken old new inbox core l = record {
   station = ap (λ c. record { core = c; inbox = letters_in new.inbox }) core ∙ ap (λ i. record { core = old.worker.core; inbox = i }) inbox;
-  events = rw (l.cpu, l.ends, l.told) refl;
+  events = rw (l.cpu, l.ends, l.buffer) refl;
 }
 
 pub letters_kept : (old new : Worker) → Keeps old → new.core ≡ old.core → new.hand ≡ old.hand → HasLetters old.log new.log → Keeps new
 letters_kept old new k core hand l = record {
   empty = hand ∙ k.empty;
-  closed = rw (l.told, l.ends) k.closed;
+  closed = rw (l.buffer, l.ends) k.closed;
   own = l.cpu ∙ k.own ∙ sym (ap (λ (c : Processor). c.cpu) core);
 }
 

@@ -36,7 +36,7 @@ abbrev pub events_at : program.Station → List Event
 events_at s = events s.worker.log
 
 abbrev pub letters_out : program.Station → List (ℕ × Letter)
-letters_out s = s.worker.log.told.letters
+letters_out s = s.worker.log.buffer.letters
 
 -- The same station, with the same events.
 pub record IsSameStation (old new : program.Station) : Type 0 where

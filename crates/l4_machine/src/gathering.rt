@@ -109,7 +109,7 @@ fn rested_outcome<'m>(
 {
     law_core_run();
     law_merge();
-    let _ = machine.cpus();
+    machine.facts();
     let (history, events) = merged_history(alloc, machine, processors)?;
     let ending = ending(processors, all_handled);
     let at_home = at_home(alloc, machine, processors)?;

@@ -50,7 +50,6 @@ impl OwnerView {
         ensures { IsTrue result →
             AllByRecursion IsUndeleted (map report_of_view self.now.threads.items) }
     {
-        let _ = &self.sends;
         are_undeleted(self.threads.as_slice())
     }
 }

@@ -95,8 +95,7 @@ fn empty_queues(alloc: Global, cpus: u8) -> Result<Vec<VecDeque<Letter>>, NoMemo
         map (λ letters. map letter_of letters.items) queues.items ≡ replicate cpus []) }
 {
     let mut queues = Vec::with_capacity(alloc, usize::from(cpus))?;
-    for from in 0..cpus {
-        let _ = from;
+    for _ in 0..cpus {
         queues.push(VecDeque::new(alloc))?;
     }
     Ok(queues)

@@ -112,7 +112,7 @@ fn recorded_turns<'m, R: Threads + Sync, G: Gate + Sync>(
     ensures lawful { IfOk result (λ r.
         entries_fault machine.now (map entry_from r.1.items) ≡ None) }
 {
-    let _ = machine.cpus();
+    machine.facts();
     let mut team = Team::new(alloc, machine, turns)?;
     team.run(rt, alloc, gate)?;
     let entries = team.recorded(alloc)?;

@@ -131,7 +131,6 @@ impl<'m> Scheduler<'m> {
         ensures { (m : MachineOfModel) (r : Run) → IsRun m r (under_way self.now) →
             IfOk result (IsAtHome m r.system.locals) }
     {
-        let _ = self.machine.cpus();
         let cores = cores_of(alloc, self.stations.as_slice())?;
         OwnerView::new(alloc, self.machine, cores.as_slice())
     }

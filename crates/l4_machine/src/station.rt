@@ -113,7 +113,6 @@ impl<'m> Station<'m> {
         requires { CanGoOn (station_of self.old) }
         ensures { IfOk result (λ taken. TakesCoreTurn taken self.old self.new) }
     {
-        let _ = &self.inbox;
         self.worker.begin()?;
         Ok(take_turn(&mut self.worker))
     }
@@ -123,7 +122,6 @@ impl<'m> Station<'m> {
         requires { can_stamp self.old.worker.core.local 0 ≡ true }
         ensures { IfOk result (λ ticked. GoesOnTo clock ticked self.old self.new) }
     {
-        let _ = &self.inbox;
         match self.worker.tick(clock) {
             Ok(()) => Ok(true),
             Err(ProcFault::Clock) => Ok(false),
@@ -140,7 +138,6 @@ impl<'m> Station<'m> {
         ensures none { IfNone result (letters_out self.new ≡ []) }
         ensures same { IsSameStation self.old self.new }
     {
-        let _ = &self.inbox;
         self.worker.take_letter()
     }
 
@@ -159,7 +156,6 @@ impl<'m> Station<'m> {
     pub(crate) fn least_deadline(&self) -> Option<u64>
         ensures { result ≡ deadline_of (station_of self.now) }
     {
-        let _ = &self.inbox;
         self.worker.core().least_deadline()
     }
 
@@ -167,7 +163,6 @@ impl<'m> Station<'m> {
     pub(crate) fn core(&self) -> &Core<'m>
         ensures { result.now ≡ (station_of self.now).core }
     {
-        let _ = &self.inbox;
         self.worker.core()
     }
 
@@ -176,7 +171,6 @@ impl<'m> Station<'m> {
         requires { from < length (station_of self.now).inbox }
         ensures { map letter_of result.now.items ≡ letters_from from (station_of self.now) }
     {
-        let _ = &self.worker;
         self.inbox.letters(from)
     }
 

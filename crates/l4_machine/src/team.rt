@@ -57,7 +57,7 @@ impl<'m> Team<'m> {
         ensures turns { IfOk result (λ team. team.turns ≡ turns) }
         ensures fresh { IfOk result (λ team. count_events team.processors.items ≡ 0) }
     {
-        let _ = machine.cpus();
+        machine.facts();
         let mut processors = assemble(alloc, machine, ROOM)?;
         let all_handled = come_to_rest(alloc, &mut processors)?;
         Ok(Team {
@@ -87,9 +87,8 @@ impl<'m> Team<'m> {
         ensures fewer { OnOk result
             (count_events self.new.processors.items < self.old.turns + self.old.machine.now.cpus) }
     {
-        let _ = self.machine.cpus();
-        for done in 0..self.turns {
-            let _ = done;
+        self.machine.facts();
+        for _ in 0..self.turns {
             if self.events() >= self.turns || !self.go_on(rt, alloc, gate)? {
                 return Ok(());
             }
@@ -114,7 +113,7 @@ impl<'m> Team<'m> {
             IsGathered self.entry.machine.now self.entry.processors.items (compact_findings_of o)) }
     {
         law_core_run();
-        let _ = self.machine.cpus();
+        self.machine.facts();
         let ending = ending(self.processors.as_slice(), self.all_handled);
         let at_home = at_home(alloc, self.machine, self.processors.as_slice())?;
         let (history, events) = run_history(alloc, self.machine, self.processors)?;
@@ -167,7 +166,6 @@ impl<'m> Team<'m> {
         requires few { count_events self.now.processors.items ≤ 2 ^ 60 }
         ensures { result ≡ count_events self.now.processors.items }
     {
-        let _ = &self.machine;
         events(self.processors.as_slice())
     }
 
@@ -188,7 +186,6 @@ impl<'m> Team<'m> {
         ensures near { IfSome result (λ deadline.
             deadline < (count_events self.now.processors.items + 1) * period_limit) }
     {
-        let _ = &self.machine;
         first_deadline(self.processors.as_slice())
     }
 
@@ -238,7 +235,7 @@ impl<'m> Team<'m> {
             (count_events self.new.processors.items ≤
             count_events self.old.processors.items + self.old.machine.now.cpus) }
     {
-        let _ = self.machine.cpus();
+        self.machine.facts();
         tick_all(self.processors.as_mut_slice(), deadline)
     }
 }

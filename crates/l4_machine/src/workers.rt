@@ -10,7 +10,7 @@ use l4_proc::worker::Worker;
 /// Takes a turn of the worker as the event that has begun. Answers whether there was something to
 /// do.
 pub(crate) fn take_turn(worker: &mut Worker<'_>) -> bool
-    requires open { IsOpen worker.old.log.told }
+    requires open { IsOpen worker.old.log.buffer }
     requires room { vec_len worker.old.log.ends < vec_capacity worker.old.log.ends }
     requires can { CanTurn worker.old }
     ensures { HasTriedTurn result worker.old worker.new }

@@ -50,6 +50,19 @@ pub fn flush(end: &mut Option<Outlet>)
     }
 }
 
+#[inline(always)]
+pub fn make_ready(end: &mut Option<Outlet>, letters: usize) -> Result<(), AllocError>
+    ensures ring { ring_out end.new ≡ ring_out end.old }
+    ensures posted { posted end.new ≡ posted end.old }
+    ensures room { OnOk result ((letters ≤ room end.new) ⊎ (ring_out end.new ≡ None)) }
+    ensures grown { room end.old ≤ room end.new }
+    ensures moved { OnOk result ((waiting end.new ≡ []) ⊎ (free end.new ≡ 0)) }
+{
+    reserve(end, letters)?;
+    flush(end);
+    Ok(())
+}
+
 pub fn keeps_mail(end: &Option<Inlet>) -> bool
     ensures { result ≡ keeps end.now }
 {

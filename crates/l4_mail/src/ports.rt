@@ -50,6 +50,21 @@ impl Port {
         Ok(())
     }
 
+    /// Makes room for two letters to each other processor, and moves letters on, as `reserve` and
+    /// `flush` do, in one pass. Where memory is refused, no letter is lost.
+    #[inline(always)]
+    pub fn make_ready(&mut self) -> Result<(), NoMemory>
+        ensures same { IsAsBefore self.old self.new }
+        ensures room { OnOk result ((to : ℕ) → HasWayTo self.new to → 2 ≤ room_to self.new to) }
+        ensures moved { OnOk result
+            ((to : ℕ) → (waiting_to self.new to ≡ []) ⊎ (free_to self.new to ≡ 0)) }
+    {
+        for end in self.outlets.iter_mut() {
+            ends::make_ready(end, 2)?;
+        }
+        Ok(())
+    }
+
     /// Whether there is room for a letter to the processor.
     pub fn has_room(&self, to: u8) -> bool
         ensures { IsTrue result ↔ (0 < room_to self.now to) }

@@ -42,7 +42,7 @@ event_at cpu first (e ∷ ends) steps zero end is =
     let first_event : End → Option Event = λ x. Some (record { cpu = cpu; stamp = x.stamp; steps = drop first (take x.place steps) }) in ap first_event same
 event_at cpu first (e ∷ ends) steps (suc i) end is = event_at cpu e.place ends steps i end is
 
--- All steps are told of the events together.
+-- The events together have all steps.
 
 halves : (steps : List Step) (n : ℕ) → take n steps ++ drop n steps ≡ steps
 halves [] zero = refl

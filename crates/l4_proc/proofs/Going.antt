@@ -31,7 +31,7 @@ use Rattle.l4_proc.proofs.Logging.{logged, same_closed, same_events, same_action
 
 -- The opening
 
--- A processor that has neither told, posted nor taken anything has done nothing.
+-- A processor without a new event, which has posted and taken nothing, has done nothing.
 pub opened_past : (port : Port) (w : Worker) → IsFreshPort port → w.log.ends.items ≡ [] → w.hand ≡ None →
     Extends w.core.machine w.core.cpu (empty_past w.core.local) (past_with port w)
 opened_past port w fresh ends hand = record {
@@ -48,7 +48,7 @@ opened_past port w fresh ends hand = record {
 -- A tick
 
 tick_logged : (to : ℕ) (old new : Worker) (before after : Log) (stamp choice : ℕ) → IsClosed old.log → IsTicking to old new before after stamp choice →
-    IsLogged old.log new.log stamp choice after.told.steps
+    IsLogged old.log new.log stamp choice after.buffer.steps
 tick_logged to old new before after stamp choice closed t =
     logged old.log before after new.log stamp choice (after.ticks + 1) closed t.begun t.cpu (ap (λ ends. ends.items) t.ends) t.event.kept t.ended
 
@@ -77,8 +77,8 @@ tick_worked : (to : ℕ) (port : Port) (old new : Worker) (before after : Log) (
 tick_worked to port old new before after stamp choice whole t =
     let m = old.core.machine in
     let cpu = old.core.cpu in
-    let transition : Transition = record { cpu = cpu; event = Ticked to; work = work new.core.local after.told } in
-    let event : ℕ → ℕ → List Event = λ c s. record { cpu = c; stamp = s; steps = after.told.steps } ∷ [] in
+    let transition : Transition = record { cpu = cpu; event = Ticked to; work = work new.core.local after.buffer } in
+    let event : ℕ → ℕ → List Event = λ c s. record { cpu = c; stamp = s; steps = after.buffer.steps } ∷ [] in
     let none = tick_posts_none m cpu to old.core.local _ t.event.is in
     worked_one m cpu (past_with port old) (past_with port new) transition record {
       does = record { own = refl; work = t.event.is };
@@ -97,8 +97,8 @@ pub has_ticked : (to : ℕ) (old new : Processor) (before after : Log) (stamp ch
 has_ticked to old new before after stamp choice port whole t =
     let l = tick_logged to old.worker new.worker before after stamp choice whole.closed t in
     let worked = tick_worked to old.port old.worker new.worker before after stamp choice whole t in
-    let event : ℕ → ℕ → List Event = λ c s. record { cpu = c; stamp = s; steps = after.told.steps } ∷ [] in
-    let end : End = record { stamp = stamp; place = length (all_steps after.told); choice = choice } in
+    let event : ℕ → ℕ → List Event = λ c s. record { cpu = c; stamp = s; steps = after.buffer.steps } ∷ [] in
+    let end : End = record { stamp = stamp; place = length (all_steps after.buffer); choice = choice } in
     let items : new.worker.log.ends.items ≡ old.worker.log.ends.items ++ end ∷ [] =
     t.ended.ends ∙ ap (λ (es : List End). es ++ end ∷ []) (ap (λ ends. ends.items) t.ends ∙ t.begun.ends) in
     let longer : length new.worker.log.ends.items ≡ length old.worker.log.ends.items + 1 = ap length items ∙ length-append old.worker.log.ends.items (end ∷ []) in
@@ -113,7 +113,7 @@ has_ticked to old new before after stamp choice port whole t =
       port = port;
       hand = t.hand;
       past = record {
-        work = work new.worker.core.local after.told;
+        work = work new.worker.core.local after.buffer;
         advances = t.event.is;
         events = l.events ∙ ap (λ c. events old.worker.log ++ event c stamp) whole.log_of ∙ ap (λ s. events old.worker.log ++ event old.worker.core.cpu s) t.event.stamped;
         actions = l.actions ∙ ap (λ c. actions old.worker.log ++ action_in c choice ∷ []) whole.log_of

@@ -1,4 +1,4 @@
--- A processor gets ready for a turn, and posts what the turn told.
+-- A processor gets ready for a turn, and posts the letters of the turn.
 use Rattle.std.proofs.Common.{◌≡◌, ℕ, ◌+◌, ◌-◌, ◌≤◌, Bool, true, false, Option, Some, None, List, [], ◌∷◌, ◌++◌, map, length, take, refl, ap, sym, ◌∙◌, subst, arith, append_assoc, append-nil, length-append}
 use Rattle.std.specs.Prelude.{IfSome, IfNone, nat_eq, is_some, slice_index_or}
 use Rattle.std.specs.List.{AllByRecursion}
@@ -225,8 +225,8 @@ letters_then a b c first next = record {
   cpu = next.cpu ∙ first.cpu;
   ends = next.ends ∙ first.ends;
   ticks = next.ticks ∙ first.ticks;
-  told = next.told ∙ first.told;
+  buffer = next.buffer ∙ first.buffer;
 }
 
 pub letters_closed : (old new : Log) → HasLetters old new → IsClosed old → IsClosed new
-letters_closed old new h closed = rw (h.told, h.ends) closed
+letters_closed old new h closed = rw (h.buffer, h.ends) closed

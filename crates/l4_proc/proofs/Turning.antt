@@ -166,13 +166,13 @@ all_taken xs = take_all (length xs - 0) xs (omega arith)
 no_hand : (port : Port) → IsInHand port None
 no_hand port from = sym (append-nil _ ∙ all_taken (taken_from port from))
 
-done_whole : (old ready : Processor) (told : Worker) (log : Log) (stamp choice : ℕ) → IsReady old ready → IsWhole old.port old.worker →
-    IsWhole ready.port ready.worker → HasDone ready.worker told stamp →
-    HasEnded told.log log stamp choice told.log.ticks → IsWhole ready.port (record { core = told.core; log = log; hand = told.hand; stop = told.stop })
-done_whole old ready told log stamp choice r was is d e = record {
-  port_of = port_stays ready.port ready.worker.core told.core is.port_of d.event.machine d.event.cpu;
+done_whole : (old ready : Processor) (middle : Worker) (log : Log) (stamp choice : ℕ) → IsReady old ready → IsWhole old.port old.worker →
+    IsWhole ready.port ready.worker → HasDone ready.worker middle stamp →
+    HasEnded middle.log log stamp choice middle.log.ticks → IsWhole ready.port (record { core = middle.core; log = log; hand = middle.hand; stop = middle.stop })
+done_whole old ready middle log stamp choice r was is d e = record {
+  port_of = port_stays ready.port ready.worker.core middle.core is.port_of d.event.machine d.event.cpu;
   log_of = e.cpu ∙ d.cpu ∙ is.log_of ∙ sym d.event.cpu;
-  closed = (logged old.worker.log ready.worker.log told.log log stamp choice told.log.ticks was.closed r.log d.cpu (ap (λ es. es.items) d.ends) d.event.kept e).closed;
+  closed = (logged old.worker.log ready.worker.log middle.log log stamp choice middle.log.ticks was.closed r.log d.cpu (ap (λ es. es.items) d.ends) d.event.kept e).closed;
   hand = subst (IsInHand ready.port) (sym d.hand) (no_hand ready.port);
 }
 
@@ -180,7 +180,7 @@ done_whole old ready told log stamp choice r was is d e = record {
 pub tried_turn : (old ready : Processor) (new : Worker) {A E : Type 0} (r : Result A E) → IsReady old ready → IsWhole old.port old.worker →
     IsWhole ready.port ready.worker → OnOk r (HasTakenTurn ready.worker new) → OnErr r (IsSameWorker ready.worker new) → IsWhole ready.port new
 tried_turn old ready new (Ok x) r was is taken same =
-    subst (IsWhole ready.port) (sym taken.is) (done_whole old ready taken.told new.log taken.stamp taken.choice r was is taken.done taken.ended)
+    subst (IsWhole ready.port) (sym taken.is) (done_whole old ready taken.middle new.log taken.stamp taken.choice r was is taken.done taken.ended)
 tried_turn old ready new (Err e) r was is taken same = same_whole ready.port ready.worker new same is
 
 way : (port : Port) (to : ℕ) → has_way port to ≡ true → HasWayTo port to
@@ -190,21 +190,21 @@ way port to has = by (slice_index_or (place port).outs to None) refl has
     by (Some ring) at is = (ring, at)
     by None at is = absurd cc
 
-pub letters_have_ways : (ready : Processor) (told : Worker) (stamp : ℕ) → IsWhole ready.port ready.worker → IsMachine ready.worker.core.machine →
+pub letters_have_ways : (ready : Processor) (middle : Worker) (stamp : ℕ) → IsWhole ready.port ready.worker → IsMachine ready.worker.core.machine →
     ready.worker.core.cpu < ready.worker.core.machine.cpus →
-    HasDone ready.worker told stamp → AllByRecursion (λ p. HasWayTo ready.port p.0) told.log.told.letters
-letters_have_ways ready told stamp is machine lt d =
+    HasDone ready.worker middle stamp → AllByRecursion (λ p. HasWayTo ready.port p.0) middle.log.buffer.letters
+letters_have_ways ready middle stamp is machine lt d =
     let c = ready.worker.core in
     all-map (λ (p : ℕ × letters.Letter). (p.0 < c.machine.cpus) × (p.0 ≢ c.cpu)) (λ (p : ℕ × letters.Letter). HasWayTo ready.port p.0)
-    (λ p else. way ready.port p.0 (is.port_of.ways p.0 else.0 else.1)) told.log.told.letters
-    (letters_go_elsewhere c.machine c.cpu c.local (event_in_hand ready.worker.hand) (work told.core.local told.log.told) machine lt d.event.is)
+    (λ p else. way ready.port p.0 (is.port_of.ways p.0 else.0 else.1)) middle.log.buffer.letters
+    (letters_go_elsewhere c.machine c.cpu c.local (event_in_hand ready.worker.hand) (work middle.core.local middle.log.buffer) machine lt d.event.is)
 
-pub letters_have_room : (old ready : Processor) (told : Worker) (stamp : ℕ) → IsReady old ready → IsMachine ready.worker.core.machine →
+pub letters_have_room : (old ready : Processor) (middle : Worker) (stamp : ℕ) → IsReady old ready → IsMachine ready.worker.core.machine →
     ready.worker.core.cpu < ready.worker.core.machine.cpus →
-    HasDone ready.worker told stamp → (to : ℕ) → HasWayTo ready.port to → length told.log.told.letters ≤ room_to ready.port to
-letters_have_room old ready told stamp r machine lt d to has =
+    HasDone ready.worker middle stamp → (to : ℕ) → HasWayTo ready.port to → length middle.log.buffer.letters ≤ room_to ready.port to
+letters_have_room old ready middle stamp r machine lt d to has =
     let c = ready.worker.core in
-    let few = at_most_two_letters c.machine c.cpu c.local (event_in_hand ready.worker.hand) (work told.core.local told.log.told) machine lt d.event.is in
+    let few = at_most_two_letters c.machine c.cpu c.local (event_in_hand ready.worker.hand) (work middle.core.local middle.log.buffer) machine lt d.event.is in
     omega (arith, few, r.room to has)
 
 -- A letter that is handled is a turn, and so is the core's own.
@@ -238,35 +238,35 @@ mail_first old ready d event r = record {
   kept = λ from some is. not_turned ready.worker.hand (λ none. some ((r.had none).kept from)) (sym event ∙ is);
 }
 
-pub turn_taken : (old ready posted new : Processor) (told : Worker) (log : Log) (stamp choice : ℕ) → IsWhole old.port old.worker →
+pub turn_taken : (old ready posted new : Processor) (middle : Worker) (log : Log) (stamp choice : ℕ) → IsWhole old.port old.worker →
     IsWhole ready.port ready.worker → old.worker.log.ticks ≤ vec_len old.worker.log.ends →
-    IsReady old ready → HasDone ready.worker told stamp → ((cpu : ℕ) → action_in cpu choice ≡ action_of cpu (event_in_hand ready.worker.hand)) →
-    HasEnded told.log log stamp choice told.log.ticks → HasPostedAll ready.port posted.port log.told.letters → posted.worker.core ≡ told.core → posted.worker.hand ≡ told.hand → HasLetters log posted.worker.log →
+    IsReady old ready → HasDone ready.worker middle stamp → ((cpu : ℕ) → action_in cpu choice ≡ action_of cpu (event_in_hand ready.worker.hand)) →
+    HasEnded middle.log log stamp choice middle.log.ticks → HasPostedAll ready.port posted.port log.buffer.letters → posted.worker.core ≡ middle.core → posted.worker.hand ≡ middle.hand → HasLetters log posted.worker.log →
     IsAsBefore posted.port new.port → new.worker ≡ posted.worker → HasTaken 1 old new
-turn_taken old ready posted new told log stamp choice was is few r d what e p core hand ls f worker =
+turn_taken old ready posted new middle log stamp choice was is few r d what e p core hand ls f worker =
     let w = old.worker in
     let rcore = r.core in
-    let all = logged w.log ready.worker.log told.log log stamp choice told.log.ticks was.closed r.log d.cpu (ap (λ es. es.items) d.ends) d.event.kept e in
-    let transition : Transition = record { cpu = w.core.cpu; event = event_in_hand ready.worker.hand; work = work told.core.local told.log.told } in
-    let new_core : new.worker.core ≡ told.core = ap (λ (x : Worker). x.core) worker ∙ core in
+    let all = logged w.log ready.worker.log middle.log log stamp choice middle.log.ticks was.closed r.log d.cpu (ap (λ es. es.items) d.ends) d.event.kept e in
+    let transition : Transition = record { cpu = w.core.cpu; event = event_in_hand ready.worker.hand; work = work middle.core.local middle.log.buffer } in
+    let new_core : new.worker.core ≡ middle.core = ap (λ (x : Worker). x.core) worker ∙ core in
     let new_hand : new.worker.hand ≡ None = ap (λ (x : Worker). x.hand) worker ∙ hand ∙ d.hand in
-    let same_log : events new.worker.log ≡ events log = ap (λ (x : Worker). events x.log) worker ∙ rw (ls.cpu, ap (λ es. es.items) ls.ends, ls.told) refl in
+    let same_log : events new.worker.log ≡ events log = ap (λ (x : Worker). events x.log) worker ∙ rw (ls.cpu, ap (λ es. es.items) ls.ends, ls.buffer) refl in
     let same_happened : actions new.worker.log ≡ actions log =
     ap (λ (x : Worker). actions x.log) worker ∙ rw (ls.cpu, ap (λ es. es.items) ls.ends) refl in
-    let ends : new.worker.log.ends.items ≡ w.log.ends.items ++ record { stamp = stamp; place = length (all_steps told.log.told); choice = choice } ∷ [] =
+    let ends : new.worker.log.ends.items ≡ w.log.ends.items ++ record { stamp = stamp; place = length (all_steps middle.log.buffer); choice = choice } ∷ [] =
     ap (λ (x : Worker). x.log.ends.items) worker ∙ ap (λ es. es.items) ls.ends ∙ e.ends
-    ∙ ap (λ es. es ++ record { stamp = stamp; place = length (all_steps told.log.told); choice = choice } ∷ []) (ap (λ es. es.items) d.ends ∙ r.log.ends) in
+    ∙ ap (λ es. es ++ record { stamp = stamp; place = length (all_steps middle.log.buffer); choice = choice } ∷ []) (ap (λ es. es.items) d.ends ∙ r.log.ends) in
     let ticks : new.worker.log.ticks ≡ w.log.ticks = ap (λ (x : Worker). x.log.ticks) worker ∙ ls.ticks ∙ e.ticks ∙ d.ticks ∙ r.log.ticks in
     let next : IsNext w.core.machine w.core.cpu (past old) (past new) transition = record {
       does = record {
         own = refl;
-        work = subst (λ (c : cores.Processor). work_of c.machine c.cpu c.local (event_in_hand ready.worker.hand) ≡ Some (work told.core.local
-            told.log.told)) rcore d.event.is;
+        work = subst (λ (c : cores.Processor). work_of c.machine c.cpu c.local (event_in_hand ready.worker.hand) ≡ Some (work middle.core.local
+            middle.log.buffer)) rcore d.event.is;
       };
       events = same_log ∙ all.events ∙ ap (λ (x : Event). events w.log ++ x ∷ []) (rw (was.log_of, d.event.stamped) refl);
       actions = same_happened ∙ all.actions ∙ ap (λ c. actions w.log ++ action_in c choice ∷ []) was.log_of
           ∙ ap (λ h. actions w.log ++ h ∷ []) (what w.core.cpu);
-      posted = λ to. ap (map letter_of) (f.posted to) ∙ p.posted to ∙ rw (r.posted to, e.told) refl;
+      posted = λ to. ap (map letter_of) (f.posted to) ∙ p.posted to ∙ rw (r.posted to, e.buffer) refl;
       handled = λ from. ap (λ h. map letter_of (handled_from new.port h from)) new_hand
           ∙ ap (map letter_of) (all_taken (taken_from new.port from) ∙ f.taken from ∙ p.taken from ∙ is.hand from)
           ∙ map-append letter_of (handled_from ready.port ready.worker.hand from) (hand_from ready.worker.hand from)

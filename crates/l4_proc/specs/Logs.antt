@@ -1,4 +1,4 @@
--- The log of one processor: its events in order, and what is told of the event under way.
+-- The log of one processor: its events in order, and the steps and letters of the one under way.
 use Rattle.std.specs.Prelude.{◌≡◌, ℕ, ◌++◌, ◌<◌, true, List, [], ◌∷◌, length, map, vec_len}
 use Rattle.std.specs.Vec.{vec_capacity}
 use Rattle.l4_model.specs.Steps.{Step}
@@ -9,12 +9,12 @@ use Rattle.l4_proc.specs.Ends.{are_ends, events_between}
 use Rattle.l4_proc.specs.declared.log.EventRef.{EventRef}
 use Rattle.l4_proc.specs.declared.log.Log.{Log}
 
--- All that was told: the steps of the event under way behind those before.
+-- All steps: those of the event under way behind those before.
 abbrev pub all_steps : EventBuffer → List Step
 all_steps t = t.before ++ t.steps
 
 abbrev pub events : Log → List Event
-events log = events_between log.cpu 0 log.ends.items (all_steps log.told)
+events log = events_between log.cpu 0 log.ends.items (all_steps log.buffer)
 
 -- What happened in each event of a log.
 abbrev pub actions : Log → List Action
@@ -23,37 +23,37 @@ actions log = map (λ end. action_in log.cpu end.choice) log.ends.items
 abbrev pub event_of : EventRef → Event
 event_of e = record { cpu = e.cpu; stamp = e.stamp; steps = e.steps }
 
--- All that was told belongs to events that have ended.
+-- All steps belong to events that have ended.
 abbrev pub IsClosed : Log → Type 0
-IsClosed log = are_ends 0 log.ends.items (length (all_steps log.told)) ≡ true
+IsClosed log = are_ends 0 log.ends.items (length (all_steps log.buffer)) ≡ true
 
--- An event begins, and there is room for all that it may tell and for its end.
+-- An event begins, and there is room for its steps, its letters and its end.
 pub record HasBegun (old new : Log) : Type 0 where
   pub cpu : new.cpu ≡ old.cpu
   pub ends : new.ends.items ≡ old.ends.items
   pub ticks : new.ticks ≡ old.ticks
-  pub told : IsBegun old.told new.told
+  pub buffer : IsBegun old.buffer new.buffer
   pub room : vec_len new.ends < vec_capacity new.ends
 
--- Nothing was told, and no event has begun or ended.
+-- No step or letter came, and no event has begun or ended.
 pub record IsSameLog (old new : Log) : Type 0 where
   pub cpu : new.cpu ≡ old.cpu
   pub ends : new.ends.items ≡ old.ends.items
   pub ticks : new.ticks ≡ old.ticks
-  pub told : new.told ≡ old.told
+  pub buffer : new.buffer ≡ old.buffer
 
 -- The event under way ended, with this stamp and the number of what happened. `count` events of the
 -- log are ticks then.
 pub record HasEnded (old new : Log) (stamp choice count : ℕ) : Type 0 where
   pub cpu : new.cpu ≡ old.cpu
   pub ends : new.ends.items ≡ old.ends.items ++
-      record { stamp = stamp; place = length (all_steps old.told); choice = choice } ∷ []
+      record { stamp = stamp; place = length (all_steps old.buffer); choice = choice } ∷ []
   pub ticks : new.ticks ≡ count
-  pub told : new.told ≡ old.told
+  pub buffer : new.buffer ≡ old.buffer
 
 -- Letters of the event under way were taken out.
 pub record HasLetters (old new : Log) : Type 0 where
   pub cpu : new.cpu ≡ old.cpu
   pub ends : new.ends ≡ old.ends
   pub ticks : new.ticks ≡ old.ticks
-  pub told : all_steps new.told ≡ all_steps old.told
+  pub buffer : all_steps new.buffer ≡ all_steps old.buffer

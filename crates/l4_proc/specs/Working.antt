@@ -134,7 +134,7 @@ pub record IsUnready (old new : Processor) : Type 0 where
 -- The letter in hand was handled, or the core's turn taken.
 pub record HasDone (old new : Worker) (stamp : ℕ) : Type 0 where
   pub event : IsEvent (work_of old.core.machine old.core.cpu old.core.local
-      (event_in_hand old.hand)) old.core new.core old.log.told new.log.told stamp
+      (event_in_hand old.hand)) old.core new.core old.log.buffer new.log.buffer stamp
   pub hand : new.hand ≡ None
   pub cpu : new.log.cpu ≡ old.log.cpu
   pub ends : new.log.ends ≡ old.log.ends
@@ -148,20 +148,20 @@ pub record IsSameWorker (old new : Worker) : Type 0 where
 
 -- The letter in hand was handled, or the core's turn taken, and the event has ended.
 pub record HasTakenTurn (old new : Worker) : Type 0 where
-  pub told : Worker
+  pub middle : Worker
   pub stamp : ℕ
   pub choice : ℕ
-  pub done : HasDone old told stamp
+  pub done : HasDone old middle stamp
   pub happened : (cpu : ℕ) → action_in cpu choice ≡ action_of cpu (event_in_hand old.hand)
-  pub ended : HasEnded told.log new.log stamp choice told.log.ticks
-  pub is : new ≡ record { core = told.core; log = new.log; hand = told.hand; stop = told.stop }
+  pub ended : HasEnded middle.log new.log stamp choice middle.log.ticks
+  pub is : new ≡ record { core = middle.core; log = new.log; hand = middle.hand; stop = middle.stop }
 
 -- An event begins, the clock goes on to a value, and the event ends.
 pub record IsTicking (to : ℕ) (old new : Worker) (before after : Log) (stamp choice : ℕ) :
     Type 0 where
   pub begun : HasBegun old.log before
   pub event : IsEvent (advance old.core.machine old.core.cpu to old.core.local) old.core new.core
-      before.told after.told stamp
+      before.buffer after.buffer stamp
   pub hand : new.hand ≡ old.hand
   pub stop : new.stop ≡ old.stop
   pub cpu : after.cpu ≡ before.cpu
@@ -179,7 +179,7 @@ pub record HasTickedTo (to : ℕ) (old new : Worker) : Type 0 where
 
 -- The letters of the event under way were posted.
 pub record HasPostedOwn (old new : Processor) : Type 0 where
-  pub port : HasPostedAll old.port new.port old.worker.log.told.letters
+  pub port : HasPostedAll old.port new.port old.worker.log.buffer.letters
   pub core : new.worker.core ≡ old.worker.core
   pub hand : new.worker.hand ≡ old.worker.hand
   pub log : HasLetters old.worker.log new.worker.log

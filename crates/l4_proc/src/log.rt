@@ -30,7 +30,7 @@ pub(crate) struct End {
 pub struct Log {
     cpu: u8,
     // The steps of all events, and after them those of the current event.
-    pub(crate) told: EventBuffer<History>,
+    pub(crate) buffer: EventBuffer<History>,
     ends: Vec<End>,
     // How many of the events were ticks.
     ticks: usize,
@@ -60,12 +60,12 @@ impl Log {
     pub fn new(alloc: Global, cpu: u8) -> Log
         ensures cpu { result.cpu ≡ cpu }
         ensures ends { result.ends.items ≡ [] }
-        ensures told { all_steps result.told ≡ [] }
+        ensures steps { all_steps result.buffer ≡ [] }
         ensures ticks { result.ticks ≡ 0 }
     {
         Log {
             cpu,
-            told: EventBuffer::new(History::new(alloc)),
+            buffer: EventBuffer::new(History::new(alloc)),
             ends: Vec::new(alloc),
             ticks: 0,
         }
@@ -106,7 +106,7 @@ impl Log {
         EventRef {
             cpu: self.cpu,
             stamp: end.stamp,
-            steps: self.told.sink().steps_between(start(ends, i), end.place),
+            steps: self.buffer.sink().steps_between(start(ends, i), end.place),
         }
     }
 
@@ -149,7 +149,7 @@ impl Log {
         requires { IsClosed self.now }
         ensures { result.now.steps ≡ told (events self.now) }
     {
-        self.told.sink()
+        self.buffer.sink()
     }
 
     /// The steps of all events, in order. Nothing is copied.
@@ -157,7 +157,7 @@ impl Log {
         requires { IsClosed self }
         ensures { result.steps ≡ told (events self) }
     {
-        self.told.into_sink()
+        self.buffer.into_sink()
     }
 
     // Makes room for an event, and begins it.
@@ -169,7 +169,7 @@ impl Log {
         if self.ends.len() == self.ends.capacity() {
             grow(&mut self.ends)?;
         }
-        self.told.begin()
+        self.buffer.begin()
     }
 
     // Ends the current event, a turn of which this is the number.
@@ -177,7 +177,7 @@ impl Log {
         requires { vec_len self.old.ends < vec_capacity self.old.ends }
         ensures { HasEnded self.old self.new stamp choice self.old.ticks }
     {
-        let place = self.told.sink().len();
+        let place = self.buffer.sink().len();
         self.ends.push_reserved(End {
             stamp,
             place,
@@ -196,19 +196,19 @@ impl Log {
 
     // Whether the current event has letters left.
     pub(crate) fn has_letters(&self) -> bool
-        ensures { (result ≡ false) ↔ (self.now.told.letters ≡ []) }
+        ensures { (result ≡ false) ↔ (self.now.buffer.letters ≡ []) }
     {
-        !self.told.letters().is_empty()
+        !self.buffer.letters().is_empty()
     }
 
     // The next letter of the current event, with the processor that it goes to.
     pub(crate) fn take_letter(&mut self) -> Option<(u8, Letter)>
-        ensures letters { self.old.told.letters ≡
-            option_to_list (option_map posted_of result) ++ self.new.told.letters }
-        ensures none { IfNone result (self.new.told.letters ≡ []) }
+        ensures letters { self.old.buffer.letters ≡
+            option_to_list (option_map posted_of result) ++ self.new.buffer.letters }
+        ensures none { IfNone result (self.new.buffer.letters ≡ []) }
         ensures same { HasLetters self.old self.new }
     {
-        self.told.take_letter()
+        self.buffer.take_letter()
     }
 }
 

@@ -186,12 +186,12 @@ impl<'m> Processor<'m> {
     }
 
     // Posts the letters of the event that has ended, and moves them on. If there are none,
-    // `get_ready` has flushed already.
+    // `get_ready` has moved letters on.
     fn send_all(&mut self)
         requires ways { AllByRecursion (λ p.
-            HasWayTo self.old.port p.0) self.old.worker.log.told.letters }
+            HasWayTo self.old.port p.0) self.old.worker.log.buffer.letters }
         requires room { (to : ℕ) → HasWayTo self.old.port to →
-            length self.old.worker.log.told.letters ≤ room_to self.old.port to }
+            length self.old.worker.log.buffer.letters ≤ room_to self.old.port to }
         ensures { HasPostedOwn self.old self.new }
     {
         if self.worker.log.has_letters() {
@@ -204,9 +204,9 @@ impl<'m> Processor<'m> {
     #[inline(never)]
     fn post_all(&mut self)
         requires ways { AllByRecursion (λ p.
-            HasWayTo self.old.port p.0) self.old.worker.log.told.letters }
+            HasWayTo self.old.port p.0) self.old.worker.log.buffer.letters }
         requires room { (to : ℕ) → HasWayTo self.old.port to →
-            length self.old.worker.log.told.letters ≤ room_to self.old.port to }
+            length self.old.worker.log.buffer.letters ≤ room_to self.old.port to }
         ensures { HasPostedOwn self.old self.new }
     {
         'letters: while let Some((to, letter)) = self.worker.log.take_letter() {
@@ -220,8 +220,7 @@ impl<'m> Processor<'m> {
         ensures err { OnErr result (IsUnready self.old self.new) }
     {
         self.worker.log.begin()?;
-        self.port.reserve()?;
-        self.port.flush();
+        self.port.make_ready()?;
         if self.worker.hand.is_none() && self.port.has_mail() {
             take_mail(&mut self.port, &mut self.worker.hand);
         }

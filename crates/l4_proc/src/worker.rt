@@ -33,14 +33,14 @@ pub struct Worker<'m> {
 fn handle(
     core: &mut Core<'_>,
     letter: &Letter,
-    told: &mut EventBuffer<History>,
+    buffer: &mut EventBuffer<History>,
 ) -> Result<u64, Stop>
-    requires open { IsOpen told.old }
+    requires open { IsOpen buffer.old }
     ensures ok { IfOk result (λ stamp.
         IsEvent
         (handle core.old.machine core.old.cpu core.old.local
-        (letter_of letter.now)) core.old core.new told.old told.new stamp) }
-    ensures err { OnErr result ((core.new ≡ core.old) × (told.new ≡ told.old)) }
+        (letter_of letter.now)) core.old core.new buffer.old buffer.new stamp) }
+    ensures err { OnErr result ((core.new ≡ core.old) × (buffer.new ≡ buffer.old)) }
     ensures mail { IsErrOf result Stop.Mail ↔
         (handle core.old.machine core.old.cpu core.old.local (letter_of letter.now) ≡ None) }
     ensures stamp { IsErrOf result Stop.Stamp ↔
@@ -48,7 +48,7 @@ fn handle(
         (can_stamp core.old.local letter.now.stamp ≡ false)) }
     ensures faults { IfErr result (λ stop. (stop ≡ Stop.Mail) ⊎ (stop ≡ Stop.Stamp)) }
 {
-    match core.handle_into(letter, told) {
+    match core.handle_into(letter, buffer) {
         Ok(stamp) => Ok(stamp),
         Err(Fault::Mail) => Err(Stop::Mail),
         Err(_) => Err(Stop::Stamp),
@@ -56,13 +56,13 @@ fn handle(
 }
 
 // Takes the core's own turn.
-fn turn(core: &mut Core<'_>, told: &mut EventBuffer<History>) -> Result<u64, Stop>
-    requires open { IsOpen told.old }
+fn turn(core: &mut Core<'_>, buffer: &mut EventBuffer<History>) -> Result<u64, Stop>
+    requires open { IsOpen buffer.old }
     ensures ok { IfOk result (λ stamp.
         IsEvent
         (turn core.old.machine core.old.cpu core.old.local)
-        core.old core.new told.old told.new stamp) }
-    ensures err { OnErr result ((core.new ≡ core.old) × (told.new ≡ told.old)) }
+        core.old core.new buffer.old buffer.new stamp) }
+    ensures err { OnErr result ((core.new ≡ core.old) × (buffer.new ≡ buffer.old)) }
     ensures idle { IsErrOf result Stop.Idle ↔
         (turn core.old.machine core.old.cpu core.old.local ≡ None) }
     ensures stamp { IsErrOf result Stop.Stamp ↔
@@ -73,7 +73,7 @@ fn turn(core: &mut Core<'_>, told: &mut EventBuffer<History>) -> Result<u64, Sto
     if !core.can_stamp(0) {
         return Err(if core.busy() { Stop::Stamp } else { Stop::Idle });
     }
-    match core.turn_into(told) {
+    match core.turn_into(buffer) {
         Some(stamp) => Ok(stamp),
         None => Err(Stop::Idle),
     }
@@ -100,7 +100,7 @@ impl<'m> Worker<'m> {
         ensures cpu { result.log.cpu ≡ core.entry.cpu }
         ensures ends { result.log.ends.items ≡ [] }
         ensures ticks { result.log.ticks ≡ 0 }
-        ensures told { all_steps result.log.told ≡ [] }
+        ensures steps { all_steps result.log.buffer ≡ [] }
         ensures hand { result.hand ≡ None }
         ensures stop { result.stop ≡ Stop.Used }
     {
@@ -159,7 +159,7 @@ impl<'m> Worker<'m> {
     /// Takes a turn as the event that has begun: handles the letter in hand, else takes the core's
     /// turn. If the turn is not taken, core and letter stay.
     pub fn take_turn(&mut self) -> Result<(), Stop>
-        requires open { IsOpen self.old.log.told }
+        requires open { IsOpen self.old.log.buffer }
         requires room { vec_len self.old.log.ends < vec_capacity self.old.log.ends }
         ensures ok { OnOk result (HasTakenTurn self.old self.new) }
         ensures err { OnErr result (IsSameWorker self.old self.new) }
@@ -186,21 +186,21 @@ impl<'m> Worker<'m> {
 
     // Handles the letter in hand, else takes the core's turn.
     fn go_on(&mut self) -> Result<u64, Stop>
-        requires open { IsOpen self.old.log.told }
+        requires open { IsOpen self.old.log.buffer }
         ensures ok { IfOk result (λ stamp. HasDone self.old self.new stamp) }
         ensures err { OnErr result (IsSameWorker self.old self.new) }
         ensures why { IfErr result (λ stop. IsRefused self.old.core self.old.hand stop) }
         ensures machine { IsMachine self.old.core.machine }
         ensures cpu { self.old.core.cpu < self.old.core.machine.cpus }
     {
-        let _cpu = self.core.cpu();
+        self.core.facts();
         match &self.hand {
             Some((_, letter)) => {
-                let stamp = handle(&mut self.core, letter, &mut self.log.told)?;
+                let stamp = handle(&mut self.core, letter, &mut self.log.buffer)?;
                 self.hand = None;
                 Ok(stamp)
             }
-            None => turn(&mut self.core, &mut self.log.told),
+            None => turn(&mut self.core, &mut self.log.buffer),
         }
     }
 
@@ -210,9 +210,9 @@ impl<'m> Worker<'m> {
         ensures core { self.new.core ≡ self.old.core }
         ensures hand { self.new.hand ≡ self.old.hand }
         ensures stop { self.new.stop ≡ self.old.stop }
-        ensures letters { self.old.log.told.letters ≡
-            option_to_list (option_map posted_of result) ++ self.new.log.told.letters }
-        ensures none { IfNone result (self.new.log.told.letters ≡ []) }
+        ensures letters { self.old.log.buffer.letters ≡
+            option_to_list (option_map posted_of result) ++ self.new.log.buffer.letters }
+        ensures none { IfNone result (self.new.log.buffer.letters ≡ []) }
         ensures log { HasLetters self.old.log self.new.log }
     {
         self.log.take_letter()
@@ -246,18 +246,18 @@ impl<'m> Worker<'m> {
 
     // Advances the clock to this value, if it may.
     fn advance(&mut self, to: u64) -> u64
-        requires open { IsOpen self.old.log.told }
+        requires open { IsOpen self.old.log.buffer }
         requires can { IsSome
             (advance self.old.core.machine self.old.core.cpu to self.old.core.local) }
         requires stamp { can_stamp self.old.core.local 0 ≡ true }
         ensures event { IsEvent
             (advance self.old.core.machine self.old.core.cpu to self.old.core.local)
-            self.old.core self.new.core self.old.log.told self.new.log.told result }
+            self.old.core self.new.core self.old.log.buffer self.new.log.buffer result }
         ensures hand { self.new.hand ≡ self.old.hand }
         ensures stop { self.new.stop ≡ self.old.stop }
         ensures log { (self.new.log.cpu ≡ self.old.log.cpu) ×
             (self.new.log.ends ≡ self.old.log.ends) × (self.new.log.ticks ≡ self.old.log.ticks) }
     {
-        self.core.advance_into(to, &mut self.log.told).unwrap()
+        self.core.advance_into(to, &mut self.log.buffer).unwrap()
     }
 }

@@ -67,7 +67,7 @@ pub fn with_rest(
     if is_out_of_range(entries.len(), turns) {
         return Err(RunFault::Turns);
     }
-    let _ = machine.cpus();
+    machine.facts();
     let mut replay = replayed(alloc, machine, entries)?;
     replay.go_on(turns)?;
     Ok(replay.entries)

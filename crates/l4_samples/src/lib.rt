@@ -2,8 +2,7 @@
 //! which memory is refused.
 //!
 //! `PING` is the smallest: one word goes from one thread to another. `ACROSS` and `CALLS` have two
-//! processors, `endless` as many as are asked for. The traces and the report of the first two stand
-//! beside them. The program does not use this crate.
+//! processors, `endless` as many as are asked for. The traces of the first two stand beside them. The program does not use this crate.
 //!
 //! `call_begins` and `call_ends` print where a call stands that bench/refusals.sh tries with
 //! refused memory.
@@ -35,12 +34,6 @@ queue 1.1#1
 deliver 1.1#1 2.1 1.1 1.1 70001 a
 local 2.1
 local 1.1
-";
-
-/// Its report.
-pub const PING_REPORT: &str = "thread 1.1 ended 0 nil nil 0 a
-thread 2.1 ended 0 1.1 1.1 70001 a
-ending quiet
 ";
 
 /// A thread that sends a word, and on another processor one that waits for anybody.

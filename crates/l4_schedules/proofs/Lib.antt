@@ -1,4 +1,5 @@
 pub mod Beginnings
+pub mod Digits
 pub mod Faulting
 pub mod InLines
 pub mod ItemSpelling

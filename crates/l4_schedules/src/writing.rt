@@ -1,5 +1,7 @@
 //! The list of a schedule, written.
-ghost use Rattle.std.specs.Prelude.{◌≡◌, ◌++◌, codes, decimal, flat_map, map, OnOk, IfOk};
+ghost use Rattle.std.specs.Prelude.{◌≡◌, ◌<◌, ◌≤◌, ◌+◌, ◌++◌, codes, decimal, flat_map, map, OnOk};
+ghost use Rattle.std.specs.Prelude.{IfOk};
+ghost use Rattle.std.specs.Vec.{vec_capacity, vec_len};
 ghost use Rattle.l4_machine.specs.Entries.{entry_from};
 ghost use Rattle.l4_schedules.specs.Items.{item_of};
 ghost use Rattle.l4_schedules.specs.Written.{in_lines, recorded_text, schedule_text, separator};
@@ -11,6 +13,9 @@ use std::alloc::Global;
 
 // The number of items in a line of a recorded list.
 const ITEMS_A_LINE: usize = 16;
+
+// What separates two items, and the item of a letter between the processors 0 to 9, have no more.
+const SHORT_BYTES: usize = 5;
 
 /// Appends the list of some entries: the item of each, with a comma between two. `schedule_of`
 /// reads it as these entries, where they are of its machine and not too many. If memory is refused,
@@ -56,22 +61,75 @@ fn push_lines(text: &mut Vec<u8>, entries: &[Entry]) -> Result<(), NoMemory>
         text.old.items ++ in_lines 0 (map entry_from entries.now)) }
 {
     for (before, entry) in entries.iter().enumerate() {
-        push_text(text, separator(before))?;
-        push_item(text, *entry)?;
+        push_behind(text, before, entry)?;
     }
     Ok(())
 }
 
-// What separates an item from the `before` items in front of it.
-fn separator(before: usize) -> &'static str
-    ensures { result.now ≡ separator before }
+// Appends the item of an entry behind `before` others. Room is asked for once: almost all that a run
+// records is short.
+#[inline(always)]
+fn push_behind(text: &mut Vec<u8>, before: usize, entry: &Entry) -> Result<(), NoMemory>
+    ensures { OnOk result (text.new.items ≡
+        text.old.items ++ separator before ++ item_of (entry_from entry.now)) }
+{
+    text.reserve(SHORT_BYTES)?;
+    push_separator(text, before);
+    match *entry {
+        Entry::Core(cpu) if cpu < 10 => push_core(text, cpu),
+        Entry::Letter { cpu, from } if cpu < 10 && from < 10 => push_letter(text, cpu, from),
+        _ => return push_long(text, entry),
+    }
+    Ok(())
+}
+
+// Appends the item of an entry that may be long. A call of its own: so no short one is copied.
+#[inline(never)]
+fn push_long(text: &mut Vec<u8>, entry: &Entry) -> Result<(), NoMemory>
+    ensures { OnOk result (text.new.items ≡ text.old.items ++ item_of (entry_from entry.now)) }
+{
+    push_item(text, *entry)
+}
+
+// Appends the item of the turn of a core, where room was asked for.
+#[inline(always)]
+#[tactic(auto, using(crate::proofs::Digits::one_digit))]
+fn push_core(text: &mut Vec<u8>, cpu: u8)
+    requires digit { cpu < 10 }
+    requires room { vec_len text.old + 2 ≤ vec_capacity text.old }
+    ensures { text.new.items ≡ text.old.items ++ codes "c" ++ decimal cpu }
+{
+    text.push_reserved(b'c');
+    text.push_reserved(b'0' + cpu);
+}
+
+// Appends the item of a letter, where room was asked for.
+#[inline(always)]
+#[tactic(auto, using(crate::proofs::Digits::one_digit))]
+fn push_letter(text: &mut Vec<u8>, cpu: u8, from: u8)
+    requires digits { (cpu < 10) × (from < 10) }
+    requires room { vec_len text.old + 3 ≤ vec_capacity text.old }
+    ensures { text.new.items ≡ text.old.items ++ decimal cpu ++ codes ":" ++ decimal from }
+{
+    text.push_reserved(b'0' + cpu);
+    text.push_reserved(b':');
+    text.push_reserved(b'0' + from);
+}
+
+// Appends what separates an item from the `before` items in front of it.
+#[inline(always)]
+fn push_separator(text: &mut Vec<u8>, before: usize)
+    requires { vec_len text.old + 2 ≤ vec_capacity text.old }
+    ensures items { text.new.items ≡ text.old.items ++ separator before }
+    ensures len { vec_len text.new ≤ vec_len text.old + 2 }
+    ensures capacity { vec_capacity text.new ≡ vec_capacity text.old }
 {
     if before == 0 {
-        ""
-    } else if before % ITEMS_A_LINE == 0 {
-        ",\n"
-    } else {
-        ","
+        return;
+    }
+    text.push_reserved(b',');
+    if before % ITEMS_A_LINE == 0 {
+        text.push_reserved(b'\n');
     }
 }
 

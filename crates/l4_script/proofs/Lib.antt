@@ -4,7 +4,9 @@ pub mod CanonicalRows
 pub mod Finding
 pub mod Growing
 pub mod Judging
+pub mod Keywords
 pub mod OwnWords
+pub mod PlainWords
 pub mod ReadBack
 pub mod ReadingLines
 pub mod Spelled

@@ -165,6 +165,12 @@ target_of operands = do
   number ← needs (one operands) BadLine
   needs (number_of number) BadNumber
 
+abbrev pub jump_of : List (List ℕ) → Judged Instr
+jump_of operands = target_of operands >>= λ place. Ok (Jump place)
+
+abbrev pub on_error_of : List (List ℕ) → Judged Instr
+on_error_of operands = target_of operands >>= λ place. Ok (OnErr place)
+
 -- `end`, behind its first word: nothing.
 abbrev pub end_of : List (List ℕ) → Judged Instr
 end_of [] = Ok End
@@ -181,8 +187,8 @@ instruction_of format name operands =
     else (if bytes_eq name (codes "ipc") then ipc_of format operands
     else (if bytes_eq name (codes "exregs") then exregs_of format operands
     else (if bytes_eq name (codes "delete") then delete_of format operands
-    else (if bytes_eq name (codes "jump") then (target_of operands >>= λ place. Ok (Jump place))
-    else (if bytes_eq name (codes "onerr") then (target_of operands >>= λ place. Ok (OnErr place))
+    else (if bytes_eq name (codes "jump") then jump_of operands
+    else (if bytes_eq name (codes "onerr") then on_error_of operands
     else (if bytes_eq name (codes "end") then end_of operands
     else Err BadLine))))))))))
 

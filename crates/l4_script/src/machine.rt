@@ -160,6 +160,16 @@ impl Machine {
         self.retargeting
     }
 
+    /// Gives the prover what always holds of it; no code.
+    #[inline(always)]
+    pub fn facts(&self)
+        ensures some { 1 ≤ self.now.cpus }
+        ensures limit { self.now.cpus ≤ most_processors }
+        ensures lawful { IsMachine self.now }
+    {
+        let _ = self.cpus();
+    }
+
     /// The number of processors, 1 to 16.
     pub fn cpus(&self) -> u8
         ensures value { result ≡ self.now.cpus }

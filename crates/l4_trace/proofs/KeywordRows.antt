@@ -1,9 +1,10 @@
 -- The step of a line by the keyword in front of it.
-use Rattle.std.proofs.Common.{◌≡◌, ℕ, Bool, true, false, cond, List, [], ◌∷◌, Option, Some, None, refl}
-use Rattle.std.specs.Prelude.{codes}
+use Rattle.std.proofs.Common.{◌≡◌, ℕ, Bool, true, false, cond, List, [], ◌∷◌, Option, Some, None, refl, sym, ap, ◌∙◌}
+use Rattle.std.specs.Prelude.{codes, MatchOption, IsSomeAnd}
+use Rattle.std.specs.Option.{option_map}
 use Rattle.std.specs.Str.{bytes_eq}
 use Rattle.std.proofs.lemmas.Slice.Eq.{bytes_eq-Decides}
-use Rattle.l4_words.specs.Words.{words_in, words_behind}
+use Rattle.l4_words.specs.Words.{Finds, words_in, words_behind}
 use Rattle.l4_trace.specs.Reading.{of_thread, of_name, order_of, tick_of, delivery_of, step_behind, step_of_words, step_of_line}
 
 taken : {A : Type 0} (test : Bool) (a b : A) → cond test (Some a) None ≡ Some b → (test ≡ true) × (a ≡ b)
@@ -77,3 +78,18 @@ pub other_line : (line : List ℕ) →
     words_behind (codes "retarget") (words_in line) ≡ None → step_of_line line ≡ None
 unfolding step_of_line
 other_line line = no_row (words_in line)
+
+-- A step is made of what is found in the operands.
+pub is_made : {A B C : Type 0} (view : B → C) (f : A → C) (post : A → B → Type 0) (spec : Option C) (r : Option B) (o : Option A) →
+    Finds f o spec → ((x : A) (y : B) → post x y → view y ≡ f x) → MatchOption o (r ≡ None) (λ x. IsSomeAnd r (post x)) → Finds view r spec
+is_made view f post spec None None s each h = s
+is_made view f post spec (Some y) None s each h = absurd cc
+is_made view f post spec None (Some x) s each h = absurd h
+is_made view f post spec (Some y) (Some x) s each h = s ∙ ap Some (sym (each x y h))
+
+itself_found : {A C : Type 0} (f : A → C) (o : Option A) → Finds f o (option_map f o)
+itself_found f None = refl
+itself_found f (Some x) = refl
+
+pub as_found : {A C : Type 0} (f : A → C) (o spec : Option A) → o ≡ spec → Finds f o (option_map f spec)
+as_found f o spec e = rw (sym e) (itself_found f o)

@@ -1,5 +1,5 @@
 -- The line of a step in a trace.
-use Rattle.std.specs.Prelude.{ℕ, ◌/◌, ◌%◌, ◌^◌, Bool, ◌==◌, ◌&&◌, nat_lt, List, [], ◌∷◌, length, map, flat_map, codes, decimal}
+use Rattle.std.specs.Prelude.{ℕ, ◌≡◌, true, ◌/◌, ◌%◌, ◌^◌, Bool, ◌==◌, ◌&&◌, nat_lt, List, [], ◌∷◌, length, map, flat_map, codes, decimal}
 use Rattle.std.specs.List.{list_all}
 use Rattle.l4_model.specs.Words.{is_global, clock_limit}
 use Rattle.l4_model.specs.Machine.{OrderKind, CancelSend, CancelReceive, CancelBoth, Delete, most_processors}
@@ -73,3 +73,7 @@ has_line (Order caller target what) = is_global caller && is_global target
 has_line (Obey caller) = is_global caller
 has_line (Tick cpu clock) = nat_lt cpu most_processors && nat_lt 0 clock && nat_lt clock clock_limit
 has_line (Retarget s) = is_name s
+
+-- A text is the trace of these steps, and each of them has a line.
+abbrev pub IsTraceOf : (text : List ℕ) → List Step → Type 0
+IsTraceOf text steps = (list_all has_line steps ≡ true) × (trace_of steps ≡ text)

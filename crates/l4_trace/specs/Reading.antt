@@ -10,7 +10,7 @@ use Rattle.l4_model.specs.Steps.{Step, Local, Begin, Queue, Deliver, Wait, SendT
 use Rattle.l4_model.specs.Conditions.{◌>>=◌, ◌>>◌}
 use Rattle.l4_trace.specs.declared.fault.TraceFault.{TraceFault}
 use Rattle.l4_trace.specs.declared.fault.TraceFault.TheVariants.{NoMemory, Line}
-use Rattle.l4_trace.specs.Lines.{line_of, trace_of, has_line, is_tag_of}
+use Rattle.l4_trace.specs.Lines.{line_of, trace_of, has_line, is_tag_of, IsTraceOf}
 use Rattle.l4_words.specs.Lines.{parts_of}
 use Rattle.l4_words.specs.Numbers.{number_of}
 use Rattle.l4_words.specs.Threads.{thread_of}
@@ -145,7 +145,7 @@ IsReadBack = (steps : List Step) → list_all has_line steps ≡ true →
 -- A text that is read is the trace of the steps that are read, and these have lines.
 abbrev pub IsWritten : Type 0
 IsWritten = (text : List ℕ) (steps : List Step) → steps_of text ≡ Ok steps →
-    (list_all has_line steps ≡ true) × (trace_of steps ≡ text)
+    IsTraceOf text steps
 
 -- The first fault of a text is in the line of this number, counted from 1. Lines of steps stand
 -- before it. What follows them is not empty, and does not begin with the line of a step.

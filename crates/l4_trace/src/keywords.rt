@@ -11,22 +11,22 @@ macro_rules! by_keyword {
     ($make:ident($($argument:ident),*)) => {
         $make! {
             ($($argument),*)
-            b"local" => Local(thread), read_local, write_thread_line(thread);
-            b"begin" => Begin(name), read_begin, write_name_line(name);
-            b"queue" => Queue(name), read_queue, write_name_line(name);
-            b"wait" => Wait(thread), read_wait, write_thread_line(thread);
-            b"stimeout" => SendTimeout(name), read_stimeout, write_name_line(name);
-            b"rtimeout" => ReceiveTimeout(thread), read_rtimeout, write_thread_line(thread);
-            b"snobody" => SendNobody(name), read_snobody, write_name_line(name);
-            b"rnobody" => ReceiveNobody(thread), read_rnobody, write_thread_line(thread);
-            b"scancel" => SendCancel(name), read_scancel, write_name_line(name);
-            b"rcancel" => ReceiveCancel(thread), read_rcancel, write_thread_line(thread);
-            b"drop" => Drop(name), read_drop, write_name_line(name);
-            b"order" => Order { caller, target, what }, read_order,
+            b"local" => Local(thread), of_thread, write_thread_line(thread);
+            b"begin" => Begin(name), of_name, write_name_line(name);
+            b"queue" => Queue(name), of_name, write_name_line(name);
+            b"wait" => Wait(thread), of_thread, write_thread_line(thread);
+            b"stimeout" => SendTimeout(name), of_name, write_name_line(name);
+            b"rtimeout" => ReceiveTimeout(thread), of_thread, write_thread_line(thread);
+            b"snobody" => SendNobody(name), of_name, write_name_line(name);
+            b"rnobody" => ReceiveNobody(thread), of_thread, write_thread_line(thread);
+            b"scancel" => SendCancel(name), of_name, write_name_line(name);
+            b"rcancel" => ReceiveCancel(thread), of_thread, write_thread_line(thread);
+            b"drop" => Drop(name), of_name, write_name_line(name);
+            b"order" => Order { caller, target, what }, of_order,
                 write_order(caller, target, what);
-            b"obey" => Obey(thread), read_obey, write_thread_line(thread);
-            b"tick" => Tick(tick), read_tick, write_tick(tick);
-            b"retarget" => Retarget(name), read_retarget, write_name_line(name);
+            b"obey" => Obey(thread), of_thread, write_thread_line(thread);
+            b"tick" => Tick(tick), of_tick, write_tick(tick);
+            b"retarget" => Retarget(name), of_name, write_name_line(name);
         }
     };
 }

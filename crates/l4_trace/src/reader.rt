@@ -59,6 +59,7 @@ impl<'t> Reader<'t> {
     ///
     /// `Line`: the next line, counted from 1 at the beginning of the text, spells no step, or has
     /// no line end. The reader then stays before this line.
+    #[inline(always)]
     pub fn next<'w>(&mut self, words: &'w mut ReadWords) -> Result<Option<StepRef<'w>>, TraceFault>
         ensures { ReadsNext self.old result self.new }
     {

@@ -1,9 +1,8 @@
 //! The steps that lines spell.
-ghost use Rattle.std.specs.Prelude.{◌≡◌, ◌<◌, [], false, codes, length, MatchOption, None, Some};
+ghost use Rattle.std.specs.Prelude.{◌≡◌, ◌<◌, [], codes, length, IsSomeAnd, MatchOption, None, Option, Some};
 ghost use Rattle.std.specs.Option.{option_map};
-ghost use Rattle.std.specs.Str.{bytes_eq};
 ghost use Rattle.l4_model.specs.Words.{register_count};
-ghost use Rattle.l4_model.specs.Steps.{Local, Begin, Queue, Wait, SendTimeout, ReceiveTimeout, SendNobody, ReceiveNobody, SendCancel, ReceiveCancel, Drop, Obey, Retarget};
+ghost use Rattle.l4_model.specs.Steps.{Order, Tick as ModelTick};
 ghost use Rattle.l4_types.specs.StepView.{seen, delivered as seen_delivery, order_kind_of};
 ghost use Rattle.l4_words.specs.Words.{Finds, words_in, words_behind};
 ghost use Rattle.l4_trace.specs.Reading.{message_words, delivered, delivery_of, order_kind_of_word, order_of, tick_of, of_thread, of_name, step_behind, step_of_line};
@@ -59,33 +58,33 @@ fn what(word: &[u8]) -> Option<OrderKind>
 
 /// The operands of `order`.
 #[tactic(auto, unfolding(crate::specs::Reading::order_of))]
-fn read_order<'w>(operands: Words<'_>) -> Option<StepRef<'w>>
-    ensures { Finds seen result (order_of operands.entry) }
+#[inline(never)]
+fn of_order(operands: Words<'_>) -> Option<(GlobalId, GlobalId, OrderKind)>
+    ensures { Finds (λ order. Order order.0 order.1 (order_kind_of order.2)) result
+        (order_of operands.entry) }
 {
     let (first, second, third) = operands.three()?;
     let caller = thread(first)?;
     let target = thread(second)?;
     let what = what(third)?;
-    Some(Step::Order {
-        caller,
-        target,
-        what,
-    })
+    Some((caller, target, what))
 }
 
 /// The operands of `tick`.
 #[tactic(auto, unfolding(crate::specs::Reading::tick_of))]
-fn read_tick<'w>(operands: Words<'_>) -> Option<StepRef<'w>>
-    ensures { Finds seen result (tick_of operands.entry) }
+#[inline(never)]
+fn of_tick(operands: Words<'_>) -> Option<Tick>
+    ensures { Finds (λ tick. ModelTick tick.cpu tick.clock) result (tick_of operands.entry) }
 {
     let (first, second) = operands.two()?;
     let cpu = decimal(first)?;
     let clock = decimal(second)?;
-    Some(Step::Tick(Tick::new(u8::try_from(cpu).ok()?, clock)?))
+    Tick::new(u8::try_from(cpu).ok()?, clock)
 }
 
 /// The thread that is the only operand.
 #[tactic(auto, using(crate::proofs::Operands::no_thread, crate::proofs::Operands::only_thread, crate::proofs::Operands::more_threads))]
+#[inline(never)]
 fn of_thread(mut operands: Words<'_>) -> Option<GlobalId>
     ensures { result ≡ of_thread operands.entry }
 {
@@ -99,6 +98,7 @@ fn of_thread(mut operands: Words<'_>) -> Option<GlobalId>
 
 /// The name that is the only operand.
 #[tactic(auto, using(crate::proofs::Operands::no_name, crate::proofs::Operands::only_name, crate::proofs::Operands::more_names))]
+#[inline(never)]
 fn of_name(mut operands: Words<'_>) -> Option<Name>
     ensures { result ≡ of_name operands.entry }
 {
@@ -106,88 +106,8 @@ fn of_name(mut operands: Words<'_>) -> Option<Name>
     if operands.is_done() { Some(name) } else { None }
 }
 
-// The steps of one operand. Each has a function of its own, since a function pays at its entry for
-// each step that it may make.
-
-fn read_local<'w>(operands: Words<'_>) -> Option<StepRef<'w>>
-    ensures { Finds seen result (option_map Local (of_thread operands.entry)) }
-{
-    Some(Step::Local(of_thread(operands)?))
-}
-
-fn read_begin<'w>(operands: Words<'_>) -> Option<StepRef<'w>>
-    ensures { Finds seen result (option_map Begin (of_name operands.entry)) }
-{
-    Some(Step::Begin(of_name(operands)?))
-}
-
-fn read_queue<'w>(operands: Words<'_>) -> Option<StepRef<'w>>
-    ensures { Finds seen result (option_map Queue (of_name operands.entry)) }
-{
-    Some(Step::Queue(of_name(operands)?))
-}
-
-fn read_wait<'w>(operands: Words<'_>) -> Option<StepRef<'w>>
-    ensures { Finds seen result (option_map Wait (of_thread operands.entry)) }
-{
-    Some(Step::Wait(of_thread(operands)?))
-}
-
-fn read_stimeout<'w>(operands: Words<'_>) -> Option<StepRef<'w>>
-    ensures { Finds seen result (option_map SendTimeout (of_name operands.entry)) }
-{
-    Some(Step::SendTimeout(of_name(operands)?))
-}
-
-fn read_rtimeout<'w>(operands: Words<'_>) -> Option<StepRef<'w>>
-    ensures { Finds seen result (option_map ReceiveTimeout (of_thread operands.entry)) }
-{
-    Some(Step::ReceiveTimeout(of_thread(operands)?))
-}
-
-fn read_snobody<'w>(operands: Words<'_>) -> Option<StepRef<'w>>
-    ensures { Finds seen result (option_map SendNobody (of_name operands.entry)) }
-{
-    Some(Step::SendNobody(of_name(operands)?))
-}
-
-fn read_rnobody<'w>(operands: Words<'_>) -> Option<StepRef<'w>>
-    ensures { Finds seen result (option_map ReceiveNobody (of_thread operands.entry)) }
-{
-    Some(Step::ReceiveNobody(of_thread(operands)?))
-}
-
-fn read_scancel<'w>(operands: Words<'_>) -> Option<StepRef<'w>>
-    ensures { Finds seen result (option_map SendCancel (of_name operands.entry)) }
-{
-    Some(Step::SendCancel(of_name(operands)?))
-}
-
-fn read_rcancel<'w>(operands: Words<'_>) -> Option<StepRef<'w>>
-    ensures { Finds seen result (option_map ReceiveCancel (of_thread operands.entry)) }
-{
-    Some(Step::ReceiveCancel(of_thread(operands)?))
-}
-
-fn read_drop<'w>(operands: Words<'_>) -> Option<StepRef<'w>>
-    ensures { Finds seen result (option_map Drop (of_name operands.entry)) }
-{
-    Some(Step::Drop(of_name(operands)?))
-}
-
-fn read_obey<'w>(operands: Words<'_>) -> Option<StepRef<'w>>
-    ensures { Finds seen result (option_map Obey (of_thread operands.entry)) }
-{
-    Some(Step::Obey(of_thread(operands)?))
-}
-
-fn read_retarget<'w>(operands: Words<'_>) -> Option<StepRef<'w>>
-    ensures { Finds seen result (option_map Retarget (of_name operands.entry)) }
-{
-    Some(Step::Retarget(of_name(operands)?))
-}
-
 /// The delivery of these parts. None if its received tag would not be this word.
+#[inline(always)]
 fn delivered(
     name: Name,
     receiver: GlobalId,
@@ -234,6 +154,20 @@ fn read_delivery<'w>(operands: Words<'_>, words: &'w mut ReadWords) -> Option<St
     Some(Step::Deliver(delivery(operands, words)?))
 }
 
+/// The step that is made of what a reader finds in operands. A call for each row, since a function
+/// pays at its entry for each step that it may make.
+fn made<O, T, S, R, M>(operands: O, read: R, make: M) -> Option<S>
+where
+    R: FnOnce(O) -> Option<T>,
+    M: FnOnce(T) -> S,
+    requires read { R.IsAlwaysCallable read }
+    requires make { M.IsAlwaysCallable make }
+    ensures { (found : Option T) × R.post read operands found
+        × MatchOption found (result ≡ None) (λ x. IsSomeAnd result (M.post make x)) }
+{
+    Some(make(read(operands)?))
+}
+
 // The step of a line, by the row of its keyword.
 macro_rules! read_rows {
     (
@@ -242,7 +176,7 @@ macro_rules! read_rows {
             $write:ident($($operand:ident),*);)*
     ) => {{
         $(if let Some(operands) = Words::behind($keyword, $line) {
-            return $read(operands);
+            return made(operands, $read, |($($operand),*)| Step::$variant $fields);
         })*
         None
     }};

@@ -4,7 +4,7 @@ pub mod Dots
 mod Eights
 mod Faces
 mod Few
-mod FirstWord
+pub mod FirstWord
 pub mod Found
 pub mod Front
 pub mod Hashes

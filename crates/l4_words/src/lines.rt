@@ -5,6 +5,9 @@ ghost use Rattle.l4_words.specs.Lines.{parts_of};
 
 use memchr::memchr;
 
+// So many bytes are tried one by one.
+const FRONT_BYTES: usize = 8;
+
 /// The index of the first `byte`.
 pub fn find_byte(byte: u8, bytes: &[u8]) -> Option<usize>
     ensures { result ≡ position (λ other. other == byte) bytes.now }
@@ -13,12 +16,26 @@ pub fn find_byte(byte: u8, bytes: &[u8]) -> Option<usize>
 }
 
 /// As `find_byte`; faster where the byte is far off or comes first.
+#[inline(always)]
 fn find_far_byte(byte: u8, bytes: &[u8]) -> Option<usize>
     ensures { result ≡ position (λ other. other == byte) bytes.now }
 {
     match bytes.first() {
         Some(first) if *first == byte => Some(0),
-        _ => memchr(byte, bytes),
+        _ => find_behind_front(byte, bytes),
+    }
+}
+
+// As `find_byte`. Most lines are short: so a few bytes are tried one by one before a search of many
+// at once begins.
+#[inline(always)]
+fn find_behind_front(byte: u8, bytes: &[u8]) -> Option<usize>
+    ensures { result ≡ position (λ other. other == byte) bytes.now }
+{
+    let front = &bytes[..bytes.len().min(FRONT_BYTES)];
+    match find_byte(byte, front) {
+        Some(place) => Some(place),
+        None => memchr(byte, bytes),
     }
 }
 
@@ -48,6 +65,7 @@ pub fn split_once(byte: u8, bytes: &[u8]) -> Option<(&[u8], &[u8])>
 }
 
 /// The first line of a text, without its end, and what follows. None where no line is ended.
+#[inline(always)]
 pub fn split_line(text: &[u8]) -> Option<(&[u8], &[u8])>
     ensures parts { MatchOption result
         (parts_of text.now ≡ text.now ∷ [])

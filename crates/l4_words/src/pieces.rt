@@ -53,7 +53,7 @@ pub fn write_number(number: u64, line: &mut [u8], end: usize) -> usize
 
 /// Writes a space and a thread, `N.V`, its number and its version in decimal, just before `end` in
 /// the line. Returns where they start.
-#[inline]
+#[inline(always)]
 pub fn write_thread(thread: GlobalId, line: &mut [u8], end: usize) -> usize
     requires room { THREAD_BYTES ≤ end }
     requires within { end ≤ length line.old }

@@ -110,6 +110,7 @@ impl<'a> Words<'a> {
 
     /// The next word, as a thread. None if no word is left or the next one is no thread; no clause
     /// says which words are left then.
+    #[inline(always)]
     pub fn next_thread(&mut self) -> Option<GlobalId>
         ensures { MatchOption result (first_as thread_of self.old ≡ None)
             (λ thread. first_as thread_of self.old ≡ Some (thread, self.new)) }
@@ -121,6 +122,7 @@ impl<'a> Words<'a> {
 
     /// The next word, as the name of a send. None if no word is left or the next one is no name; no
     /// clause says which words are left then.
+    #[inline(always)]
     pub fn next_name(&mut self) -> Option<Name>
         ensures { MatchOption result (first_as name_of self.old ≡ None)
             (λ name. first_as name_of self.old ≡ Some (name, self.new)) }

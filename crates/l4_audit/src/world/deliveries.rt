@@ -25,6 +25,7 @@ use l4_types::steps::Name;
 
 /// Whether two threads are of different processors, or not declared. Where they are the sender and
 /// the receiver at hand, as in most traces, nothing is looked up.
+#[inline(always)]
 pub fn is_cross(
     machine: &Machine,
     pending: &Pending,
@@ -45,6 +46,7 @@ pub fn is_cross(
 
 // Ok where a delivery has this receiver, and the senders, the tag and the words of this send. Else
 // the first that differs.
+#[inline(always)]
 fn tells(
     delivery: &DeliveryRef<'_>,
     machine: &Machine,
@@ -90,6 +92,7 @@ fn owed_by(machine: &Machine, name: Name, send: &SendRef<'_>, receiver: GlobalId
 
 impl World<'_> {
     /// The send that may be delivered, and its receiver.
+    #[inline(always)]
     pub fn may_deliver(
         &self,
         delivery: &DeliveryRef<'_>,

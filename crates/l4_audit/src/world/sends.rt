@@ -19,6 +19,7 @@ use l4_types::steps::Name;
 
 impl World<'_> {
     /// The send that may be queued, and its receiver.
+    #[inline(always)]
     pub fn may_queue(&self, name: Name) -> Result<(Pending<'_>, Found<'_>), Reason>
         ensures send { IfOk result
             (λ x. undecided self.now.machine self.now.world name ≡ Some x.0) }

@@ -16,6 +16,7 @@ use l4_types::steps::{Name, OrderKind, Tick};
 
 impl World<'_> {
     /// The thread that may run an instruction that concerns nobody else, or end.
+    #[inline(always)]
     pub fn may_run(&self, id: GlobalId) -> Result<Found<'_>, Reason>
         ensures thread { IfOk result (λ t. found self.now.machine self.now.world id ≡ Some t) }
         ensures reason { result_err result ≡ reason self.now.machine self.now.world (Local id) }
@@ -37,6 +38,7 @@ impl World<'_> {
     }
 
     /// The thread that may begin this send.
+    #[inline(always)]
     pub fn may_begin(&self, name: Name) -> Result<Found<'_>, Reason>
         ensures thread { IfOk result
             (λ t. found self.now.machine self.now.world name.thread ≡ Some t) }

@@ -29,7 +29,7 @@ pub(crate) enum Duty {
     /// sender.
     RefuseFirst(usize),
     /// The thread was deleted: this processor is to be notified.
-    TellGone(u8),
+    NotifyDeletion(u8),
     /// Its waiting send is cancelled.
     CancelOwn,
     /// Its receive phase is cancelled.
@@ -62,7 +62,7 @@ impl ProcessorState<'_> {
         requires { place < length self.now.machine.threads }
         ensures { result ≡ is_elsewhere self.now.machine (declared self.now.machine place).id to }
     {
-        let _ = &self.machine;
+        self.facts();
         let Some(to) = to.as_global() else {
             return false;
         };
@@ -123,7 +123,6 @@ impl ProcessorState<'_> {
         ensures { result ≡ option_map (λ w. w.block)
             (first_refusable self.now.machine self.now.local place) }
     {
-        let _ = &self.machine;
         self.lists
             .waiting_at(place)
             .find(|block| self.zero_refusable(place, *block))
@@ -135,21 +134,20 @@ impl ProcessorState<'_> {
         ensures { result ≡ option_map (λ w. w.block)
             (first_zero self.now.local (list_of self.now.local.lists place)) }
     {
-        let _ = &self.machine;
         self.lists
             .waiting_at(place)
             .find(|block| self.is_zero(*block))
     }
 
     // The next processor to be notified of a thread's deletion.
-    fn next_untold(&self, place: usize) -> Option<u8>
+    fn next_unnotified(&self, place: usize) -> Option<u8>
         requires { place < length self.now.machine.threads }
         ensures { result ≡ untold_of self.now.machine self.now.cpu self.now.local place }
     {
         let cpus = self.machine.cpus();
         prove!(self.cpu < cpus);
-        let told = self.told[place];
-        let next = if told == self.cpu { told + 1 } else { told };
+        let first = self.notified[place];
+        let next = if first == self.cpu { first + 1 } else { first };
         if next < cpus { Some(next) } else { None }
     }
 
@@ -166,8 +164,8 @@ impl ProcessorState<'_> {
         if let Some(sender) = self.lists.first_accepted(place, &ThreadId::ANY) {
             return Some(Duty::RefuseFirst(sender));
         }
-        let cpu = self.next_untold(place)?;
-        Some(Duty::TellGone(cpu))
+        let cpu = self.next_unnotified(place)?;
+        Some(Duty::NotifyDeletion(cpu))
     }
 
     // The duty of a thread in a receive phase.
@@ -243,7 +241,7 @@ impl ProcessorState<'_> {
             (may_have_zero || is_some
             (duty_at self.now.machine self.now.cpu self.now.local place)) }
     {
-        let _ = &self.machine;
+        self.facts();
         if may_have_zero {
             return true;
         }

@@ -96,7 +96,7 @@ impl ProcessorState<'_> {
             (begun_by (act_of self.old.machine
             (held self.old.machine self.old.local place)) place self.old.local) }
     {
-        let _ = &self.machine;
+        self.facts();
         match self.start(place, instr) {
             Began::Nothing => Began::Nothing,
             began => {
@@ -213,14 +213,14 @@ impl ProcessorState<'_> {
     }
 
     /// Notes that all processors up to `cpu` have been notified of a thread's deletion.
-    pub(crate) fn note_told(&mut self, place: usize, cpu: u8)
+    pub(crate) fn note_notified(&mut self, place: usize, cpu: u8)
         requires within { place < length self.old.machine.threads }
         requires cpu { cpu < self.old.machine.cpus }
         ensures { self.new ≡ with_local self.old (has_told cpu place self.old.local) }
     {
         let cpus = self.machine.cpus();
         prove!(cpu < cpus);
-        self.told[place] = cpu + 1;
+        self.notified[place] = cpu + 1;
     }
 
     /// Notes that the send of a foreign thread is decided. It stands in no list any more.

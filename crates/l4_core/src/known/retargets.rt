@@ -64,7 +64,6 @@ impl ProcessorState<'_> {
         ensures { self.new ≡ with_local self.old
             (keeps_beside place (Some (owed_of owed)) self.old.local) }
     {
-        let _ = &self.machine;
         self.owed[place] = Some(owed);
     }
 

@@ -101,7 +101,7 @@ impl ProcessorState<'_> {
         ensures value { result ≡ waits_here self.now.local place name.now.k }
         ensures sender { result ≡ true → IsSender self.now place }
     {
-        let _few = self.len();
+        self.facts();
         self.is_queued(place) && self.tcb(place).thread().begun() == name.k()
     }
 

@@ -21,7 +21,7 @@ impl Core<'_> {
         to: u64,
         buffer: &mut EventBuffer<S>,
     ) -> Result<u64, Fault>
-        requires untold { IsOpen buffer.old }
+        requires open { IsOpen buffer.old }
         ensures ok { IfOk result (λ stamp.
             IsEvent
             (advance self.old.machine self.old.cpu to self.old.local)

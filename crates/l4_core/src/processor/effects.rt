@@ -51,7 +51,7 @@ impl Core<'_> {
         ensures { self.new ≡ with_local self.old
             (comes_to place (change_of change.now self.old.local.clock) self.old.local) }
     {
-        let _few = self.known.len();
+        self.known.facts();
         self.known.apply_change(place, change);
         note_duty(&self.known, &mut self.duties, &self.zeros, place);
     }
@@ -65,7 +65,7 @@ impl Core<'_> {
             (receives (outgoing (declared self.old.machine sender).id
             (thread self.old.local sender)) (word_of_tag tag)) self.old.local) }
     {
-        let _few = self.known.len();
+        self.known.facts();
         self.known.receive_from(place, sender, tag);
         note_duty(&self.known, &mut self.duties, &self.zeros, place);
     }
@@ -85,7 +85,7 @@ impl Core<'_> {
             (begun_by (act_of self.old.machine
             (held self.old.machine self.old.local place)) place self.old.local) }
     {
-        let _few = self.known.len();
+        self.known.facts();
         let began = self.known.begin(place, instr);
         note_duty(&self.known, &mut self.duties, &self.zeros, place);
         began
@@ -100,7 +100,7 @@ impl Core<'_> {
             (passes (receive_phase ipc.now.from
             (period_of ipc.now.receive_period)) self.old.local.clock) self.old.local) }
     {
-        let _few = self.known.len();
+        self.known.facts();
         self.known.pass(place, ipc);
         note_duty(&self.known, &mut self.duties, &self.zeros, place);
     }
@@ -140,7 +140,7 @@ impl Core<'_> {
         requires unqueued { is_queued self.old.local.lists place ≡ false }
         ensures { self.new ≡ with_local self.old (changes place decided self.old.local) }
     {
-        let _few = self.known.len();
+        self.known.facts();
         self.known.forget_send(place);
     }
 
@@ -160,7 +160,7 @@ impl Core<'_> {
             (changes place (stands_in name.k
             (stand_in receiver message.entry zero_timeout)) self.old.local) }
     {
-        let _few = self.known.len();
+        self.known.facts();
         self.known
             .stand_in(place, name, receiver, message, zero_timeout);
     }
@@ -190,7 +190,6 @@ impl Core<'_> {
         requires unready { is_ready_in self.old.local.lists place ≡ false }
         ensures { self.new ≡ with_local self.old (enters_lists place self.old.local) }
     {
-        let _few = self.known.len();
         self.known.enter_lists(place);
     }
 
@@ -252,19 +251,19 @@ impl Core<'_> {
         ensures { self.new ≡ with_local self.old
             (changes place (turns (owed_of owed.now)) self.old.local) }
     {
-        let _few = self.known.len();
+        self.known.facts();
         note_own(&self.known, &mut self.duties, place);
         self.known.turn_to(place, owed);
     }
 
     /// Notes that all processors up to `cpu` have been notified of a thread's deletion. The thread
     /// still has a duty.
-    pub(super) fn note_told(&mut self, place: usize, cpu: u8)
+    pub(super) fn note_notified(&mut self, place: usize, cpu: u8)
         requires own { IsOwnOf self.old place }
         requires cpu { cpu < self.old.machine.cpus }
         ensures { self.new ≡ with_local self.old (has_told cpu place self.old.local) }
     {
         insert_place(&self.known, &mut self.duties, place);
-        self.known.note_told(place, cpu);
+        self.known.note_notified(place, cpu);
     }
 }

@@ -47,7 +47,7 @@ impl Core<'_> {
         ensures { Does (does_choice self.old.machine self.old.cpu
             (IsReady place)) self.old self.new buffer.old buffer.new }
     {
-        let _few = self.known.len();
+        self.known.facts();
         self.pop_ready();
         self.act(place, buffer);
     }
@@ -60,7 +60,7 @@ impl Core<'_> {
         ensures { Does (does_choice self.old.machine self.old.cpu
             (IsDue place)) self.old self.new buffer.old buffer.new }
     {
-        let _few = self.known.len();
+        self.known.facts();
         self.pop_due();
         self.time_out(place, buffer);
     }
@@ -74,7 +74,7 @@ impl Core<'_> {
             (times_out self.old.machine self.old.cpu place)
             self.old self.new buffer.old buffer.new }
     {
-        let _few = self.known.len();
+        self.known.facts();
         if self.known.receiving(place).is_some() {
             let step = StepRef::ReceiveTimeout(self.known.id(place));
             self.fail_receive(place, step, IpcError::ReceiveTimeout, buffer);
@@ -98,7 +98,7 @@ impl Core<'_> {
         ensures { Does (fails_with (seen step.entry)
             (code_of error) place) self.old self.new buffer.old buffer.new }
     {
-        let _few = self.known.len();
+        self.known.facts();
         buffer.emit(step);
         self.apply_change(place, &Change::Fail(error));
     }
@@ -112,12 +112,12 @@ impl Core<'_> {
         ensures { Does (does_duty self.old.machine self.old.cpu place
             (duty_of self.old.local.owed place duty)) self.old self.new buffer.old buffer.new }
     {
-        let _few = self.known.len();
+        self.known.facts();
         match duty {
             Duty::Retarget => self.retarget_owed(place, buffer),
             Duty::DropOwn => self.refuse(place, Refusal::Dropped, buffer),
             Duty::RefuseFirst(sender) => self.refuse(sender, Refusal::Nobody, buffer),
-            Duty::TellGone(cpu) => self.tell_gone(place, cpu, buffer),
+            Duty::NotifyDeletion(cpu) => self.notify_deletion(place, cpu, buffer),
             Duty::CancelOwn => self.refuse(place, Refusal::Cancelled, buffer),
             Duty::CancelReceive => {
                 let step = StepRef::ReceiveCancel(self.known.id(place));
@@ -133,14 +133,14 @@ impl Core<'_> {
     }
 
     // Notifies a processor that a thread is deleted.
-    fn tell_gone<S: Sink>(&mut self, place: usize, cpu: u8, buffer: &mut EventBuffer<S>)
+    fn notify_deletion<S: Sink>(&mut self, place: usize, cpu: u8, buffer: &mut EventBuffer<S>)
         requires own { IsOwnOf self.old place }
         requires cpu { cpu < self.old.machine.cpus }
         requires slots { 0 < buffer.old.slots }
         ensures { Does (does_duty self.old.machine self.old.cpu place
             (TellsGone cpu)) self.old self.new buffer.old buffer.new }
     {
-        self.note_told(place, cpu);
+        self.note_notified(place, cpu);
         let letter = self.letter(Content::Gone(self.known.id(place)));
         buffer.post(cpu, letter);
     }

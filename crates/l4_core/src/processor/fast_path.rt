@@ -39,7 +39,7 @@ impl Core<'_> {
             (act_of self.old.machine (held self.old.machine self.old.local sender)))
             self.old self.new buffer.old buffer.new }
     {
-        let _few = self.known.len();
+        self.known.facts();
         let name = self.known.next_name(sender);
         let delivery = DeliveryRef {
             name,

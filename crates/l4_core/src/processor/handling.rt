@@ -34,7 +34,7 @@ impl Core<'_> {
         letter: &Letter,
         buffer: &mut EventBuffer<S>,
     ) -> Result<u64, Fault>
-        requires untold { IsOpen buffer.old }
+        requires open { IsOpen buffer.old }
         ensures ok { IfOk result (λ stamp.
             IsEvent
             (handle self.old.machine self.old.cpu self.old.local
@@ -109,7 +109,7 @@ impl Core<'_> {
             (Arrive receiver sender name to message.entry zero_timeout))
             self.old self.new buffer.old buffer.new }
     {
-        let _few = self.known.len();
+        self.known.facts();
         self.stand_in(sender, name, to, message, zero_timeout);
         self.arrive(receiver, sender, buffer);
     }
@@ -121,7 +121,7 @@ impl Core<'_> {
             (comes_to place (after_decision
             (decision_of decision) self.old.local.clock) self.old.local) }
     {
-        let _few = self.known.len();
+        self.known.facts();
         self.apply_change(place, &Change::EndSend(decision));
     }
 
@@ -140,7 +140,6 @@ impl Core<'_> {
         ensures { Does (does_task self.old.machine self.old.cpu
             (Obey target from caller what)) self.old self.new buffer.old buffer.new }
     {
-        let _few = self.known.len();
         self.obey_order(caller, what, target, buffer);
         let letter = self.letter(Content::OrderDone(caller));
         buffer.post(self.known.cpu_of(from), letter);
@@ -151,7 +150,7 @@ impl Core<'_> {
         requires { IsCaller self.old place }
         ensures { self.new ≡ with_local self.old (comes_to place obeyed self.old.local) }
     {
-        let _few = self.known.len();
+        self.known.facts();
         if self.known.is_deleted(place) {
             self.forget_order(place);
             self.enter_lists(place);

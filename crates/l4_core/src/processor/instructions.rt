@@ -102,7 +102,7 @@ impl Core<'_> {
         ensures { Does (runs_alone_at self.old.machine place)
             self.old self.new buffer.old buffer.new }
     {
-        let _few = self.known.len();
+        self.known.facts();
         buffer.emit(StepRef::Local(self.known.id(place)));
         self.apply_change(place, &Change::Run(*instr));
     }
@@ -131,7 +131,7 @@ impl Core<'_> {
             (act_of self.old.machine
             (held self.old.machine self.old.local place))) self.old self.new buffer.old buffer.new }
     {
-        let _few = self.known.len();
+        self.known.facts();
         match self.begin(place, instr) {
             Began::Nothing => self.run(place, instr, buffer),
             Began::Receive => buffer.emit(StepRef::Wait(self.known.id(place))),
@@ -185,7 +185,7 @@ impl Core<'_> {
             (record { target = target; what = order_kind_of what }))
             self.old self.new buffer.old buffer.new }
     {
-        let _few = self.known.len();
+        self.known.facts();
         let caller = self.known.id(place);
         self.apply_change(place, &Change::GiveOrder(PendingOrder::new(target, what)));
         buffer.emit(StepRef::Order {

@@ -225,9 +225,9 @@ impl Reading {
         if self.machine.threads().is_empty() {
             return Err(TextFaultKind::BadLine);
         }
-        match instruction(self.format, name, words) {
-            Ok(instr) => self.extend(line, &instr),
-            Err(kind) => Err(kind),
+        match &instruction(self.format, name, words) {
+            Ok(instr) => self.extend(line, instr),
+            Err(kind) => Err(*kind),
         }
     }
 

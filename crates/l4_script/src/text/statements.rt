@@ -1,6 +1,7 @@
 //! What the lines of a machine text say.
 ghost use Rattle.std.specs.Prelude.{◌≡◌, ◌<◌, ◌≤◌, IfOk};
 ghost use Rattle.std.specs.Option.{option_map};
+ghost use Rattle.std.specs.Str.{bytes_eq};
 ghost use Rattle.l4_model.specs.Words.{last_register};
 ghost use Rattle.l4_model.specs.Machine.{most_processors};
 ghost use Rattle.l4_types.specs.FormatView.{format_of};
@@ -11,7 +12,7 @@ ghost use Rattle.l4_script.specs.Ids.{id_of};
 ghost use Rattle.l4_script.specs.Judged.{Returns, needs};
 ghost use Rattle.l4_script.specs.Scripts.{instr_of, to_of};
 ghost use Rattle.l4_script.specs.Numbers.{number_from};
-ghost use Rattle.l4_script.specs.Statements.{heading_by, format_line, processors_line, processor_of, declaration_of, set_of, copy_of, add_of, tag_of, vs_of, destination_of, ipc_of, bits_of, exregs_of, delete_of, target_of, end_of, instruction_of};
+ghost use Rattle.l4_script.specs.Statements.{heading_by, format_line, processors_line, processor_of, declaration_of, set_of, copy_of, add_of, tag_of, vs_of, destination_of, ipc_of, bits_of, exregs_of, delete_of, target_of, jump_of, on_error_of, end_of, instruction_of};
 ghost use Rattle.l4_script.specs.Headings.{heading_of};
 
 use super::fault::TextFaultKind;
@@ -308,7 +309,24 @@ fn target(operands: Words<'_>) -> Result<u64, TextFaultKind>
     number(only(operands)?).ok_or(TextFaultKind::BadNumber)
 }
 
+/// The instruction `jump` with this operand.
+#[inline(never)]
+fn jump(operands: Words<'_>) -> Result<Instr, TextFaultKind>
+    ensures { Returns instr_of result (jump_of operands.entry) }
+{
+    Ok(Instr::Jump(target(operands)?))
+}
+
+/// The instruction `onerr` with this operand.
+#[inline(never)]
+fn on_error(operands: Words<'_>) -> Result<Instr, TextFaultKind>
+    ensures { Returns instr_of result (on_error_of operands.entry) }
+{
+    Ok(Instr::OnErr(target(operands)?))
+}
+
 /// The instruction `end`, which has no operands.
+#[inline(never)]
 fn end(mut operands: Words<'_>) -> Result<Instr, TextFaultKind>
     ensures { Returns instr_of result (end_of operands.entry) }
 {
@@ -318,43 +336,61 @@ fn end(mut operands: Words<'_>) -> Result<Instr, TextFaultKind>
     }
 }
 
+/// Whether a word is this one. Where the keyword is known, nothing is called, as `==` would.
+#[inline(always)]
+#[tactic(auto, using(crate::proofs::Keywords::other_length, crate::proofs::Keywords::same_byte, crate::proofs::Keywords::other_byte))]
+fn is(word: &[u8], keyword: &[u8]) -> bool
+    ensures { result ≡ bytes_eq word.now keyword.now }
+{
+    if word.len() != keyword.len() {
+        return false;
+    }
+    for place in 0..word.len() {
+        if word[place] != keyword[place] {
+            return false;
+        }
+    }
+    true
+}
+
 /// An instruction of this name, or the first fault of its line: `BadLine`, `BadNumber`, `BadId` or
 /// `TypedItems`.
+#[inline(always)]
 #[tactic(auto, unfolding(crate::specs::Statements::instruction_of))]
 pub fn instruction(format: Format, name: &[u8], operands: Words<'_>) -> Result<Instr, TextFaultKind>
     ensures { Returns instr_of result (instruction_of (format_of format) name.now operands.entry) }
 {
-    if name == SET {
+    if is(name, SET) {
         return set(format, operands);
     }
-    if name == COPY {
+    if is(name, COPY) {
         return copy(operands);
     }
-    if name == ADD {
+    if is(name, ADD) {
         return add(format, operands);
     }
-    if name == TAG {
+    if is(name, TAG) {
         return tag(format, operands);
     }
-    if name == VIRTUAL_SENDER {
+    if is(name, VIRTUAL_SENDER) {
         return vs(format, operands);
     }
-    if name == IPC {
+    if is(name, IPC) {
         return ipc(format, operands);
     }
-    if name == EXCHANGE_REGISTERS {
+    if is(name, EXCHANGE_REGISTERS) {
         return exregs(format, operands);
     }
-    if name == DELETE {
+    if is(name, DELETE) {
         return delete(format, operands);
     }
-    if name == JUMP {
-        return Ok(Instr::Jump(target(operands)?));
+    if is(name, JUMP) {
+        return jump(operands);
     }
-    if name == ON_ERROR {
-        return Ok(Instr::OnErr(target(operands)?));
+    if is(name, ON_ERROR) {
+        return on_error(operands);
     }
-    if name == END {
+    if is(name, END) {
         return end(operands);
     }
     Err(TextFaultKind::BadLine)

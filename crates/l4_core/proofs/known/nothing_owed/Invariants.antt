@@ -2,5 +2,5 @@ use Rattle.std.proofs.Common.{◌≡◌, None}
 use Rattle.std.specs.Prelude.{replicate}
 use Rattle.l4_core.proofs.known.nothing_owed.Given as goal
 
-abbrev pub invariant-loop-place : goal.invariant-loop-place
-invariant-loop-place l = l.owed.items ≡ replicate l.place None
+abbrev pub invariant-loop : goal.invariant-loop
+invariant-loop l = l.owed.items ≡ replicate l.counter None

@@ -19,7 +19,7 @@ returns-clause-all g c =
     all_endings c.args.machine.now (told c.in_ok-ends.field-0.items) c.len.result
     (min c.args.depth deepest) c.args.most x.depth x.is_whole
     (are_endings c.args.machine.now x.found (told c.in_ok-ends.field-0.items) c.len.result
-    (min c.args.depth deepest) c.args.most x.depth x.is_whole c.cpus.ensures.lawful
+    (min c.args.depth deepest) c.args.most x.depth x.is_whole c.facts.ensures.lawful
     c.in_ok-explored.ensures.explored c.in_ok-explored.ensures.cut c.len.ensures.value
     c.in_ok-ends.ensures)
 
@@ -27,7 +27,7 @@ pub returns-clause-found : goal.returns-clause-found
 returns-clause-found g c =
     let x = c.in_ok-explored.explored in
     are_endings c.args.machine.now x.found (told c.in_ok-ends.field-0.items) c.len.result
-    (min c.args.depth deepest) c.args.most x.depth x.is_whole c.cpus.ensures.lawful
+    (min c.args.depth deepest) c.args.most x.depth x.is_whole c.facts.ensures.lawful
     c.in_ok-explored.ensures.explored c.in_ok-explored.ensures.cut c.len.ensures.value
     c.in_ok-ends.ensures
 
@@ -36,7 +36,7 @@ returns-clause-whole g c = λ whole.
     let x = c.in_ok-explored.explored in
     let depths = c.in_ok-explored.ensures.whole whole in (
       depths.1,
-      deepest_of c.args.machine.now x.found x.depth x.is_whole c.cpus.ensures.lawful
+      deepest_of c.args.machine.now x.found x.depth x.is_whole c.facts.ensures.lawful
           c.in_ok-explored.ensures.explored (subst (λ n. 0 < n) c.len.ensures.value c.len.ensures.some)
           depths.0 whole,
     )

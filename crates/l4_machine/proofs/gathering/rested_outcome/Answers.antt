@@ -23,7 +23,7 @@ outcome_of-requires c =
     let run = c.law_merge.ensures.whole m (pasts_of m ps) whole in
     let told_is = gathered_history m ps run.0 c.in_ok-history.history.steps run.1 (c.law_merge.ensures.sorted m (pasts_of m ps) whole)
     (is_merge m ps c.in_ok-history.history.steps c.in_ok-history.ensures.history) in
-    let lawful = c.law_core_run.ensures.lawful m run.0 c.cpus.ensures.lawful run.1.core_run in
+    let lawful = c.law_core_run.ensures.lawful m run.0 c.facts.ensures.lawful run.1.core_run in
     subst (IsHistory m) (sym told_is) lawful.history
 
 pub returns : goal.returns
@@ -34,7 +34,7 @@ returns c =
     let run = c.law_merge.ensures.whole m (pasts_of m ps) whole in
     let told_is = gathered_history m ps run.0 c.in_ok-history.history.steps run.1 (c.law_merge.ensures.sorted m (pasts_of m ps) whole)
     (is_merge m ps c.in_ok-history.history.steps c.in_ok-history.ensures.history) in
-    let lawful = c.law_core_run.ensures.lawful m run.0 c.cpus.ensures.lawful run.1.core_run in
+    let lawful = c.law_core_run.ensures.lawful m run.0 c.facts.ensures.lawful run.1.core_run in
     let locals : List Local = map (λ (past : LocalTrace). past.local) (pasts_of m ps) in
     let ends : EndsIn run.0 locals c.args.all_handled = record {
       here = run.1.ends.locals;

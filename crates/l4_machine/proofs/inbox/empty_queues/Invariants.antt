@@ -3,5 +3,5 @@ use Rattle.std.specs.Prelude.{replicate}
 use Rattle.l4_types.specs.LetterView.{letter_of}
 use Rattle.l4_machine.proofs.inbox.empty_queues.Given as goal
 
-abbrev pub invariant-loop-from : goal.invariant-loop-from
-invariant-loop-from l = map (λ letters. map letter_of letters.items) l.queues.items ≡ replicate l.from []
+abbrev pub invariant-loop : goal.invariant-loop
+invariant-loop l = map (λ letters. map letter_of letters.items) l.queues.items ≡ replicate l.counter []

@@ -42,9 +42,8 @@ returns-clause-lawful g c =
     let here : t.machine.now ≡ c.args.machine.now = ap (λ machine. machine.now) e.machine ∙ there in
     let few = subst (λ n. count_events t.processors.items < n + c.in_ok-team.team.machine.now.cpus) c.in_ok-team.ensures.turns e.fewer in
     let fewer = subst (λ (m : Machine). count_events t.processors.items < c.args.turns + m.cpus) there few in
-    let value = c.cpus.ensures.value in
-    let limit = c.cpus.ensures.limit in
+    let limit = c.facts.ensures.limit in
     let entries : List Entry = map entry_from c.in_ok-entries.entries.items in
     subst (λ (m : Machine). entries_fault m entries ≡ None) here
     (are_lawful t.machine.now t.processors.items entries (compact_findings_of c.in_ok-outcome.outcome) e.team.come.in_order
-    (omega (arith, fewer, value, limit, c.requires)) c.in_ok-entries.ensures c.in_ok-outcome.ensures)
+    (omega (arith, fewer, limit, c.requires)) c.in_ok-entries.ensures c.in_ok-outcome.ensures)

@@ -19,7 +19,7 @@ returns-clause-all c =
     let count = within.1 in
     no_fault c.args.machine.now (entries_of c.go_on.new.self)
     (all_few replay.machine.now (entries_of replay) (entries_of c.go_on.new.self) c.args.turns
-    (omega (arith, cpus, c.cpus.ensures.value, c.cpus.ensures.some))
-    (omega (arith, cpus, c.cpus.ensures.value, c.cpus.ensures.limit))
+    (omega (arith, cpus, c.facts.ensures.some))
+    (omega (arith, cpus, c.facts.ensures.limit))
     within.0 (omega (arith, given, count)) on.entries)
     (ap (λ m. first_stranger m 1 (entries_of c.go_on.new.self)) (sym same) ∙ on.replay.lawful)

@@ -14,12 +14,12 @@ pub invariant_of-self : goal.invariant_of-self
 invariant_of-self c =
     let s = c.self.inside in
     let own = subst (λ (p : Processor). IsOwnOf p c.args.place) (sym c.self.view_is) c.requires in
-    kept-changed s.machine.now s.cpu s.threads.items s.lists s.told.items (kept_of s.machine.now s.owed.items) s.clock s.stamp c.args.place (asked (order_kind_of c.args.what)) _ _ c.self.invariant c.index_mut.ensures.value c.ask.ensures
-    (fits-asked s.machine.now s.cpu (local_of s.threads.items s.lists s.told.items (kept_of s.machine.now s.owed.items) s.clock s.stamp) c.args.place (order_kind_of c.args.what) (not_delete c.args.what c.in_default.not-Delete) c.self.invariant.core.settled own.within)
+    kept-changed s.machine.now s.cpu s.threads.items s.lists s.notified.items (kept_of s.machine.now s.owed.items) s.clock s.stamp c.args.place (asked (order_kind_of c.args.what)) _ _ c.self.invariant c.index_mut.ensures.value c.ask.ensures
+    (fits-asked s.machine.now s.cpu (local_of s.threads.items s.lists s.notified.items (kept_of s.machine.now s.owed.items) s.clock s.stamp) c.args.place (order_kind_of c.args.what) (not_delete c.args.what c.in_default.not-Delete) c.self.invariant.core.settled own.within)
 
 pub returns-in_default : goal.returns-in_default
 returns-in_default c =
     let s = c.self.inside in
     let own = subst (λ (p : Processor). IsOwnOf p c.args.place) (sym c.self.view_is) c.requires in
-    change-written s.machine.now s.cpu s.threads.items s.lists s.told.items (kept_of s.machine.now s.owed.items) s.clock s.stamp c.args.place (asked (order_kind_of c.args.what)) _ _ _ c.self.invariant own.within c.index_mut.ensures.value c.ask.ensures c.self.view_is
+    change-written s.machine.now s.cpu s.threads.items s.lists s.notified.items (kept_of s.machine.now s.owed.items) s.clock s.stamp c.args.place (asked (order_kind_of c.args.what)) _ _ _ c.self.invariant own.within c.index_mut.ensures.value c.ask.ensures c.self.view_is
     ∙ asks_other c.args.self.now c.args.what c.args.place c.in_default.not-Delete

@@ -15,11 +15,11 @@ invariant_of-self c =
     let s = c.self.inside in
     let own = subst (λ (p : Processor). IsOwnOf p c.args.place) (sym (c.self.view_is ∙ c.drop_ready.ensures.rest)) c.requires in
     let free = subst (λ (p : Processor). is_ready_in p.local.lists c.args.place ≡ false) (sym c.self.view_is) c.drop_ready.ensures.gone in
-    kept-changed s.machine.now s.cpu s.threads.items s.lists s.told.items (kept_of s.machine.now s.owed.items) s.clock s.stamp c.args.place (asked Delete) _ _ c.self.invariant c.index_mut.ensures.value c.ask.ensures (fits-deleted s.machine.now s.cpu (local_of s.threads.items s.lists s.told.items (kept_of s.machine.now s.owed.items) s.clock s.stamp) c.args.place c.self.invariant.core.settled own.within free)
+    kept-changed s.machine.now s.cpu s.threads.items s.lists s.notified.items (kept_of s.machine.now s.owed.items) s.clock s.stamp c.args.place (asked Delete) _ _ c.self.invariant c.index_mut.ensures.value c.ask.ensures (fits-deleted s.machine.now s.cpu (local_of s.threads.items s.lists s.notified.items (kept_of s.machine.now s.owed.items) s.clock s.stamp) c.args.place c.self.invariant.core.settled own.within free)
 
 pub returns : goal.returns
 returns c =
     let s = c.self.inside in
     let own = subst (λ (p : Processor). IsOwnOf p c.args.place) (sym (c.self.view_is ∙ c.drop_ready.ensures.rest)) c.requires in
-    come-written s.machine.now s.cpu s.threads.items s.lists s.told.items (kept_of s.machine.now s.owed.items) s.clock s.stamp c.args.place (asked Delete) _ _ _ _ c.self.invariant own.within c.index_mut.ensures.value c.ask.ensures c.self.view_is c.enter_lists.ensures
+    come-written s.machine.now s.cpu s.threads.items s.lists s.notified.items (kept_of s.machine.now s.owed.items) s.clock s.stamp c.args.place (asked Delete) _ _ _ _ c.self.invariant own.within c.index_mut.ensures.value c.ask.ensures c.self.view_is c.enter_lists.ensures
     ∙ ap (λ (p : Processor). with_local p (comes_to c.args.place (asked Delete) p.local)) c.drop_ready.ensures.rest

@@ -11,11 +11,11 @@ pub invariant_of-self : goal.invariant_of-self
 invariant_of-self c =
     let s = c.self.inside in
     let own = subst (λ (p : Processor). IsOwnOf p c.args.place) (sym c.self.view_is) c.requires in
-    kept-changed s.machine.now s.cpu s.threads.items s.lists s.told.items (kept_of s.machine.now s.owed.items) s.clock s.stamp c.args.place forgets_order _ _ c.self.invariant c.index_mut.ensures.value c.forget_order.ensures
-    (fits-forgotten_order s.machine.now s.cpu (local_of s.threads.items s.lists s.told.items (kept_of s.machine.now s.owed.items) s.clock s.stamp) c.args.place c.self.invariant.core.settled own.within)
+    kept-changed s.machine.now s.cpu s.threads.items s.lists s.notified.items (kept_of s.machine.now s.owed.items) s.clock s.stamp c.args.place forgets_order _ _ c.self.invariant c.index_mut.ensures.value c.forget_order.ensures
+    (fits-forgotten_order s.machine.now s.cpu (local_of s.threads.items s.lists s.notified.items (kept_of s.machine.now s.owed.items) s.clock s.stamp) c.args.place c.self.invariant.core.settled own.within)
 
 pub returns : goal.returns
 returns c =
     let s = c.self.inside in
     let own = subst (λ (p : Processor). IsOwnOf p c.args.place) (sym c.self.view_is) c.requires in
-    change-written s.machine.now s.cpu s.threads.items s.lists s.told.items (kept_of s.machine.now s.owed.items) s.clock s.stamp c.args.place forgets_order _ _ _ c.self.invariant own.within c.index_mut.ensures.value c.forget_order.ensures c.self.view_is
+    change-written s.machine.now s.cpu s.threads.items s.lists s.notified.items (kept_of s.machine.now s.owed.items) s.clock s.stamp c.args.place forgets_order _ _ _ c.self.invariant own.within c.index_mut.ensures.value c.forget_order.ensures c.self.view_is

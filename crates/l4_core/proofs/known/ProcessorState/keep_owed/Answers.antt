@@ -16,8 +16,8 @@ invariant_of-self c =
     let on = subst (λ (p : Processor). p.machine.retargeting ≡ true) (sym c.self.view_is) c.requires.profile in
     let size = kept_size s.machine.now s.owed.items on c.self.invariant.core.settled.owed in
     let now = kept_written s.machine.now s.owed.items c.args.place (Some c.args.owed) on (omega (arith, within, size)) in
-    rw now (kept-settled s.machine.now s.cpu s.threads.items s.lists s.lists s.told.items s.told.items (kept_of s.machine.now s.owed.items) _ s.clock s.stamp s.clock s.stamp c.self.invariant
-    (settled-kept s.machine.now s.cpu (local_of s.threads.items s.lists s.told.items (kept_of s.machine.now s.owed.items) s.clock s.stamp) c.args.place (Some (owed_of c.args.owed)) c.self.invariant.core.settled))
+    rw now (kept-settled s.machine.now s.cpu s.threads.items s.lists s.lists s.notified.items s.notified.items (kept_of s.machine.now s.owed.items) _ s.clock s.stamp s.clock s.stamp c.self.invariant
+    (settled-kept s.machine.now s.cpu (local_of s.threads.items s.lists s.notified.items (kept_of s.machine.now s.owed.items) s.clock s.stamp) c.args.place (Some (owed_of c.args.owed)) c.self.invariant.core.settled))
 
 pub returns : goal.returns
 returns c =
@@ -26,5 +26,5 @@ returns c =
     let on = subst (λ (p : Processor). p.machine.retargeting ≡ true) (sym c.self.view_is) c.requires.profile in
     let size = kept_size s.machine.now s.owed.items on c.self.invariant.core.settled.owed in
     let now = kept_written s.machine.now s.owed.items c.args.place (Some c.args.owed) on (omega (arith, within, size)) in
-    ap (λ (os : List (Option Owed)). record { machine = s.machine.now; cpu = s.cpu; local = local_of s.threads.items s.lists s.told.items os s.clock s.stamp }) now
+    ap (λ (os : List (Option Owed)). record { machine = s.machine.now; cpu = s.cpu; local = local_of s.threads.items s.lists s.notified.items os s.clock s.stamp }) now
     ∙ ap (λ (p : Processor). with_local p (keeps_beside c.args.place (Some (owed_of c.args.owed)) p.local)) c.self.view_is

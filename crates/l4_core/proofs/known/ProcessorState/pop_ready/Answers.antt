@@ -7,4 +7,4 @@ pub invariant_of-self : goal.invariant_of-self
 invariant_of-self c =
     let s = c.self.inside in
     let lists = c.pop_ready.ensures.rest in
-    rw lists (kept-settled s.machine.now s.cpu s.threads.items s.lists _ s.told.items _ (kept_of s.machine.now s.owed.items) _ s.clock s.stamp _ _ c.self.invariant (settled-popped s.machine.now s.cpu (local_of s.threads.items s.lists s.told.items (kept_of s.machine.now s.owed.items) s.clock s.stamp) c.self.invariant.core.settled))
+    rw lists (kept-settled s.machine.now s.cpu s.threads.items s.lists _ s.notified.items _ (kept_of s.machine.now s.owed.items) _ s.clock s.stamp _ _ c.self.invariant (settled-popped s.machine.now s.cpu (local_of s.threads.items s.lists s.notified.items (kept_of s.machine.now s.owed.items) s.clock s.stamp) c.self.invariant.core.settled))

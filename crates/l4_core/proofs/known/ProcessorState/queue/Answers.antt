@@ -12,4 +12,4 @@ invariant_of-self c =
     let sender = subst (λ (p : Processor). IsSender p c.args.waiting.block) (sym c.self.view_is) c.requires.sender in
     let here = subst (λ (p : Processor). IsNotSplit p c.args.waiting.block) (sym c.self.view_is) c.requires.here in
     let lists = c.queue_send.ensures in
-    rw lists (kept-settled s.machine.now s.cpu s.threads.items s.lists _ s.told.items _ (kept_of s.machine.now s.owed.items) _ s.clock s.stamp _ _ c.self.invariant (settled-queued s.machine.now s.cpu (local_of s.threads.items s.lists s.told.items (kept_of s.machine.now s.owed.items) s.clock s.stamp) c.args.receiver c.args.waiting (record { within = sender.within; sends = sender.sends; here = here }) c.self.invariant.core.settled))
+    rw lists (kept-settled s.machine.now s.cpu s.threads.items s.lists _ s.notified.items _ (kept_of s.machine.now s.owed.items) _ s.clock s.stamp _ _ c.self.invariant (settled-queued s.machine.now s.cpu (local_of s.threads.items s.lists s.notified.items (kept_of s.machine.now s.owed.items) s.clock s.stamp) c.args.receiver c.args.waiting (record { within = sender.within; sends = sender.sends; here = here }) c.self.invariant.core.settled))

@@ -20,13 +20,13 @@ invariant_of-self c =
     let own = subst (λ (p : Processor). IsOwnOf p c.args.place) (sym c.self.view_is) c.requires in
     let first = c.disarm.ensures in
     let then_is = c.arm.ensures in
-    let l = local_of s.threads.items (disarmed c.args.place s.lists) s.told.items (kept_of s.machine.now s.owed.items) s.clock s.stamp in
+    let l = local_of s.threads.items (disarmed c.args.place s.lists) s.notified.items (kept_of s.machine.now s.owed.items) s.clock s.stamp in
     let near = subst (λ o. IfSome o (λ d. d < s.clock + 2 ^ 42)) c.in-Some.is c.deadline.ensures.near in
-    let settled = settled-disarmed s.machine.now s.cpu (local_of s.threads.items s.lists s.told.items (kept_of s.machine.now s.owed.items) s.clock s.stamp) c.args.place c.self.invariant.core.settled in
-    rw (then_is, first) (kept-settled s.machine.now s.cpu s.threads.items s.lists _ s.told.items _ (kept_of s.machine.now s.owed.items) _ s.clock s.stamp _ _ c.self.invariant (settled-armed s.machine.now s.cpu l c.args.place c.in-Some.deadline own near settled))
+    let settled = settled-disarmed s.machine.now s.cpu (local_of s.threads.items s.lists s.notified.items (kept_of s.machine.now s.owed.items) s.clock s.stamp) c.args.place c.self.invariant.core.settled in
+    rw (then_is, first) (kept-settled s.machine.now s.cpu s.threads.items s.lists _ s.notified.items _ (kept_of s.machine.now s.owed.items) _ s.clock s.stamp _ _ c.self.invariant (settled-armed s.machine.now s.cpu l c.args.place c.in-Some.deadline own near settled))
 
 pub invariant_of-self-in_default : goal.invariant_of-self-in_default
 invariant_of-self-in_default c =
     let s = c.self.inside in
     let lists = c.disarm.ensures in
-    rw lists (kept-settled s.machine.now s.cpu s.threads.items s.lists _ s.told.items _ (kept_of s.machine.now s.owed.items) _ s.clock s.stamp _ _ c.self.invariant (settled-disarmed s.machine.now s.cpu (local_of s.threads.items s.lists s.told.items (kept_of s.machine.now s.owed.items) s.clock s.stamp) c.args.place c.self.invariant.core.settled))
+    rw lists (kept-settled s.machine.now s.cpu s.threads.items s.lists _ s.notified.items _ (kept_of s.machine.now s.owed.items) _ s.clock s.stamp _ _ c.self.invariant (settled-disarmed s.machine.now s.cpu (local_of s.threads.items s.lists s.notified.items (kept_of s.machine.now s.owed.items) s.clock s.stamp) c.args.place c.self.invariant.core.settled))

@@ -19,7 +19,7 @@ returns-then-not-retargets-clause-state c =
     let s = c.self.inside in
     let off = sym c.retargets.ensures ∙ c.if-not-retargets.true in
     sym c.self.view_is
-    ∙ ap (λ (os : List (Option Owed)). record { machine = s.machine.now; cpu = s.cpu; local = local_of s.threads.items s.lists s.told.items os s.clock s.stamp }) (none_written s.machine.now s.owed.items c.args.place off)
+    ∙ ap (λ (os : List (Option Owed)). record { machine = s.machine.now; cpu = s.cpu; local = local_of s.threads.items s.lists s.notified.items os s.clock s.stamp }) (none_written s.machine.now s.owed.items c.args.place off)
     ∙ ap (λ (p : Processor). with_local p (keeps_beside c.args.place None p.local)) c.self.view_is
 
 pub invariant_of-self : goal.invariant_of-self
@@ -29,8 +29,8 @@ invariant_of-self c =
     let on = sym c.retargets.ensures ∙ c.if-not-retargets.false in
     let size = kept_size s.machine.now s.owed.items on c.self.invariant.core.settled.owed in
     let now = kept_written s.machine.now s.owed.items c.args.place None on (omega (arith, within, size)) in
-    rw now (kept-settled s.machine.now s.cpu s.threads.items s.lists s.lists s.told.items s.told.items (kept_of s.machine.now s.owed.items) _ s.clock s.stamp s.clock s.stamp c.self.invariant
-    (settled-kept s.machine.now s.cpu (local_of s.threads.items s.lists s.told.items (kept_of s.machine.now s.owed.items) s.clock s.stamp) c.args.place None c.self.invariant.core.settled))
+    rw now (kept-settled s.machine.now s.cpu s.threads.items s.lists s.lists s.notified.items s.notified.items (kept_of s.machine.now s.owed.items) _ s.clock s.stamp s.clock s.stamp c.self.invariant
+    (settled-kept s.machine.now s.cpu (local_of s.threads.items s.lists s.notified.items (kept_of s.machine.now s.owed.items) s.clock s.stamp) c.args.place None c.self.invariant.core.settled))
 
 pub returns-clause-state : goal.returns-clause-state
 returns-clause-state c =
@@ -39,5 +39,5 @@ returns-clause-state c =
     let on = sym c.retargets.ensures ∙ c.if-not-retargets.false in
     let size = kept_size s.machine.now s.owed.items on c.self.invariant.core.settled.owed in
     let now = kept_written s.machine.now s.owed.items c.args.place None on (omega (arith, within, size)) in
-    ap (λ (os : List (Option Owed)). record { machine = s.machine.now; cpu = s.cpu; local = local_of s.threads.items s.lists s.told.items os s.clock s.stamp }) now
+    ap (λ (os : List (Option Owed)). record { machine = s.machine.now; cpu = s.cpu; local = local_of s.threads.items s.lists s.notified.items os s.clock s.stamp }) now
     ∙ ap (λ (p : Processor). with_local p (keeps_beside c.args.place None p.local)) c.self.view_is

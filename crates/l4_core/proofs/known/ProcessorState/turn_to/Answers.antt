@@ -12,12 +12,12 @@ invariant_of-self c =
     let s = c.self.inside in
     let owed = owed_of c.args.owed.now in
     let within = subst (λ (p : Processor). c.args.place < length p.machine.threads) (sym c.self.view_is) c.requires in
-    kept-changed s.machine.now s.cpu s.threads.items s.lists s.told.items (kept_of s.machine.now s.owed.items) s.clock s.stamp c.args.place (turns owed) _ _ c.self.invariant c.index_mut.ensures.value (c.turn_to.ensures owed.send owed.originator)
-    (fits-turned s.machine.now s.cpu (local_of s.threads.items s.lists s.told.items (kept_of s.machine.now s.owed.items) s.clock s.stamp) c.args.place owed c.self.invariant.core.settled within)
+    kept-changed s.machine.now s.cpu s.threads.items s.lists s.notified.items (kept_of s.machine.now s.owed.items) s.clock s.stamp c.args.place (turns owed) _ _ c.self.invariant c.index_mut.ensures.value (c.turn_to.ensures owed.send owed.originator)
+    (fits-turned s.machine.now s.cpu (local_of s.threads.items s.lists s.notified.items (kept_of s.machine.now s.owed.items) s.clock s.stamp) c.args.place owed c.self.invariant.core.settled within)
 
 pub returns : goal.returns
 returns c =
     let s = c.self.inside in
     let owed = owed_of c.args.owed.now in
     let within = subst (λ (p : Processor). c.args.place < length p.machine.threads) (sym c.self.view_is) c.requires in
-    change-written s.machine.now s.cpu s.threads.items s.lists s.told.items (kept_of s.machine.now s.owed.items) s.clock s.stamp c.args.place (turns owed) _ _ _ c.self.invariant within c.index_mut.ensures.value (c.turn_to.ensures owed.send owed.originator) c.self.view_is
+    change-written s.machine.now s.cpu s.threads.items s.lists s.notified.items (kept_of s.machine.now s.owed.items) s.clock s.stamp c.args.place (turns owed) _ _ _ c.self.invariant within c.index_mut.ensures.value (c.turn_to.ensures owed.send owed.originator) c.self.view_is

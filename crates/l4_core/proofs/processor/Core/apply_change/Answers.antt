@@ -18,14 +18,14 @@ note_duty-requires-clause-others c =
     let s = c.self.inside in
     let free = subst (λ (p : Processor). IsFree p c.args.place) (sym c.self.view_is) c.requires.free in
     let fits = subst (λ (p : Processor). IsFitting c.args.change.now (thread p.local c.args.place)) (sym c.self.view_is) c.requires.fits in
-    others_after s.duties s.zeros s.known c.apply_change.new.self c.args.place (change_of c.args.change.now s.known.local.clock) c.self.invariant (omega (arith, free.own.within, c.len-few.ensures.core.settled.threads))
+    others_after s.duties s.zeros s.known c.apply_change.new.self c.args.place (change_of c.args.change.now s.known.local.clock) c.self.invariant (omega (arith, free.own.within, c.facts.ensures.core.settled.threads))
     (keeps-change c.args.change.now s.known.local.clock _ fits).dead free.unqueued c.apply_change.ensures
 
 pub note_duty-requires-clause-zeros : goal.note_duty-requires-clause-zeros
 note_duty-requires-clause-zeros c =
     let s = c.self.inside in
     let free = subst (λ (p : Processor). IsFree p c.args.place) (sym c.self.view_is) c.requires.free in
-    zeros_after s.duties s.zeros s.known c.apply_change.new.self c.args.place (change_of c.args.change.now s.known.local.clock) c.self.invariant (omega (arith, free.own.within, c.len-few.ensures.core.settled.threads)) free.unqueued c.apply_change.ensures
+    zeros_after s.duties s.zeros s.known c.apply_change.new.self c.args.place (change_of c.args.change.now s.known.local.clock) c.self.invariant (omega (arith, free.own.within, c.facts.ensures.core.settled.threads)) free.unqueued c.apply_change.ensures
 
 pub invariant_of-self : goal.invariant_of-self
 invariant_of-self c =
@@ -33,5 +33,5 @@ invariant_of-self c =
     let free = subst (λ (p : Processor). IsFree p c.args.place) (sym c.self.view_is) c.requires.free in
     record {
       covers = c.note_duty.ensures;
-      waiting = zeros_after s.duties s.zeros s.known c.apply_change.new.self c.args.place (change_of c.args.change.now s.known.local.clock) c.self.invariant (omega (arith, free.own.within, c.len-few.ensures.core.settled.threads)) free.unqueued c.apply_change.ensures;
+      waiting = zeros_after s.duties s.zeros s.known c.apply_change.new.self c.args.place (change_of c.args.change.now s.known.local.clock) c.self.invariant (omega (arith, free.own.within, c.facts.ensures.core.settled.threads)) free.unqueued c.apply_change.ensures;
     }

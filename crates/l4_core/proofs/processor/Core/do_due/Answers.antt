@@ -7,5 +7,5 @@ use Rattle.l4_core.proofs.processor.Core.do_due.Goals as goal
 
 pub time_out-requires-clause-own : goal.time_out-requires-clause-own
 time_out-requires-clause-own g c =
-    let core = subst AreCore c.self.view_is c.len-few.ensures.core in
+    let core = subst AreCore c.self.view_is c.facts.ensures.core in
     subst (λ (p : Processor). IsOwnOf p c.args.place) (sym c.pop_due.ensures) (core.settled.armed c.args.place (due_armed c.args.self.now.local.clock c.args.self.now.local.lists.armed c.args.place c.requires.due))

@@ -8,17 +8,17 @@ use Rattle.l4_core.proofs.processor.Core.do_duty.Goals as goal
 
 pub refuse-requires-in-RefuseFirst-clause-sender : goal.refuse-requires-in-RefuseFirst-clause-sender
 refuse-requires-in-RefuseFirst-clause-sender g c =
-    let core = subst AreCore c.self.view_is c.len-few.ensures.core in
+    let core = subst AreCore c.self.view_is c.facts.ensures.core in
     refused_sends c.args.self.now c.args.place c.in-RefuseFirst.sender core (c.requires.first.has_duty ∙ ap (λ d. Some (duty_of c.args.self.now.local.owed c.args.place d)) c.in-RefuseFirst.is)
 
 pub deliver-requires-clause-sender : goal.deliver-requires-clause-sender
 deliver-requires-clause-sender g c =
-    let core = subst AreCore c.self.view_is c.len-few.ensures.core in
+    let core = subst AreCore c.self.view_is c.facts.ensures.core in
     delivered_sends c.args.self.now c.args.place c.in-DeliverFirst.sender core (c.requires.first.has_duty ∙ ap (λ d. Some (duty_of c.args.self.now.local.owed c.args.place d)) c.in-DeliverFirst.is)
 
 pub refuse-requires-in-RefuseZero-clause-sender : goal.refuse-requires-in-RefuseZero-clause-sender
 refuse-requires-in-RefuseZero-clause-sender g c =
-    let core = subst AreCore c.self.view_is c.len-few.ensures.core in
+    let core = subst AreCore c.self.view_is c.facts.ensures.core in
     zero_sends c.args.self.now c.args.place c.in-RefuseZero.sender core (c.requires.first.has_duty ∙ ap (λ d. Some (duty_of c.args.self.now.local.owed c.args.place d)) c.in-RefuseZero.is)
 
 pub returns-in-Retarget : goal.returns-in-Retarget

@@ -9,17 +9,17 @@ use Rattle.l4_core.proofs.processor.Core.finish_order.Goals as goal
 
 pub enter_lists-requires-clause-unready : goal.enter_lists-requires-clause-unready
 enter_lists-requires-clause-unready c =
-    ap (λ (p : Processor). is_ready_in p.local.lists c.args.place) c.forget_order.ensures ∙ caller_unready c.args.self.now c.args.place (subst AreCore c.self.view_is c.len-few.ensures.core) c.requires
+    ap (λ (p : Processor). is_ready_in p.local.lists c.args.place) c.forget_order.ensures ∙ caller_unready c.args.self.now c.args.place (subst AreCore c.self.view_is c.facts.ensures.core) c.requires
 
 pub apply_change-requires-clause-free : goal.apply_change-requires-clause-free
-apply_change-requires-clause-free c = caller_free c.args.self.now c.args.place (subst AreCore c.self.view_is c.len-few.ensures.core) c.requires
+apply_change-requires-clause-free c = caller_free c.args.self.now c.args.place (subst AreCore c.self.view_is c.facts.ensures.core) c.requires
     (subst (λ (p : Processor). is_deleted (thread p.local c.args.place).phase ≡ false) c.self.view_is (sym c.is_deleted.ensures ∙ c.if-is_deleted.false))
 
 pub apply_change-requires-clause-fits : goal.apply_change-requires-clause-fits
-apply_change-requires-clause-fits c = caller_fits c.args.self.now c.args.place (subst AreCore c.self.view_is c.len-few.ensures.core) c.requires
+apply_change-requires-clause-fits c = caller_fits c.args.self.now c.args.place (subst AreCore c.self.view_is c.facts.ensures.core) c.requires
     (subst (λ (p : Processor). is_deleted (thread p.local c.args.place).phase ≡ false) c.self.view_is (sym c.is_deleted.ensures ∙ c.if-is_deleted.false))
 
 pub returns-then-is_deleted : goal.returns-then-is_deleted
 returns-then-is_deleted c =
-    deleted_obeys c.args.self.now c.forget_order.new.self c.enter_lists.new.self c.args.place (subst AreCore c.self.view_is c.len-few.ensures.core) c.requires.own.within
+    deleted_obeys c.args.self.now c.forget_order.new.self c.enter_lists.new.self c.args.place (subst AreCore c.self.view_is c.facts.ensures.core) c.requires.own.within
     (subst (λ (p : Processor). is_deleted (thread p.local c.args.place).phase ≡ true) c.self.view_is (sym c.is_deleted.ensures ∙ c.if-is_deleted.true)) c.forget_order.ensures c.enter_lists.ensures

@@ -12,4 +12,4 @@ invariant_of-self c =
     let within = subst (λ (p : Processor). c.args.place < length p.machine.threads) (sym c.self.view_is) c.requires.within in
     let away = subst (λ (p : Processor). is_own p.machine p.cpu c.args.place ≡ false) (sym c.self.view_is) c.requires.foreign in
     let free = subst (λ (p : Processor). is_queued p.local.lists c.args.place ≡ false) (sym c.self.view_is) c.requires.unqueued in
-    covered-changed s.duties s.zeros s.known c.forget_send.new.self c.args.place decided c.self.invariant (omega (arith, within, c.len-few.ensures.core.settled.threads)) (λ own. let wrong : true ≡ false = sym own ∙ away in cc) refl (inl free) c.forget_send.ensures
+    covered-changed s.duties s.zeros s.known c.forget_send.new.self c.args.place decided c.self.invariant (omega (arith, within, c.facts.ensures.core.settled.threads)) (λ own. let wrong : true ≡ false = sym own ∙ away in cc) refl (inl free) c.forget_send.ensures

@@ -13,7 +13,7 @@ use Rattle.l4_core.proofs.processor.Core.give.Goals as goal
 pub apply_change-requires-in-Some-clause-free : goal.apply_change-requires-in-Some-clause-free
 apply_change-requires-in-Some-clause-free g c =
     let order : PendingOrder = record { target = c.args.target; what = order_kind_of c.args.what } in
-    let core = subst AreCore c.self.view_is c.len-few.ensures.core in
+    let core = subst AreCore c.self.view_is c.facts.ensures.core in
     let given = c.apply_change.ensures ∙ ap (λ (o : PendingOrder). with_local c.args.self.now (comes_to c.args.place (orders o) c.args.self.now.local)) c.new.ensures in
     still_free c.args.self.now c.obey_order.new.self c.args.place c.in-Some.asked order core c.requires.hand
     (obeyed_is c.args.self.now c.apply_change.new.self c.obey_order.new.self c.args.place c.in-Some.asked order c.id-caller.result c.emit.new.self c.obey_order.new.buffer given c.obey_order.ensures.does)
@@ -21,7 +21,7 @@ apply_change-requires-in-Some-clause-free g c =
 pub apply_change-requires-in-Some-clause-fits : goal.apply_change-requires-in-Some-clause-fits
 apply_change-requires-in-Some-clause-fits g c =
     let order : PendingOrder = record { target = c.args.target; what = order_kind_of c.args.what } in
-    let core = subst AreCore c.self.view_is c.len-few.ensures.core in
+    let core = subst AreCore c.self.view_is c.facts.ensures.core in
     let given = c.apply_change.ensures ∙ ap (λ (o : PendingOrder). with_local c.args.self.now (comes_to c.args.place (orders o) c.args.self.now.local)) c.new.ensures in
     still_fitting c.args.self.now c.obey_order.new.self c.args.place c.in-Some.asked order core c.requires.hand c.requires.within
     (obeyed_is c.args.self.now c.apply_change.new.self c.obey_order.new.self c.args.place c.in-Some.asked order c.id-caller.result c.emit.new.self c.obey_order.new.buffer given c.obey_order.ensures.does)

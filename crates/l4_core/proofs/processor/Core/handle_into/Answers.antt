@@ -23,7 +23,7 @@ returns-clause-ok g c =
     handled_event c.args.self.now c.open-stamp.new.self c.do_task.new.self c.args.letter.now c.in-Some.task c.args.buffer.now c.do_task.new.buffer c.open-stamp.result
     (subst (λ (p : Processor). Some c.in-Some.task ≡ task_of p.machine p.cpu p.local c.args.letter.now.content) c.self.view_is c.in-Some.ensures.value)
     c.open-stamp.ensures.state c.open-stamp.ensures.stamp
-    c.requires.untold c.do_task.ensures
+    c.requires.open c.do_task.ensures
 
 pub returns-clause-mail : goal.returns-clause-mail
 returns-clause-mail g c =

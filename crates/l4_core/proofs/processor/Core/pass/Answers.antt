@@ -18,7 +18,7 @@ note_duty-requires-clause-own c =
 pub note_duty-requires-clause-others : goal.note_duty-requires-clause-others
 note_duty-requires-clause-others c =
     let s = c.self.inside in
-    let core = c.len-few.ensures.core in
+    let core = c.facts.ensures.core in
     let hand = subst (λ (p : Processor). IsAtHand p c.args.place) (sym c.self.view_is) c.requires.hand in
     let goes : Thread → Thread = passes (receive_phase c.args.ipc.now.from (period_of c.args.ipc.now.receive_period)) s.known.local.clock in
     others_after s.duties s.zeros s.known c.pass.new.self c.args.place goes c.self.invariant (hand_within s.known c.args.place core hand)
@@ -27,7 +27,7 @@ note_duty-requires-clause-others c =
 pub note_duty-requires-clause-zeros : goal.note_duty-requires-clause-zeros
 note_duty-requires-clause-zeros c =
     let s = c.self.inside in
-    let core = c.len-few.ensures.core in
+    let core = c.facts.ensures.core in
     let hand = subst (λ (p : Processor). IsAtHand p c.args.place) (sym c.self.view_is) c.requires.hand in
     let goes : Thread → Thread = passes (receive_phase c.args.ipc.now.from (period_of c.args.ipc.now.receive_period)) s.known.local.clock in
     zeros_after s.duties s.zeros s.known c.pass.new.self c.args.place goes c.self.invariant (hand_within s.known c.args.place core hand) (hand_free s.known c.args.place core hand) c.pass.ensures
@@ -35,7 +35,7 @@ note_duty-requires-clause-zeros c =
 pub invariant_of-self : goal.invariant_of-self
 invariant_of-self c =
     let s = c.self.inside in
-    let core = c.len-few.ensures.core in
+    let core = c.facts.ensures.core in
     let hand = subst (λ (p : Processor). IsAtHand p c.args.place) (sym c.self.view_is) c.requires.hand in
     let goes : Thread → Thread = passes (receive_phase c.args.ipc.now.from (period_of c.args.ipc.now.receive_period)) s.known.local.clock in
     record {

@@ -10,4 +10,4 @@ invariant_of-self c =
     let s = c.self.inside in
     let sender = subst (λ (p : Processor). IsForeign p c.args.place) (sym c.self.view_is) c.requires.sender in
     let free = subst (λ (p : Processor). is_none (thread p.local c.args.place).send ≡ true) (sym c.self.view_is) c.requires.free in
-    covered-stands_in s.duties s.zeros s.known c.stand_in.new.self c.args.place _ _ _ _ c.self.invariant c.len-few.ensures.core sender.within sender.foreign free c.stand_in.ensures
+    covered-stands_in s.duties s.zeros s.known c.stand_in.new.self c.args.place _ _ _ _ c.self.invariant c.facts.ensures.core sender.within sender.foreign free c.stand_in.ensures

@@ -5,4 +5,4 @@ use Rattle.l4_core.proofs.processor.Core.take_in.Goals as goal
 
 pub arrive-requires-clause-sender : goal.arrive-requires-clause-sender
 arrive-requires-clause-sender g c =
-    taken_in c.args.self.now c.stand_in.new.self c.args.receiver c.args.sender _ c.args.to c.args.message c.args.zero_timeout (subst AreCore c.self.view_is c.len-few.ensures.core) c.requires.possible c.stand_in.ensures
+    taken_in c.args.self.now c.stand_in.new.self c.args.receiver c.args.sender _ c.args.to c.args.message c.args.zero_timeout (subst AreCore c.self.view_is c.facts.ensures.core) c.requires.possible c.stand_in.ensures

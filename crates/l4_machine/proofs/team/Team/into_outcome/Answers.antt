@@ -35,7 +35,7 @@ outcome_of-requires c =
     let whole = whole_pasts m ps all.of_one (in_order_have_numbers m ps all) c.requires.whole in
     let run = make_whole m (pasts_of m ps) whole in
     let told_is = gathered_history m ps run.0 (steps_of c.in_ok-history.history) run.1 (whole_sorts_as_merged m (pasts_of m ps) whole) c.in_ok-history.ensures.history in
-    let lawful = c.law_core_run.ensures.lawful m run.0 c.cpus.ensures.lawful run.1.core_run in
+    let lawful = c.law_core_run.ensures.lawful m run.0 c.facts.ensures.lawful run.1.core_run in
     subst (IsHistory m) (sym told_is) lawful.history
 
 pub returns : goal.returns
@@ -47,7 +47,7 @@ returns c =
     let whole = whole_pasts m ps all.of_one numbers c.requires.whole in
     let run = make_whole m (pasts_of m ps) whole in
     let told_is = gathered_history m ps run.0 (steps_of c.in_ok-history.history) run.1 (whole_sorts_as_merged m (pasts_of m ps) whole) c.in_ok-history.ensures.history in
-    let lawful = c.law_core_run.ensures.lawful m run.0 c.cpus.ensures.lawful run.1.core_run in
+    let lawful = c.law_core_run.ensures.lawful m run.0 c.facts.ensures.lawful run.1.core_run in
     let locals : List Local = map (λ (past : LocalTrace). past.local) (pasts_of m ps) in
     let at_home = subst (λ qs. IsAtHome m (map (λ (past : LocalTrace). past.local) (pasts_of m qs)) c.in_ok-at_home.at_home) c.as_slice-2.ensures.value c.in_ok-at_home.ensures in
     let ends : EndsIn run.0 locals c.args.self.all_handled = record {

@@ -9,7 +9,7 @@ use Rattle.l4_machine.proofs.team.Team.new.Goals as goal
 pub come_to_rest-requires-clause-all : goal.come_to_rest-requires-clause-all
 come_to_rest-requires-clause-all c =
     let m = c.args.machine.now in
-    in_order_all m c.in_ok-processors.processors.items (let some = c.cpus.ensures.some in let value = c.cpus.ensures.value in omega arith) (assembled_in_order m c.in_ok-processors.processors.items c.in_ok-processors.ensures)
+    in_order_all m c.in_ok-processors.processors.items (let some = c.facts.ensures.some in omega arith) (assembled_in_order m c.in_ok-processors.processors.items c.in_ok-processors.ensures)
 
 pub returns-clause-team : goal.returns-clause-team
 returns-clause-team c =

@@ -17,7 +17,7 @@ unfolding none
 returns c =
     let log = c.args.self.now in
     let ends = log.ends.items in
-    let steps = log.told.before ++ log.told.steps in
+    let steps = log.buffer.before ++ log.buffer.steps in
     let before : c.args.i < length ends = rw (as_many log.cpu 0 ends steps) at c.requires in
     let what : End → Action = λ end. action_in log.cpu end.choice in
     slice_get-map what ends c.args.i ∙ ap (option_map what) (slice_get-get_or ends c.args.i none before)

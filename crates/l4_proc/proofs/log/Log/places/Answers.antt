@@ -15,7 +15,7 @@ unfolding none
 returns-clause-steps c =
     let log = c.args.self.now in
     let ends = log.ends.items in
-    let steps = log.told.before ++ log.told.steps in
+    let steps = log.buffer.before ++ log.buffer.steps in
     let before : c.args.i < length ends = rw (as_many log.cpu 0 ends steps) at c.requires.within in
     let at = event_at log.cpu 0 ends steps c.args.i _ (slice_get-get_or ends c.args.i none before) in
     let all : told (events log) ≡ steps = told_between log.cpu 0 ends steps c.requires.closed in
@@ -26,7 +26,7 @@ unfolding none
 returns-clause-within c =
     let log = c.args.self.now in
     let ends = log.ends.items in
-    let steps = log.told.before ++ log.told.steps in
+    let steps = log.buffer.before ++ log.buffer.steps in
     let before : c.args.i < length ends = rw (as_many log.cpu 0 ends steps) at c.requires.within in
     let place = each_within ends 0 (length steps) c.args.i _ c.requires.closed (slice_get-get_or ends c.args.i none before) in
     let all : told (events log) ≡ steps = told_between log.cpu 0 ends steps c.requires.closed in

@@ -13,7 +13,7 @@ unfolding none
 returns c =
     let log = c.args.self.now in
     let ends = log.ends.items in
-    let steps = log.told.before ++ log.told.steps in
+    let steps = log.buffer.before ++ log.buffer.steps in
     let before : c.args.i < length ends = rw (as_many log.cpu 0 ends steps) at c.requires in
     let at = event_at log.cpu 0 ends steps c.args.i _ (slice_get-get_or ends c.args.i none before) in
     rw (c.as_slice-ends.ensures.value, at) refl

@@ -13,13 +13,13 @@ invariant-letters l = record {
   hand : l.self.worker.hand ≡ l.initial.self.worker.hand;
   log : HasLetters l.initial.self.worker.log l.self.worker.log;
   place : place l.self.port ≡ place l.initial.self.port;
-  posted : (to : ℕ) → map letter_of (posted_to l.self.port to) ++ letters_with to l.self.worker.log.told.letters ≡
-      map letter_of (posted_to l.initial.self.port to) ++ letters_with to l.initial.self.worker.log.told.letters;
+  posted : (to : ℕ) → map letter_of (posted_to l.self.port to) ++ letters_with to l.self.worker.log.buffer.letters ≡
+      map letter_of (posted_to l.initial.self.port to) ++ letters_with to l.initial.self.worker.log.buffer.letters;
   taken : (from : ℕ) → taken_from l.self.port from ≡ taken_from l.initial.self.port from;
   kept : (from : ℕ) → kept_from l.self.port from ≡ kept_from l.initial.self.port from;
-  ways : AllByRecursion (λ p. HasWayTo l.self.port p.0) l.self.worker.log.told.letters;
-  room : (to : ℕ) → HasWayTo l.self.port to → length l.self.worker.log.told.letters ≤ room_to l.self.port to;
+  ways : AllByRecursion (λ p. HasWayTo l.self.port p.0) l.self.worker.log.buffer.letters;
+  room : (to : ℕ) → HasWayTo l.self.port to → length l.self.worker.log.buffer.letters ≤ room_to l.self.port to;
 }
 
 abbrev pub decreases-letters : goal.decreases-letters
-decreases-letters l = length l.self.worker.log.told.letters
+decreases-letters l = length l.self.worker.log.buffer.letters

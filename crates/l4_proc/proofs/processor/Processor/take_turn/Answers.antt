@@ -28,19 +28,19 @@ invariant_of-self c = record {
 pub send_all-requires-clause-ways : goal.send_all-requires-clause-ways
 send_all-requires-clause-ways c =
     let t = c.in_ok-take_turn.ensures.ok in
-    rw t.ended.told (letters_have_ways c.get_ready.new.self t.told t.stamp c.get_ready.new.self.whole
+    rw t.ended.buffer (letters_have_ways c.get_ready.new.self t.middle t.stamp c.get_ready.new.self.whole
     c.in_ok-take_turn.ensures.machine c.in_ok-take_turn.ensures.cpu t.done)
 
 pub send_all-requires-clause-room : goal.send_all-requires-clause-room
 send_all-requires-clause-room c =
     let t = c.in_ok-take_turn.ensures.ok in
-    rw t.ended.told (letters_have_room c.args.self.now c.get_ready.new.self t.told t.stamp
+    rw t.ended.buffer (letters_have_room c.args.self.now c.get_ready.new.self t.middle t.stamp
     c.in_ok-get_ready.ensures.ok c.in_ok-take_turn.ensures.machine c.in_ok-take_turn.ensures.cpu t.done)
 
 pub returns-clause-ok : goal.returns-clause-ok
 returns-clause-ok c =
     let t = c.in_ok-take_turn.ensures.ok in
-    turn_taken c.args.self.now c.get_ready.new.self c.send_all.new.self _ t.told c.take_turn.new.self.log t.stamp t.choice
+    turn_taken c.args.self.now c.get_ready.new.self c.send_all.new.self _ t.middle c.take_turn.new.self.log t.stamp t.choice
     c.args.self.now.whole c.get_ready.new.self.whole c.args.self.now.worker.log.few
     c.in_ok-get_ready.ensures.ok t.done t.happened t.ended c.send_all.ensures.port
     (c.send_all.ensures.core ∙ ap (λ (w : Worker). w.core) t.is) (c.send_all.ensures.hand ∙ ap (λ (w : Worker). w.hand) t.is)

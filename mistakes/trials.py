@@ -1,0 +1,167 @@
+"""Plants mistakes in a copy of their crate, and asks the prover for the functions one of which must be refused.
+
+One run of the prover takes the mistakes of different functions together: a function is judged by its own contract and by those of the functions that it
+calls. It proves the functions that are asked for and what of their crate they call, over the crates below as they were built.
+"""
+
+import concurrent.futures
+import contextlib
+import functools
+import hashlib
+import os
+import pathlib
+import re
+import shutil
+import subprocess
+import sys
+import tempfile
+
+from edits import TOP, is_of, paths_of
+
+sys.path.insert(0, str(pathlib.Path(shutil.which("rt")).resolve().parent))
+import rtlib  # noqa: E402
+
+# A crate asks those below for their sums, each as often as there are ways to it.
+rtlib.Crate.stamp = functools.cache(rtlib.Crate.stamp)
+
+VERDICT = re.compile(r"fn \w+::(\S+): (.*)")
+ERROR = re.compile(r"(?:so far: )?\./proofs/(\S+)/Answers\.antt:\d+:\d+: error: (.*)")
+UNREAD = re.compile(r"src/\S+: error\[.*|rattle: error.*")
+PARTS = "src", "specs", "proofs"
+TEXT = {"stdout": subprocess.PIPE, "stderr": subprocess.STDOUT, "text": True}
+# What one prover takes at most, in bytes.
+MEMORY = 4_000_000_000
+# What was refused on this machine before, by a sum of all that it stands on.
+KEPT = pathlib.Path(os.environ.get("XDG_CACHE_HOME") or os.path.expanduser("~/.cache")) / "l4-mistakes"
+
+
+class Batch:
+    """Mistakes of one crate that are planted together."""
+
+    def __init__(self, first):
+        self.edits, self.judges, self.texts = [first], first.judges(), first.planted({})
+
+    def takes(self, edit):
+        """Takes one more, where other functions judge it and its texts stand once where they have been planted."""
+        changed = edit.planted(self.texts)
+        if changed is None or self.judges & edit.judges():
+            return False
+        self.edits.append(edit)
+        self.judges |= edit.judges()
+        self.texts |= changed
+        return True
+
+    def asked(self):
+        """The functions to ask for, as the prover names them. None, for all, where an edit has no function that it could be asked for."""
+        paths = paths_of(self.edits[0].home)
+        of_each = [{path for judge in edit.judges() for at, path in paths if is_of(at, judge)} for edit in self.edits]
+        return sorted(set().union(*of_each)) if all(of_each) else None
+
+
+def batches_of(edits, is_alone):
+    together, alone = [], []
+    for edit in edits:
+        if is_alone or None in edit.functions():
+            alone.append(Batch(edit))
+        elif not any(batch.takes(edit) for batch in together):
+            together.append(Batch(edit))
+    return together + alone
+
+
+def told(form, said):
+    """The path and the text of each line of this form."""
+    return [found.groups() for line in said if (found := form.match(line))]
+
+
+def why_refused(said, function):
+    """Why a function is refused. None where it is not, or not for what it says."""
+    verdicts = [text for path, text in told(VERDICT, said) if is_of(path, function)]
+    if all(text == "proved" for text in verdicts):
+        return None
+    errors = [text for path, text in told(ERROR, said) if is_of(path.replace("/", "::"), function)]
+    real = [text for text in errors if " has no " not in text]
+    return next((text for text in verdicts if "`search` did not prove" in text), real[0] if real else None)
+
+
+def is_refused(edit, said):
+    return any(why_refused(said, function) for function in edit.judges())
+
+
+def is_unproved(edit, said):
+    return any(text.startswith("not proved") for path, text in told(VERDICT, said) if any(is_of(path, function) for function in edit.judges()))
+
+
+def prove(batch, room):
+    """What the prover says of the functions that judge these mistakes."""
+    home = batch.edits[0].home
+    for part in filter(lambda part: (home / part).is_dir(), PARTS):
+        shutil.copytree(home / part, room / part)
+    for file, text in batch.texts.items():
+        (room / file).write_text(text)
+    asked = [word for path in batch.asked() or [] for word in ("--only", path)]
+    crate = rtlib.Crate(str(home), str(TOP), {})
+    words = [rtlib.RATTLE, "check", *crate.words(["--jobs", "1", *asked])]
+    return subprocess.run(words, cwd=room, stdin=subprocess.DEVNULL, **TEXT).stdout.splitlines()
+
+
+@functools.cache
+def sum_of(home):
+    """A sum of a crate, of all below it, and of the toolchain."""
+    return rtlib.Crate(str(home), str(TOP), {}).stamp()
+
+
+def kept(edit):
+    """The file that says that this mistake was refused with all that it stands on as it is."""
+    return KEPT / hashlib.sha256((sum_of(edit.home) + edit.path.read_text()).encode()).hexdigest()
+
+
+def keep(edits):
+    """Notes that these were refused. Where nothing can be written they are tried again."""
+    with contextlib.suppress(OSError):
+        KEPT.mkdir(parents=True, exist_ok=True)
+        for edit in edits:
+            kept(edit).touch()
+
+
+def try_batch(batch, takes_names):
+    """Those that were not refused. One that does not compile keeps all of its batch from being judged, so each is tried by itself then.
+    `takes_names` says whether one counts as refused where that is so only since a name of a proof is gone."""
+    with tempfile.TemporaryDirectory(prefix="mistake-") as room:
+        said = prove(batch, pathlib.Path(room))
+    left = [edit for edit in batch.edits if not is_refused(edit, said)]
+    for edit in [edit for edit in left if takes_names and is_unproved(edit, said)]:
+        print(f"  {edit.name}: refused, but only since a proof names what it takes away: change a value and keep the names", flush=True)
+        left.remove(edit)
+    keep(edit for edit in batch.edits if edit not in left)
+    if left and len(batch.edits) > 1:
+        return [edit for one in left for edit in try_batch(Batch(one), takes_names)]
+    if left:
+        # Where no function was looked at, the last line says why.
+        for line in list(filter(UNREAD.match, said)) or ([] if told(VERDICT, said) else said[-1:]):
+            print(f"  {left[0].name}: {line}", flush=True)
+    return left
+
+
+def provers():
+    """How many run at once: as many as `rt ci` is told to take, or what processors and memory allow."""
+    memory = os.sysconf("SC_PAGE_SIZE") * os.sysconf("SC_PHYS_PAGES")
+    return int(os.environ.get("RT_JOBS") or max(1, min(len(os.sched_getaffinity(0)), memory // MEMORY)))
+
+
+def build_below(home):
+    """Builds the crates below this one, where they have changed."""
+    done = subprocess.run(["rt", "check", "--only", ""], cwd=home, **TEXT)
+    if done.returncode:
+        sys.exit(f"what {home.name} stands on was not built:\n{done.stdout}")
+
+
+def try_edits(edits, is_alone, is_anew, is_built, takes_names):
+    """Tries mistakes of any crates. Answers those that are not refused."""
+    todo = [edit for edit in edits if is_anew or not kept(edit).exists()]
+    crates = sorted({edit.home for edit in todo}, key=lambda home: home.name)
+    for home in [] if is_built else crates:
+        build_below(home)
+    batches = [batch for home in crates for batch in batches_of([edit for edit in todo if edit.home == home], is_alone)]
+    batches.sort(key=lambda batch: -len(batch.edits))
+    with concurrent.futures.ThreadPoolExecutor(provers()) as pool:
+        return [edit for left in pool.map(lambda batch: try_batch(batch, takes_names), batches) for edit in left]

@@ -9,11 +9,11 @@ import sys
 OTHERS = {"calloc", "reallocarray", "aligned_alloc", "memalign", "posix_memalign", "valloc", "mmap", "mmap64", "sbrk", "brk"}
 # The calls at which memory is to be refused, as the tests name them.
 CALLS = {
-    "Core::new", "Walk", "assemble", "check", "endings", "fabric", "gather", "parse", "perform_recorded", "possible", "read_events", "replay", "reserve",
+    "Core::new", "Walk", "assemble", "check", "endings", "fabric", "gather", "parse", "possible", "read_events", "replay", "reserve",
     "rest", "rest (ports)", "run", "tick", "work", "write_event",
 }
 # The modules whose tests say where calls begin and end.
-MODULES = ("refused", "gathers", "recorded")
+MODULES = ("refused", "gathers")
 # Seconds that a test may take.
 LIMIT = 60
 

@@ -3,6 +3,7 @@
 use crate::audits::audit;
 use crate::case::Case;
 use crate::outcome::Outcome;
+use crate::said::Said;
 use l4_explore::progress::Unheard;
 use l4_jobs::expecting_files::perform_expected_on_files;
 use l4_jobs::files::perform_on_files;
@@ -80,20 +81,20 @@ fn do_job<R: Files + AllocGlobal + Threads + Sync>(
     perform(rt, rt.alloc(), job, &mut text, &mut trace, output, faults)
 }
 
-/// Does the command of a line, with this trace as its standard input. A trace that it prints is
-/// audited.
+/// Does the command of a line, with the input and the kind of output that its case says. A trace
+/// that it prints is audited.
 pub fn do_command<R: Files + AllocGlobal + Threads + Sync>(
     rt: &R,
     case: &Case<'_>,
     line: &str,
-    trace: &[u8],
+    said: &Said,
 ) -> io::Result<Outcome> {
     let words = words_of(rt.alloc(), line)?;
     let mut done = Outcome::new(rt.alloc());
     match job_of(rt.alloc(), words.as_slice()) {
         Ok(job) => {
-            let job = job.on_output(false, 0);
-            done.status = do_job(rt, case, &job, trace, &mut done);
+            let job = job.on_output(said.on_terminal, 0);
+            done.status = do_job(rt, case, &job, said.trace.as_slice(), &mut done);
             audit(rt, case, &job, &mut done)?;
         }
         Err(fault) => {

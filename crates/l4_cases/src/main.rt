@@ -44,8 +44,8 @@ fn is_other<R: Files + AllocGlobal + Threads + Sync + Print>(
 ) -> io::Result<bool> {
     let (line, lines) = block.split_once('\n').unwrap_or((block, ""));
     let said = said_of(rt, lines, case.mark)?;
+    let mut done = do_command(rt, case, line, &said)?;
     let wanted = said.outcome;
-    let mut done = do_command(rt, case, line, said.trace.as_slice())?;
     done.output = as_counted(rt.alloc(), wanted.output.as_slice(), done.output)?;
     done.faults = as_counted(rt.alloc(), wanted.faults.as_slice(), done.faults)?;
     if done == wanted {

@@ -10,6 +10,8 @@ use std::{fs, io};
 pub struct Said {
     /// The trace that it reads as its standard input.
     pub trace: Vec<u8>,
+    /// Whether its output is a terminal.
+    pub on_terminal: bool,
     /// Its outcome.
     pub outcome: Outcome,
 }
@@ -21,6 +23,8 @@ enum Line<'a> {
     Nothing,
     // The output is this file.
     File(&'a str),
+    // The output is a terminal.
+    Terminal,
     // A line of the trace.
     Trace(&'a str),
     // A line of the stream of faults.
@@ -47,6 +51,9 @@ fn status_of(line: &str) -> Option<u8> {
 fn line_of(line: &str) -> Line<'_> {
     if line.is_empty() || behind(line, "#").is_some() {
         return Line::Nothing;
+    }
+    if line == "> a terminal" {
+        return Line::Terminal;
     }
     if let Some(name) = behind(line, "@") {
         return Line::File(name);
@@ -79,6 +86,7 @@ impl Said {
     fn new(alloc: Global) -> Said {
         Said {
             trace: Vec::new(alloc),
+            on_terminal: false,
             outcome: Outcome::new(alloc),
         }
     }
@@ -87,6 +95,10 @@ impl Said {
     fn take<R: Files + AllocGlobal>(&mut self, rt: &R, line: &str) -> io::Result<()> {
         match line_of(line) {
             Line::Nothing => Ok(()),
+            Line::Terminal => {
+                self.on_terminal = true;
+                Ok(())
+            }
             Line::File(name) => push_file(rt, &mut self.outcome.output, name),
             Line::Trace(text) => push_line(&mut self.trace, text),
             Line::Fault(text) => push_line(&mut self.outcome.faults, text),

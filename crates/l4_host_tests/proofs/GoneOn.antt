@@ -6,12 +6,11 @@ use Rattle.std.proofs.lemmas.List.{with_items_is}
 use Rattle.std.proofs.lemmas.Option.{slice_get_within}
 use Rattle.l4_model.specs.Machine.{Machine}
 use Rattle.l4_mail.specs.Ports.{place, AreLinked}
-use Rattle.l4_proc.specs.Assembled.{AreAssembled}
 use Rattle.l4_proc.specs.Working.{HasGoneOn}
 use Rattle.l4_proc.specs.declared.processor.Processor.{Processor}
 use Rattle.l4_proc.proofs.Rested.{port_of}
 use Rattle.l4_machine.specs.Gathers.{AreOfOne}
-use Rattle.l4_machine.proofs.InOneHand.{assembled, gone_on}
+use Rattle.l4_machine.proofs.InOneHand.{gone_on}
 use Rattle.l4_machine.proofs.Members.{some_there}
 
 abbrev HaveGoneOn : (olds news : List Processor) → Type 0
@@ -33,9 +32,9 @@ of_one_gone_on m olds news count each all = record {
   one = subst AreLinked (sym (places olds news count each)) all.one;
 }
 
--- So are those of one assembly, behind their work in a slice.
-pub of_one_behind : {room : ℕ} (m : Machine) (v : Vec Processor Global) (slice news : List Processor) → slice ≡ v.items → length slice ≡ v.len → length news ≡ length slice →
-    HaveGoneOn slice news → AreAssembled room m v.items → AreOfOne m (with_items v news).items
+-- So are those that have worked in a slice.
+pub of_one_behind : (m : Machine) (v : Vec Processor Global) (slice news : List Processor) → slice ≡ v.items → length slice ≡ v.len → length news ≡ length slice →
+    HaveGoneOn slice news → AreOfOne m v.items → AreOfOne m (with_items v news).items
 of_one_behind m v slice news value len count each all =
     subst (AreOfOne m) (sym (with_items_is v news (count ∙ len)))
-    (of_one_gone_on m slice news count each (subst (AreOfOne m) (sym value) (assembled m v.items all)))
+    (of_one_gone_on m slice news count each (subst (AreOfOne m) (sym value) all))

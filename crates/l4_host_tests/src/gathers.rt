@@ -1,13 +1,12 @@
 // Processors that a caller puts to work itself, and their outcome.
-ghost use Rattle.std.specs.Prelude.{◌<◌, ◌≤◌, IfSome};
+ghost use Rattle.std.specs.Prelude.{◌<◌, ◌≤◌, IfErr, IfSome};
 ghost use Rattle.l4_machine.specs.Gathers.{AreOfOne};
 ghost use Rattle.l4_proc.specs.Working.{HasGoneOn};
 ghost use Rattle.l4_mail.specs.Fabrics.{most_room};
 
+use crate::processors::{processors_of, work};
 use crate::runs::machine_of;
 use l4_machine::{Outcome, RunFault, gather};
-use l4_proc::assembly::assemble;
-use l4_proc::gate::Open;
 use l4_proc::processor::Processor;
 use l4_proc::stops::Stop;
 use l4_reports::report_lines::write_report;
@@ -47,12 +46,12 @@ fn takes<R: Print>(rt: &R, processor: &mut Processor<'_>, turns: u64) -> bool
 {
     let last = processor.turns().saturating_add(turns);
     call_begins(rt, "work");
-    let stop = processor.work(turns, &Open);
+    let stop = work(processor, turns);
     call_ends(rt);
     // Nothing of a turn that was not taken is in the log.
     let whole = processor.log().len() as u64 == processor.turns();
     let stop = if stop == Stop::NoMemory {
-        processor.work(last.saturating_sub(processor.turns()), &Open)
+        work(processor, last.saturating_sub(processor.turns()))
     } else {
         stop
     };
@@ -70,9 +69,7 @@ pub(crate) fn worked<'m, R: AllocGlobal + Print>(
     requires { (0 < room) × (room ≤ most_room) }
     ensures { IfSome result (λ processors. AreOfOne machine.now processors.items) }
 {
-    let Ok(mut processors) = assemble(rt.alloc(), machine, room) else {
-        return None;
-    };
+    let mut processors = processors_of(rt.alloc(), machine, room)?;
     for (cpu, turns) in shares {
         if *cpu >= processors.len() {
             return None;
@@ -84,6 +81,18 @@ pub(crate) fn worked<'m, R: AllocGlobal + Print>(
     Some(processors)
 }
 
+/// The outcome of processors, or a fault and the processors.
+pub(crate) fn gather_once<'m>(
+    alloc: Global,
+    machine: &Machine,
+    processors: Vec<Processor<'m>>,
+) -> Result<Outcome, (RunFault, Vec<Processor<'m>>)>
+    requires { AreOfOne machine.now processors.items }
+    ensures { IfErr result (λ e. AreOfOne machine.now e.1.items) }
+{
+    gather(alloc, machine, processors)
+}
+
 /// The outcome of processors, by a second call if memory was refused.
 pub(crate) fn gathered_again<R: AllocGlobal + Print>(
     rt: &R,
@@ -93,11 +102,11 @@ pub(crate) fn gathered_again<R: AllocGlobal + Print>(
     requires { AreOfOne machine.now processors.items }
 {
     call_begins(rt, "gather");
-    let gathered = gather(rt.alloc(), machine, processors);
+    let gathered = gather_once(rt.alloc(), machine, processors);
     call_ends(rt);
     match gathered {
         Ok(outcome) => Some(outcome),
-        Err((RunFault::NoMemory, back)) => gather(rt.alloc(), machine, back).ok(),
+        Err((RunFault::NoMemory, back)) => gather_once(rt.alloc(), machine, back).ok(),
         Err(_) => None,
     }
 }
@@ -111,7 +120,7 @@ fn gathered_without_last<'m>(
     requires { AreOfOne machine.now processors.items }
 {
     let _last = processors.pop();
-    gather(alloc, machine, processors).err()
+    gather_once(alloc, machine, processors).err()
 }
 
 // Whether an outcome has this trace.
@@ -200,6 +209,6 @@ fn come_back<R: AllocGlobal + Print>(rt: &R, machine: &Machine) -> Option<bool> 
 #[test]
 fn one_of_them_is_missing(rt: HostRuntime) {
     let machine = machine_of(rt.alloc(), TOGETHER).expect(&rt, "a machine");
-    assert!(rt; gather(rt.alloc(), &machine, Vec::new(rt.alloc())).is_err());
+    assert!(rt; gather_once(rt.alloc(), &machine, Vec::new(rt.alloc())).is_err());
     assert!(rt; come_back(&rt, &machine) == Some(true));
 }

@@ -1,11 +1,10 @@
-//! Tests of whole machines, of processors at work, and of the program if a stream fails or memory
-//! is refused.
+//! Tests of whole machines and of processors at work, also where memory is refused.
 //!
 //! Processors work one after the other in the hand of a caller, or each on a host thread of its
 //! own. Gates hold some of them back. The host decides which history a run takes, so a test looks
 //! for what each must have. The history passes its audit, and the audit finds what the outcome
-//! reports. `streams` has reads and writes that fail, `refused` calls in which bench/refusals.sh
-//! refuses memory, `charts` what a terminal shows.
+//! reports. `refused` has calls in which bench/refusals.sh refuses memory. What the program does where
+//! a stream fails is tried by `.ci/command-lines`.
 //!
 //! No clause says that several host threads are at work, that they do not wait, or that memory
 //! suffices: these tests show it. crates.txt gives them threads, and no leave to wait for one.
@@ -16,8 +15,6 @@
 #![tactic(auto)]
 
 #[cfg(test)]
-mod charts;
-#[cfg(test)]
 mod gates;
 #[cfg(test)]
 mod gathers;
@@ -25,8 +22,6 @@ mod gathers;
 mod nowait;
 #[cfg(test)]
 mod processors;
-#[cfg(test)]
-mod recorded;
 #[cfg(test)]
 mod refused;
 #[cfg(test)]
@@ -39,5 +34,3 @@ mod runs;
 mod searches;
 #[cfg(test)]
 mod server;
-#[cfg(test)]
-mod streams;

@@ -5,13 +5,11 @@ ghost use Rattle.std.specs.Prelude.{ℕ, ◌≡◌, length, slice_get, Some};
 ghost use Rattle.l4_proc.specs.Working.{HasGoneOn};
 ghost use Rattle.l4_proc.specs.declared.processor.Processor.{Processor as ProcessorOfMachine};
 
+use crate::gathers::gather_once;
+use crate::processors::{processors_of, work};
 use crate::runs::{machine_of, passes};
-use l4_machine::gather;
-use l4_proc::assembly::assemble;
-use l4_proc::gate::Open;
 use l4_proc::processor::Processor;
 use l4_samples::CALLS;
-use std::test::Fail;
 use std::thread;
 use std::thread::Threads;
 
@@ -20,7 +18,7 @@ fn work_on(processor: &mut Processor<'_>)
     ensures { HasGoneOn processor.old processor.new }
 {
     for _ in 0..100u32 {
-        processor.work(64, &Open);
+        work(processor, 64);
         thread::yield_now();
     }
 }
@@ -56,14 +54,15 @@ fn turns_of_both(processors: &[Processor<'_>]) -> Option<u64> {
 // Each processor comes back, whatever the other one does, and their steps are a history of the
 // machine.
 #[test]
-fn without_wait(rt: HostRuntime) -> Result<(), Fail> {
+fn without_wait(rt: HostRuntime) {
     let machine = machine_of(rt.alloc(), CALLS).expect(&rt, "a machine");
-    let mut processors = assemble(rt.alloc(), &machine, 64)?;
+    let Some(mut processors) = processors_of(rt.alloc(), &machine, 64) else {
+        panic!(rt; "no processors");
+    };
     all_work_on(&rt, processors.as_mut_slice());
     let turns = turns_of_both(processors.as_slice());
-    let outcome = gather(rt.alloc(), &machine, processors).ok();
+    let outcome = gather_once(rt.alloc(), &machine, processors).ok();
     let outcome = outcome.expect(&rt, "an outcome");
     assert!(rt; Some(outcome.turns) == turns);
     assert!(rt; passes(rt.alloc(), &machine, &outcome));
-    Ok(())
 }

@@ -1,14 +1,16 @@
-ghost use Rattle.std.specs.Prelude.{◌<◌, ◌≤◌, map};
+ghost use Rattle.std.specs.Prelude.{◌<◌, ◌≤◌, IfSome, map};
+ghost use Rattle.l4_machine.specs.Gathers.{AreOfOne};
 ghost use Rattle.l4_mail.specs.Fabrics.{most_room};
 ghost use Rattle.l4_mail.specs.Ports.{AreOneFabric};
 ghost use Rattle.l4_proc.specs.Logs.{IsClosed};
+ghost use Rattle.l4_proc.specs.Working.{HasGoneOn};
 
 use crate::runs::{Meeting, machine_of};
 use l4_proc::assembly::assemble;
 use l4_proc::gate::Open;
 use l4_proc::log::Log;
 use l4_proc::processor::Processor;
-use l4_proc::stops::Stop;
+use l4_proc::stops::{ProcFault, Stop};
 use l4_proc::together::work_together;
 use l4_samples::{ACROSS, endless};
 use l4_script::machine::Machine;
@@ -37,20 +39,29 @@ pub(crate) fn has_stamps(log: &Log, stamps: &[u64]) -> bool
     true
 }
 
-// Whether a processor takes this many turns.
-fn uses_up(processor: &mut Processor<'_>, turns: u64) -> bool {
-    processor.work(turns, &Open) == Stop::Used
+/// Lets a processor take at most this many turns.
+pub(crate) fn work(processor: &mut Processor<'_>, turns: u64) -> Stop
+    ensures { HasGoneOn processor.old processor.new }
+{
+    processor.work(turns, &Open)
 }
 
-// Whether a processor finds nothing to do before it has taken this many turns.
-fn is_idle(processor: &mut Processor<'_>, turns: u64) -> bool {
-    processor.work(turns, &Open) == Stop::Idle
+/// Advances the clock of a processor.
+pub(crate) fn tick(processor: &mut Processor<'_>, to: u64) -> Result<(), ProcFault> {
+    processor.tick(to)
+}
+
+// Whether a processor that may take this many turns stops so.
+fn stops(processor: &mut Processor<'_>, turns: u64, stop: Stop) -> bool {
+    work(processor, turns) == stop
 }
 
 // Whether a processor has taken this many turns, with events of these stamps, and has nothing left
 // to do.
 fn is_done(processor: &mut Processor<'_>, turns: u64, stamps: &[u64]) -> bool {
-    has_stamps(processor.log(), stamps) && processor.turns() == turns && is_idle(processor, 1)
+    has_stamps(processor.log(), stamps)
+        && processor.turns() == turns
+        && stops(processor, 1, Stop::Idle)
 }
 
 /// The processors of a machine, whose rings have this room.
@@ -60,8 +71,12 @@ pub(crate) fn processors_of<'m>(
     room: usize,
 ) -> Option<Vec<Processor<'m>>>
     requires { (0 < room) × (room ≤ most_room) }
+    ensures { IfSome result (λ processors. AreOfOne machine.now processors.items) }
 {
-    assemble(alloc, machine, room).ok()
+    let Ok(processors) = assemble(alloc, machine, room) else {
+        return None;
+    };
+    Some(processors)
 }
 
 fn has_crossed(alloc: Global) -> Option<bool> {
@@ -70,11 +85,11 @@ fn has_crossed(alloc: Global) -> Option<bool> {
     let mut other = processors.pop()?;
     let mut home = processors.pop()?;
     let have_worked = processors.is_empty()
-        && uses_up(&mut other, 1)
-        && uses_up(&mut home, 3)
-        && uses_up(&mut other, 1)
-        && uses_up(&mut home, 2)
-        && uses_up(&mut other, 1);
+        && stops(&mut other, 1, Stop::Used)
+        && stops(&mut home, 3, Stop::Used)
+        && stops(&mut other, 1, Stop::Used)
+        && stops(&mut home, 2, Stop::Used)
+        && stops(&mut other, 1, Stop::Used);
     let are_done = is_done(&mut home, 5, &[1, 2, 3, 5, 6]) && is_done(&mut other, 3, &[1, 4, 5]);
     Some(have_worked && are_done)
 }
@@ -90,8 +105,8 @@ fn a_message_crosses(rt: HostRuntime) {
 // Whether the clock of a processor advances to five, which is no turn.
 fn ticks_to_five(processor: &mut Processor<'_>) -> bool {
     processor.core().least_deadline() == Some(5)
-        && processor.tick(0).is_err()
-        && processor.tick(5).is_ok()
+        && tick(processor, 0).is_err()
+        && tick(processor, 5).is_ok()
         && processor.turns() == 1
 }
 
@@ -100,9 +115,9 @@ fn times_out(alloc: Global) -> Option<bool> {
     let mut processors = processors_of(alloc, &machine, 1)?;
     let mut processor = processors.pop()?;
     let is_timed_out = processors.is_empty()
-        && is_idle(&mut processor, 2)
+        && stops(&mut processor, 2, Stop::Idle)
         && ticks_to_five(&mut processor)
-        && is_idle(&mut processor, 3);
+        && stops(&mut processor, 3, Stop::Idle);
     Some(is_timed_out && has_stamps(processor.log(), &[1, 2, 3, 4]) && !processor.in_hand())
 }
 
@@ -179,7 +194,7 @@ pub(crate) fn runs_idle(processors: &mut Vec<Processor<'_>>, at: usize) -> bool
     if at >= processors.len() {
         return false;
     }
-    processors[at].work(10, &Open) == Stop::Idle
+    work(&mut processors[at], 10) == Stop::Idle
 }
 
 /// Whether two processors have the logs of letters that came to rest. The send is kept at its

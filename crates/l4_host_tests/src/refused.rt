@@ -8,14 +8,13 @@ ghost use Rattle.l4_machine.specs.UnderWay.{HasRun, IsRun};
 ghost use Rattle.l4_mail.specs.Ports.{AreOneFabric};
 
 use crate::gathers::has;
-use crate::processors::{have_rested, processors_of, runs_idle};
-use crate::runs::{is_right, machine_of};
-use l4_audit::audit::{Audit, AuditFault, check};
+use crate::processors::{have_rested, processors_of, runs_idle, tick, work};
+use crate::runs::{audit_of, is_right, machine_of};
+use l4_audit::audit::{Audit, AuditFault};
 use l4_audit::auditor::Auditor;
 use l4_endings::{FoundEndings, endings};
 use l4_machine::{Entry, Outcome, RunFault, Walk, replay, run};
 use l4_mail::rests::RestFault;
-use l4_proc::assembly::assemble;
 use l4_proc::gate::Open;
 use l4_proc::processor::Processor;
 use l4_proc::resting::rest;
@@ -39,13 +38,13 @@ const SCHEDULE: [u8; 11] = [1, 1, 0, 0, 0, 1, 0, 0, 1, 0, 1];
 fn assembled<'m, R: AllocGlobal + Print>(
     rt: &R,
     machine: &'m Machine,
-) -> Result<Vec<Processor<'m>>, NoMemory> {
+) -> Option<Vec<Processor<'m>>> {
     call_begins(rt, "assemble");
-    let made = assemble(rt.alloc(), machine, 64);
+    let made = processors_of(rt.alloc(), machine, 64);
     call_ends(rt);
     match made {
-        Ok(processors) => Ok(processors),
-        Err(NoMemory) => assemble(rt.alloc(), machine, 64),
+        Some(processors) => Some(processors),
+        None => processors_of(rt.alloc(), machine, 64),
     }
 }
 
@@ -65,31 +64,30 @@ fn are_fresh(processors: &[Processor<'_>]) -> bool {
 #[test]
 fn processors_are_assembled(rt: HostRuntime) {
     let machine = machine_of(rt.alloc(), ACROSS).expect(&rt, "a machine");
-    let processors = assembled(&rt, &machine).ok().expect(&rt, "processors");
+    let processors = assembled(&rt, &machine).expect(&rt, "processors");
     assert!(rt; are_fresh(processors.as_slice()));
+}
+
+// The clock of a processor, and how many events it has had.
+fn clock_and_events(processor: &Processor<'_>) -> (u64, usize) {
+    (processor.core().clock(), processor.log().len())
 }
 
 // Whether the clock of a processor advances, by a second call if memory was refused. A tick that is
 // refused changes nothing.
 fn is_ticked<R: Print>(rt: &R, processor: &mut Processor<'_>, to: u64) -> bool {
-    let clock = processor.core().clock();
-    let events = processor.log().len();
+    let before = clock_and_events(processor);
     call_begins(rt, "tick");
-    let told = processor.tick(to);
+    let told = tick(processor, to);
     call_ends(rt);
-    match told {
-        Ok(()) => processor.core().clock() == to,
-        Err(ProcFault::NoMemory) => {
-            let is_unchanged = processor.core().clock() == clock && processor.log().len() == events;
-            is_unchanged && processor.tick(to).is_ok() && processor.core().clock() == to
-        }
-        Err(_) => false,
-    }
+    let has_stayed = told == Err(ProcFault::NoMemory) && clock_and_events(processor) == before;
+    let is_done = told.is_ok() || (has_stayed && tick(processor, to).is_ok());
+    is_done && processor.core().clock() == to
 }
 
 // Whether the clock has advanced 19 times, and the one thread of the processor then begins to wait.
 fn begins_to_wait(processor: &mut Processor<'_>) -> bool {
-    processor.work(2, &Open) == Stop::Idle && processor.turns() == 1 && processor.log().len() == 20
+    work(processor, 2) == Stop::Idle && processor.turns() == 1 && processor.log().len() == 20
 }
 
 #[test]
@@ -104,6 +102,13 @@ fn a_clock_goes_on(rt: HostRuntime) {
     assert!(rt; begins_to_wait(&mut processor));
 }
 
+fn rest_once(alloc: Global, processors: &mut Vec<Processor<'_>>) -> Result<bool, RestFault>
+    requires { AreOneFabric (map (λ p. p.port) processors.old.items) }
+    ensures { AreOneFabric (map (λ p. p.port) processors.new.items) }
+{
+    rest(alloc, processors)
+}
+
 // Whether letters were brought to rest, by a second call if memory was refused.
 fn rested<R: AllocGlobal + Abort + Print>(
     rt: &R,
@@ -113,13 +118,13 @@ fn rested<R: AllocGlobal + Abort + Print>(
     ensures { AreOneFabric (map (λ p. p.port) processors.new.items) }
 {
     call_begins(rt, "rest");
-    let told = rest(rt.alloc(), processors);
+    let told = rest_once(rt.alloc(), processors);
     call_ends(rt);
     match told {
         Ok(all) => Some(all),
         Err(fault) => {
             assert!(rt; fault == RestFault::NoMemory);
-            rest(rt.alloc(), processors).ok()
+            rest_once(rt.alloc(), processors).ok()
         }
     }
 }
@@ -149,18 +154,25 @@ fn is_missed(alloc: Global, processors: &mut Vec<Processor<'_>>) -> bool
     requires { AreOneFabric (map (λ p. p.port) processors.old.items) }
 {
     drop_last(processors);
-    rest(alloc, processors) == Err(RestFault::Numbers) && processors.len() == 1
+    rest_once(alloc, processors) == Err(RestFault::Numbers) && processors.len() == 1
 }
 
 #[test]
 fn letters_come_to_rest(rt: HostRuntime) {
     let machine = machine_of(rt.alloc(), ACROSS).expect(&rt, "a machine");
-    let Ok(mut processors) = assemble(rt.alloc(), &machine, 1) else {
+    let Some(mut processors) = processors_of(rt.alloc(), &machine, 1) else {
         panic!(rt; "no processors");
     };
     assert!(rt; come_to_rest(&rt, &mut processors));
     assert!(rt; have_rested(processors.as_slice()));
     assert!(rt; is_missed(rt.alloc(), &mut processors));
+}
+
+fn run_once<R: AllocGlobal + Threads + Sync>(
+    rt: &R,
+    machine: &Machine,
+) -> Result<Outcome, RunFault> {
+    run(rt, rt.alloc(), machine, 1_000, &Open)
 }
 
 // The outcome of a run, by a second call if memory was refused.
@@ -169,10 +181,10 @@ fn ran<R: AllocGlobal + Threads + Sync + Print>(
     machine: &Machine,
 ) -> Result<Outcome, RunFault> {
     call_begins(rt, "run");
-    let told = run(rt, rt.alloc(), machine, 1_000, &Open);
+    let told = run_once(rt, machine);
     call_ends(rt);
     match told {
-        Err(RunFault::NoMemory) => run(rt, rt.alloc(), machine, 1_000, &Open),
+        Err(RunFault::NoMemory) => run_once(rt, machine),
         told => told,
     }
 }
@@ -186,13 +198,17 @@ fn a_machine_runs(rt: HostRuntime) {
     assert!(rt; outcome.waiting.is_empty());
 }
 
+fn replay_once(alloc: Global, machine: &Machine) -> Result<Outcome, RunFault> {
+    replay(alloc, machine, &SCHEDULE)
+}
+
 // The outcome of the replay of the schedule, by a second call if memory was refused.
 fn replayed<R: AllocGlobal + Print>(rt: &R, machine: &Machine) -> Result<Outcome, RunFault> {
     call_begins(rt, "replay");
-    let told = replay(rt.alloc(), machine, &SCHEDULE);
+    let told = replay_once(rt.alloc(), machine);
     call_ends(rt);
     match told {
-        Err(RunFault::NoMemory) => replay(rt.alloc(), machine, &SCHEDULE),
+        Err(RunFault::NoMemory) => replay_once(rt.alloc(), machine),
         told => told,
     }
 }
@@ -257,10 +273,10 @@ fn audited<R: AllocGlobal + Print>(
     history: &[Step],
 ) -> Result<Audit, AuditFault> {
     call_begins(rt, "check");
-    let told = check(rt.alloc(), machine, history);
+    let told = audit_of(rt.alloc(), machine, history);
     call_ends(rt);
     match told {
-        Err(AuditFault::NoMemory) => check(rt.alloc(), machine, history),
+        Err(AuditFault::NoMemory) => audit_of(rt.alloc(), machine, history),
         told => told,
     }
 }
@@ -282,14 +298,18 @@ fn a_schedule_is_replayed_and_audited(rt: HostRuntime) {
     assert!(rt; is_confirmed(&outcome, &audit));
 }
 
+fn possible(alloc: Global, auditor: &Auditor<'_>) -> Result<Vec<Step>, NoMemory> {
+    auditor.possible(alloc)
+}
+
 // The steps that are possible, listed again if memory was refused.
 fn listed<R: AllocGlobal + Print>(rt: &R, auditor: &Auditor<'_>) -> Result<Vec<Step>, NoMemory> {
     call_begins(rt, "possible");
-    let steps = auditor.possible(rt.alloc());
+    let steps = possible(rt.alloc(), auditor);
     call_ends(rt);
     match steps {
         Ok(steps) => Ok(steps),
-        Err(NoMemory) => auditor.possible(rt.alloc()),
+        Err(NoMemory) => possible(rt.alloc(), auditor),
     }
 }
 
@@ -306,30 +326,47 @@ fn possible_beside<R: AllocGlobal + Print>(
     Some(steps.len())
 }
 
-// Both threads can go on at first and at last, and only the sender between.
+// Whether so many steps are possible, this one among them, and it is taken.
+fn is_taken<R: AllocGlobal + Print>(
+    rt: &R,
+    auditor: &mut Auditor<'_>,
+    step: &Step,
+    possible: usize,
+) -> bool {
+    possible_beside(rt, auditor, step) == Some(possible)
+        && auditor.step(&StepRef::from(step)).is_ok()
+}
+
+// How many steps are possible before each step of the replay. Both threads can go on at first and at
+// last, and only the sender between.
+const POSSIBLE: [usize; 8] = [2, 1, 1, 1, 1, 1, 2, 1];
+
 #[test]
 fn possible_steps_are_listed(rt: HostRuntime) {
     let machine = machine_of(rt.alloc(), ACROSS).expect(&rt, "a machine");
-    let outcome = replay(rt.alloc(), &machine, &SCHEDULE).ok();
+    let outcome = replay_once(rt.alloc(), &machine).ok();
     let outcome = outcome.expect(&rt, "an outcome");
     let auditor = Auditor::new(rt.alloc(), &machine).ok();
     let mut auditor = auditor.expect(&rt, "an auditor");
-    for (step, count) in outcome.history.iter().zip([2, 1, 1, 1, 1, 1, 2, 1]) {
-        assert!(rt; possible_beside(&rt, &auditor, step) == Some(count));
-        assert!(rt; auditor.step(&StepRef::from(step)).is_ok());
+    for (step, count) in outcome.history.iter().zip(POSSIBLE.iter()) {
+        assert!(rt; is_taken(&rt, &mut auditor, step, *count));
     }
     let left = listed(&rt, &auditor).ok().expect(&rt, "steps");
     assert!(rt; left.is_empty());
 }
 
+fn search(alloc: Global, machine: &Machine) -> Result<FoundEndings, NoMemory> {
+    endings(alloc, machine, 100, 100)
+}
+
 // The endings of a machine, looked for again if memory was refused.
 fn searched<R: AllocGlobal + Print>(rt: &R, machine: &Machine) -> Result<FoundEndings, NoMemory> {
     call_begins(rt, "endings");
-    let found = endings(rt.alloc(), machine, 100, 100);
+    let found = search(rt.alloc(), machine);
     call_ends(rt);
     match found {
         Ok(found) => Ok(found),
-        Err(NoMemory) => endings(rt.alloc(), machine, 100, 100),
+        Err(NoMemory) => search(rt.alloc(), machine),
     }
 }
 

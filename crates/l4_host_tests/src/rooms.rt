@@ -6,9 +6,8 @@ ghost use Rattle.l4_mail.specs.Fabrics.{most_room};
 
 use crate::gates::busy_text;
 use crate::gathers::gathered_again;
+use crate::processors::{processors_of, work};
 use crate::runs::{machine_of, passes};
-use l4_proc::assembly::assemble;
-use l4_proc::gate::Open;
 use l4_proc::processor::Processor;
 use l4_script::machine::Machine;
 
@@ -34,9 +33,7 @@ fn mixed<'m, R: AllocGlobal>(
     requires { (0 < room) × (room ≤ most_room) }
     ensures { IfSome result (λ processors. AreOfOne machine.now processors.items) }
 {
-    let Ok(mut processors) = assemble(rt.alloc(), machine, room) else {
-        return None;
-    };
+    let mut processors = processors_of(rt.alloc(), machine, room)?;
     let mut number = room as u64;
     for _ in 0..CALLS {
         number = next(number);
@@ -44,7 +41,7 @@ fn mixed<'m, R: AllocGlobal>(
         if cpu >= processors.len() {
             return None;
         }
-        processors[cpu].work(number % MOST_TURNS + 1, &Open);
+        work(&mut processors[cpu], number % MOST_TURNS + 1);
     }
     Some(processors)
 }

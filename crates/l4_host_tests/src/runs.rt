@@ -2,13 +2,14 @@
 // its histories such a machine has, so the tests look for what each run must have. If no letter
 // goes between processors, there is only one history: such runs are cases.
 use crate::gathers::has;
-use l4_audit::audit::check;
+use l4_audit::audit::{Audit, AuditFault, check};
 use l4_machine::{Outcome, run};
 use l4_proc::gate::{Gate, Open};
 use l4_samples::{ACROSS, CALLS, endless};
 use l4_script::machine::Machine;
 use l4_trace::traces::trace;
 use l4_types::reports::Ending;
+use l4_types::steps::Step;
 use std::alloc::Global;
 use std::sync::atomic::{AtomicU64, Ordering};
 use std::thread::Threads;
@@ -34,10 +35,19 @@ pub(crate) fn comes_to<R: AllocGlobal + Threads + Sync, G: Gate + Sync>(
     Some(outcome)
 }
 
+/// What the audit of a history finds.
+pub(crate) fn audit_of(
+    alloc: Global,
+    machine: &Machine,
+    history: &[Step],
+) -> Result<Audit, AuditFault> {
+    check(alloc, machine, history)
+}
+
 /// Whether the history of an outcome is one of the machine, and leads to the threads and sends that
 /// the outcome reports. If the outcome is quiet, the history leads to a still world.
 pub(crate) fn passes(alloc: Global, machine: &Machine, outcome: &Outcome) -> bool {
-    let Ok(audit) = check(alloc, machine, outcome.history.as_slice()) else {
+    let Ok(audit) = audit_of(alloc, machine, outcome.history.as_slice()) else {
         return false;
     };
     audit.threads.as_slice() == outcome.threads.as_slice()

@@ -1,7 +1,6 @@
 -- The steps of a text are judged as they are read.
-use Rattle.std.proofs.Common.{◌≡◌, ℕ, ◌+◌, Option, Some, None, Result, Ok, Err, List, [], ◌∷◌, ◌++◌, length, refl, ap, sym, inl, inr, ◌∙◌, arith}
+use Rattle.std.proofs.Common.{◌≡◌, ℕ, ◌+◌, false, Option, Some, None, Result, Ok, Err, List, [], ◌∷◌, ◌++◌, length, refl, ap, subst, sym, inl, inr, ◌∙◌, arith}
 use Rattle.std.specs.Prelude.{◌⊎◌}
-use Rattle.std.specs.Option.{option_map}
 use Rattle.std.proofs.lemmas.List.{length-append}
 use Rattle.l4_model.specs.Machine.{Machine}
 use Rattle.l4_model.specs.World.{World, opening}
@@ -16,14 +15,19 @@ use Rattle.l4_audit.specs.Auditing.{Auditing, IsPassed, begins}
 use Rattle.l4_audit.specs.Taking.{Explains}
 use Rattle.l4_audit.proofs.Reasoning.{is_impossible}
 use Rattle.l4_trace.specs.Forward.{Ahead, IsNext}
+use Rattle.l4_trace.specs.Lines.{IsTraceOf}
 use Rattle.l4_trace.specs.Reading.{steps_of}
 use Rattle.l4_trace.specs.declared.fault.TraceFault.{TraceFault}
 use Rattle.l4_trace.specs.declared.fault.TraceFault.TheVariants.{Line}
-use Rattle.l4_trace.proofs.ReadingOn.{IsAhead, onto, here, one_more, rest_is, ended, stopped}
-use Rattle.l4_jobs.specs.Audits.{fault_behind, fault_of_rest}
-use Rattle.l4_jobs.specs.Jobs.{fault_of_reading, fault_of_steps, fault_of_trace}
+use Rattle.l4_trace.proofs.ReadTexts.{first_fault, written}
+use Rattle.l4_trace.proofs.ReadingOn.{IsAhead, onto, here, one_more, rest_is, ended, line_faulty as faulty_line}
+use Rattle.l4_jobs.specs.Audits.{IsFaultOfTrace, fault_behind, fault_of_rest}
+use Rattle.l4_jobs.specs.Jobs.{fault_of_reading}
 use Rattle.l4_jobs.specs.declared.fault.Fault.{Fault}
 use Rattle.l4_jobs.specs.declared.fault.Fault.TheVariants as fault
+
+abbrev stops : ℕ → Result (List Step) ℕ
+stops number = Err number
 
 abbrev start : List ℕ → Ahead
 start text = record { read = 0; rest = text }
@@ -57,12 +61,11 @@ went_on m text old new a b step j next_line passed =
 
 -- A line that is faulty.
 pub line_faulty : (m : Machine) (text : List ℕ) (ahead : Ahead) (a : Auditing)
-    (told : TraceFault) (f : Fault) →
-    IsJudged m text ahead a → told ≡ Line (ahead.read + 1) → steps_of ahead.rest ≡ Err 1 →
-    f ≡ fault_of_reading told → fault_of_trace m text ≡ Some f
-line_faulty m text ahead a told f j is faulty from =
-    ap (fault_of_steps m) (stopped (start text) ahead j.steps 1 j.read faulty) ∙ ap (λ n. Some (fault.Trace (n + 1))) (sym (counted m text ahead a j))
-    ∙ ap Some (sym (from ∙ ap fault_of_reading is))
+    (found : TraceFault) (f : Fault) →
+    IsJudged m text ahead a → found ≡ Line (ahead.read + 1) → steps_of ahead.rest ≡ Err 1 →
+    f ≡ fault_of_reading found → IsFaultOfTrace false m text f
+line_faulty m text ahead a found f j is faulty from =
+    inl (ahead.read + 1, from ∙ ap fault_of_reading is, (first_fault text (ahead.read + 1)).0 (faulty_line text ahead j.steps j.read faulty))
 
 -- A refused step is the first that is not possible, whatever follows it.
 refused_here : (m : Machine) (h : List Step) (step : Step) (more : List Step) (v w : World)
@@ -84,35 +87,44 @@ refused_here m (first ∷ h) step more v w place r impossible =
     by None rest r = cc
     by (Some u) rest r = rest u r
 
-fault_is : (m : Machine) (h : List Step) (step : Step) (w : World) (place : ℕ) →
+fault_is : (m : Machine) (text : List ℕ) (h : List Step) (step : Step) (w : World) (place : ℕ) →
     reached m h ≡ Some w → next m w step ≡ None → place ≡ length (h ++ step ∷ []) →
-    (rest : Result (List Step) ℕ) →
-    fault_of_steps m (onto (h ++ step ∷ []) rest) ≡ Some (fault_of_rest place rest)
-fault_is m h step w place r impossible is (Ok more) =
-    ap (option_map fault.Refused) (refused_here m h step more (opening m) w 1 r impossible)
-    ∙ ap (λ n. Some (fault.Refused n)) (omega (arith, is, length-append h (step ∷ [])))
-fault_is m h step w place r impossible is (Err behind) = ap (λ n. Some (fault.Trace (n + behind))) (sym is)
+    (rest : Result (List Step) ℕ) → steps_of text ≡ onto (h ++ step ∷ []) rest →
+    IsFaultOfTrace false m text (fault_of_rest place rest)
+fault_is m text h step w place r impossible is (Ok more) reads =
+    inr (
+      place,
+      refl,
+      refl,
+      (
+        (h ++ step ∷ []) ++ more,
+        written text ((h ++ step ∷ []) ++ more) reads,
+        refused_here m h step more (opening m) w 1 r impossible ∙ ap Some (omega (arith, is, length-append h (step ∷ []))),
+      ),
+    )
+fault_is m text h step w place r impossible is (Err behind) reads =
+    inl (place + behind, refl, (first_fault text (place + behind)).0 (reads ∙ ap (λ n. stops (n + behind)) (sym is)))
 
 step_refused : (m : Machine) (text : List ℕ) (old new : Ahead) (a : Auditing) (step : Step) →
     IsJudged m text old a → IsNext old step new → next a.at.machine a.at.world step ≡ None →
-    fault_of_trace m text ≡ Some (fault_of_rest new.read (steps_of new.rest))
+    IsFaultOfTrace false m text (fault_of_rest new.read (steps_of new.rest))
 step_refused m text old new a step j next_line impossible =
     let read = one_more (start text) old new j.steps step j.read next_line in
-    ap (fault_of_steps m) (rest_is (start text) new (j.steps ++ step ∷ []) read)
-    ∙ fault_is m j.steps step a.at.world new.read j.reached_by (ap (λ y. next y a.at.world step) (sym j.machine) ∙ impossible) (omega (arith, read.counted)) (steps_of new.rest)
+    fault_is m text j.steps step a.at.world new.read j.reached_by (ap (λ y. next y a.at.world step) (sym j.machine) ∙ impossible) (omega (arith, read.counted))
+    (steps_of new.rest) (rest_is (start text) new (j.steps ++ step ∷ []) read)
 
 pub not_taken : (m : Machine) (text : List ℕ) (old new : Ahead) (a : Auditing) (step : Step)
-    (told : StepFault) (f : Fault) →
-    IsJudged m text old a → IsNext old step new → Explains a.at step told →
-    f ≡ fault_behind new told → (f ≡ fault.NoMemory) ⊎ (fault_of_trace m text ≡ Some f)
+    (found : StepFault) (f : Fault) →
+    IsJudged m text old a → IsNext old step new → Explains a.at step found →
+    f ≡ fault_behind new.read (steps_of new.rest) found → (f ≡ fault.NoMemory) ⊎ IsFaultOfTrace false m text f
 not_taken m text old new a step NoMemory f j next_line why is = inl is
 not_taken m text old new a step (Refused reason) f j next_line why is =
-    inr (step_refused m text old new a step j next_line (is_impossible a.at.machine a.at.world step reason why) ∙ ap Some (sym is))
+    inr (subst (IsFaultOfTrace false m text) (sym is) (step_refused m text old new a step j next_line (is_impossible a.at.machine a.at.world step reason why)))
 
 pub all_read : (m : Machine) (text : List ℕ) (ahead : Ahead) (a : Auditing)
     (j : IsJudged m text ahead a) →
-    steps_of ahead.rest ≡ Ok [] → steps_of text ≡ Ok j.steps
-all_read m text ahead a j none = ended (start text) ahead j.steps j.read none
+    steps_of ahead.rest ≡ Ok [] → IsTraceOf text j.steps
+all_read m text ahead a j none = written text j.steps (ended (start text) ahead j.steps j.read none)
 
 pub all_counted : (m : Machine) (text : List ℕ) (ahead : Ahead) (a : Auditing)
     (j : IsJudged m text ahead a) (count : ℕ) →

@@ -1,5 +1,5 @@
 -- What is printed behind a trace, a report or the line of an audit.
-use Rattle.std.proofs.Common.{◌≡◌, ℕ, Bool, true, false, Some, Ok, List, [], ◌++◌, length, refl, ap, sym, ◌∙◌, append-nil, append_assoc}
+use Rattle.std.proofs.Common.{◌≡◌, ℕ, Bool, true, false, Some, List, [], ◌++◌, length, refl, ap, sym, ◌∙◌, append-nil, append_assoc}
 use Rattle.std.specs.Prelude.{◌||◌, if◌then◌else◌}
 use Rattle.l4_model.specs.History.{IsHistory, reached, view, waiting as undecided_sends}
 use Rattle.l4_model.specs.Machine.{Machine}
@@ -9,7 +9,7 @@ use Rattle.l4_counts.specs.Lines.{counts_text}
 use Rattle.l4_waits.specs.Lines.{waits_text}
 use Rattle.l4_machine.specs.Outcomes.{Findings}
 use Rattle.l4_reports.specs.ReportLines.{report_text}
-use Rattle.l4_trace.specs.Reading.{steps_of}
+use Rattle.l4_trace.specs.Lines.{IsTraceOf}
 use Rattle.l4_jobs.specs.Audits.{HasPassed, passed_line, report_where, tells_refusals}
 use Rattle.l4_jobs.specs.Extras.{behind}
 use Rattle.l4_jobs.specs.Jobs.{IsPassed, IsWritten, lines_of_outcome}
@@ -17,6 +17,7 @@ use Rattle.l4_jobs.specs.declared.audits.PassedTrace.{PassedTrace}
 use Rattle.l4_commands.specs.declared.job.Extras.{Extras}
 use Rattle.l4_commands.specs.declared.job.Judged.{Judged}
 use Rattle.l4_commands.specs.declared.job.Printed.{Printed}
+use Rattle.l4_jobs.proofs.Spelled.{one_trace}
 
 -- A text that is appended where it is asked for.
 
@@ -69,11 +70,8 @@ written_behind printed m o lines all h (w, reaches) same is added = record {
 
 -- Behind the line of an audit
 
-one_reading : (text : List ℕ) (h g : List Step) → steps_of text ≡ Ok h → steps_of text ≡ Ok g → h ≡ g
-one_reading text h g is other = let same : Ok h ≡ Ok g = sym is ∙ other in cc
-
-pub passed_history : (m : Machine) (text : List ℕ) (p : PassedTrace) (h : List Step) → HasPassed m text p → steps_of text ≡ Ok h → IsHistory m h
-passed_history m text p h passed reads = (passed.world, ap (reached m) (one_reading text h passed.steps reads passed.reads) ∙ passed.reaches)
+pub passed_history : (m : Machine) (text : List ℕ) (p : PassedTrace) (h : List Step) → HasPassed m text p → IsTraceOf text h → IsHistory m h
+passed_history m text p h passed reads = (passed.world, ap (reached m) (one_trace text h passed.steps reads passed.reads) ∙ passed.reaches)
 
 line_is : (m : Machine) (text line : List ℕ) (p : PassedTrace) (passed : HasPassed m text p) → line ≡ passed_line p.steps p.ending →
     line ≡ passed_line (length passed.steps) p.ending
@@ -103,10 +101,10 @@ passed_alone j m text line p untold passed is none = record {
 }
 
 pub passed_behind : (j : Judged) (m : Machine) (text line all : List ℕ) (p : PassedTrace) (h : List Step) → tells_refusals j ≡ false → HasPassed m text p →
-    line ≡ passed_line p.steps p.ending → steps_of text ≡ Ok h → ((w : World) → reached m h ≡ Some w → all ≡ line ++ behind j.extras m w h) →
+    line ≡ passed_line p.steps p.ending → IsTraceOf text h → ((w : World) → reached m h ≡ Some w → all ≡ line ++ behind j.extras m w h) →
     IsPassed j m text all
 passed_behind j m text line all p h untold passed is reads added =
-    let same = one_reading text h passed.steps reads passed.reads in
+    let same = one_trace text h passed.steps reads passed.reads in
     record {
       steps = passed.steps;
       reads = passed.reads;

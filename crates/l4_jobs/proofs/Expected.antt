@@ -40,36 +40,36 @@ Takes = List ℕ → Bool → Type 0
 
 -- What comes of a run and of a replay
 
-pub run_expected : (printed : Printed) (m : Machine) (turns : ℕ) (expected : List Expected) (o : Findings) (lines told : List ℕ) (status : ℕ) →
-    ((turns ≡ 0) ⊎ (1000000 < turns) → ⊥) → IsFoundFor m turns o → IsWritten printed m o lines → told ≡ unmet_text (lines_of_outcome true o) expected →
+pub run_expected : (printed : Printed) (m : Machine) (turns : ℕ) (expected : List Expected) (o : Findings) (lines unmet : List ℕ) (status : ℕ) →
+    ((turns ≡ 0) ⊎ (1000000 < turns) → ⊥) → IsFoundFor m turns o → IsWritten printed m o lines → unmet ≡ unmet_text (lines_of_outcome true o) expected →
     status ≡ expected_status (are_met (lines_of_outcome true o) expected) (status_of_ending o.ending) →
-    IsRunExpected printed m (IsRunAsked m turns) expected lines told status
-run_expected printed m turns expected o lines told status right found written unmet ended = record {
+    IsRunExpected printed m (IsRunAsked m turns) expected lines unmet status
+run_expected printed m turns expected o lines unmet status right found written unmet_is ended = record {
   findings = o;
   run = in_order found.run;
   is = record { lawful = lawful turns right; run = found.run; is = found.is; sorted = refl };
   of_run = found.outcome;
   written = written;
-  told_is = unmet;
+  unmet_is = unmet_is;
   status_is = ended;
 }
 
 pub replay_expected : (printed : Printed) (m : Machine) (rest : Option ℕ) (list text : List ℕ) (entries : List Entry) (expected : List Expected)
-    (o : Findings) (lines told : List ℕ) (status : ℕ) → asked_schedule m list text ≡ Ok entries → IsOutcomeOfAny m (gone_on m rest entries) o →
-    IsWritten printed m o lines → told ≡ unmet_text (lines_of_outcome true o) expected →
+    (o : Findings) (lines unmet : List ℕ) (status : ℕ) → asked_schedule m list text ≡ Ok entries → IsOutcomeOfAny m (gone_on m rest entries) o →
+    IsWritten printed m o lines → unmet ≡ unmet_text (lines_of_outcome true o) expected →
     status ≡ expected_status (are_met (lines_of_outcome true o) expected) (status_of_ending o.ending) →
-    IsRunExpected printed m (IsReplayAsked m rest list text) expected lines told status
-replay_expected printed m rest list text entries expected o lines told status asked outcome written unmet ended = by (gone_on m rest entries) refl outcome
+    IsRunExpected printed m (IsReplayAsked m rest list text) expected lines unmet status
+replay_expected printed m rest list text entries expected o lines unmet status asked outcome written unmet_is ended = by (gone_on m rest entries) refl outcome
   where
     by : (g : Result CoreRun RunFault) → gone_on m rest entries ≡ g → IsOutcomeOfAny m g o →
-        IsRunExpected printed m (IsReplayAsked m rest list text) expected lines told status
+        IsRunExpected printed m (IsReplayAsked m rest list text) expected lines unmet status
     by (Ok r) at is = record {
       findings = o;
       run = r;
       is = ap (replayed m rest) asked ∙ at;
       of_run = is;
       written = written;
-      told_is = unmet;
+      unmet_is = unmet_is;
       status_is = ended;
     }
     by (Err f) at is = absurd is
@@ -101,19 +101,19 @@ course_faulty c m list asked expected (Err f) reads (inl none) = inl none
 course_faulty c m list asked expected (Err f) reads (inr faulty) = inr (subst (λ a. IsAskedFault c m list a f) (sym reads) faulty)
 
 -- What is shown by a text of expectations that its reader gives, on a machine, and of a text
-abbrev pub IsShownBy : Expecting → Machine → (list : Gives) → (asked lines told : List ℕ) → (status : ℕ) → Type 0
-IsShownBy e m list asked lines told status =
+abbrev pub IsShownBy : Expecting → Machine → (list : Gives) → (asked lines unmet : List ℕ) → (status : ℕ) → Type 0
+IsShownBy e m list asked lines unmet status =
     (expected : List Expected) × (entries : List ℕ) × (expectations_of (scope_of e.course) asked ≡ Ok expected)
-    × IsRead (list_file_of e.course) list entries × IsExpectedOn e.course m expected entries lines told status
+    × IsRead (list_file_of e.course) list entries × IsExpectedOn e.course m expected entries lines unmet status
 
-abbrev pub IsShownFor : Expecting → Machine → (list wants : Gives) → (lines told : List ℕ) → (status : ℕ) → Type 0
-IsShownFor e m list wants lines told status =
+abbrev pub IsShownFor : Expecting → Machine → (list wants : Gives) → (lines unmet : List ℕ) → (status : ℕ) → Type 0
+IsShownFor e m list wants lines unmet status =
     (asked : List ℕ) × (expected : List Expected) × (entries : List ℕ) × wants (Ok asked) × (expectations_of (scope_of e.course) asked ≡ Ok expected)
-    × IsRead (list_file_of e.course) list entries × IsExpectedOn e.course m expected entries lines told status
+    × IsRead (list_file_of e.course) list entries × IsExpectedOn e.course m expected entries lines unmet status
 
-pub wanted_shown : (e : Expecting) (m : Machine) (list wants : Gives) (asked slice lines told : List ℕ) (status : ℕ) → wants (Ok asked) → slice ≡ asked →
-    IsShownBy e m list slice lines told status → IsShownFor e m list wants lines told status
-wanted_shown e m list wants asked slice lines told status given is (expected, entries, reads, goes, shown) =
+pub wanted_shown : (e : Expecting) (m : Machine) (list wants : Gives) (asked slice lines unmet : List ℕ) (status : ℕ) → wants (Ok asked) → slice ≡ asked →
+    IsShownBy e m list slice lines unmet status → IsShownFor e m list wants lines unmet status
+wanted_shown e m list wants asked slice lines unmet status given is (expected, entries, reads, goes, shown) =
     (asked, expected, entries, given, ap (expectations_of (scope_of e.course)) (sym is) ∙ reads, goes, shown)
 
 pub wanted_faulty : {X : Type 0} (e : Expecting) (m : Machine) (list wants : Gives) (asked slice : List ℕ) (r : Result X Fault) → wants (Ok asked) →
@@ -130,12 +130,12 @@ text_faulty e declared m list wants (Ok x) is faulty = tt
 text_faulty e declared m list wants (Err f) is (inl none) = inl none
 text_faulty e declared m list wants (Err f) is (inr faulty) = inr (subst (λ d. IsExpectedFault e d list wants f) (sym is) faulty)
 
-pub all_shown : (e : Expecting) (machine list wants : Gives) (read slice lines told : List ℕ) (status : ℕ) →
+pub all_shown : (e : Expecting) (machine list wants : Gives) (read slice lines unmet : List ℕ) (status : ℕ) →
     (all : List ℕ) × machine (Ok all) × IsReadAs read all → slice ≡ read →
     (m : Machine) × (asked : List ℕ) × (expected : List Expected) × (entries : List ℕ) × (machine_of_text slice ≡ Ok m) × wants (Ok asked)
     × (expectations_of (scope_of e.course) asked ≡ Ok expected) × IsRead (list_file_of e.course) list entries
-    × IsExpectedOn e.course m expected entries lines told status → IsExpectedFor e machine list wants lines told status
-all_shown e machine list wants read slice lines told status (all, given, same) is (m, asked, expected, entries, declares, wanted, reads, goes, shown) = record {
+    × IsExpectedOn e.course m expected entries lines unmet status → IsExpectedFor e machine list wants lines unmet status
+all_shown e machine list wants read slice lines unmet status (all, given, same) is (m, asked, expected, entries, declares, wanted, reads, goes, shown) = record {
   text = all;
   given = given;
   on = m;
@@ -174,25 +174,25 @@ search_status true true [] true status is = inl is
 search_status true true [] false status is = inr (inl is)
 search_status true true (e ∷ asked) is_whole status is = inr (inr is)
 
-on_status : (c : Course) (m : Machine) (expected : List Expected) (entries lines told : List ℕ) (status : ℕ) →
-    IsExpectedOn c m expected entries lines told status → (status ≡ 0) ⊎ (status ≡ 3) ⊎ (status ≡ 4)
-on_status (course.Run turns printed) m expected entries lines told status s = run_status _ _ status s.status_is
-on_status (course.Replay schedule rest printed) m expected entries lines told status s = run_status _ _ status s.status_is
-on_status (course.Endings search) m expected entries lines told status s = search_status _ search.none _ _ status s.status_is
+on_status : (c : Course) (m : Machine) (expected : List Expected) (entries lines unmet : List ℕ) (status : ℕ) →
+    IsExpectedOn c m expected entries lines unmet status → (status ≡ 0) ⊎ (status ≡ 3) ⊎ (status ≡ 4)
+on_status (course.Run turns printed) m expected entries lines unmet status s = run_status _ _ status s.status_is
+on_status (course.Replay schedule rest printed) m expected entries lines unmet status s = run_status _ _ status s.status_is
+on_status (course.Endings search) m expected entries lines unmet status s = search_status _ search.none _ _ status s.status_is
 
 any_status : (status : ℕ) → (status ≡ 0) ⊎ (status ≡ 3) ⊎ (status ≡ 4) → IsExpectStatus status
 any_status status (inl is) = inl is
 any_status status (inr (inl is)) = inr (inr (inl is))
 any_status status (inr (inr is)) = inr (inr (inr is))
 
-pub expect_status : (e : Expecting) (machine list wants : Gives) (lines told : List ℕ) (status : ℕ) →
-    IsExpectedFor e machine list wants lines told status → IsExpectStatus status
-expect_status e machine list wants lines told status s =
-    any_status status (on_status e.course s.on s.expected s.entries lines told status s.is)
+pub expect_status : (e : Expecting) (machine list wants : Gives) (lines unmet : List ℕ) (status : ℕ) →
+    IsExpectedFor e machine list wants lines unmet status → IsExpectStatus status
+expect_status e machine list wants lines unmet status s =
+    any_status status (on_status e.course s.on s.expected s.entries lines unmet status s.is)
 
-pub never_1 : (e : Expecting) (machine list wants : Gives) (lines told : List ℕ) (status : ℕ) → IsExpectedFor e machine list wants lines told status →
+pub never_1 : (e : Expecting) (machine list wants : Gives) (lines unmet : List ℕ) (status : ℕ) → IsExpectedFor e machine list wants lines unmet status →
     status ≡ 1 → ⊥
-never_1 e machine list wants lines told status s one = by (on_status e.course s.on s.expected s.entries lines told status s.is)
+never_1 e machine list wants lines unmet status s one = by (on_status e.course s.on s.expected s.entries lines unmet status s.is)
   where
     by : (status ≡ 0) ⊎ (status ≡ 3) ⊎ (status ≡ 4) → ⊥
     by (inl is) = absurd (omega (arith, is, one))
@@ -201,12 +201,12 @@ never_1 e machine list wants lines told status s one = by (on_status e.course s.
 
 -- On files
 
-expected_more : (e : Expecting) (machine wider list longer wants others : Gives) (lines told : List ℕ) (status : ℕ) →
+expected_more : (e : Expecting) (machine wider list longer wants others : Gives) (lines unmet : List ℕ) (status : ℕ) →
     ((text : List ℕ) → machine (Ok text) → wider (Ok text)) →
     IfSome (list_file_of e.course) (λ _. (given : Result (List ℕ) ErrorKind) → list given → longer given) →
-    ((text : List ℕ) → wants (Ok text) → others (Ok text)) → IsExpectedFor e machine list wants lines told status →
-    IsExpectedFor e wider longer others lines told status
-expected_more e machine wider list longer wants others lines told status texts lists asks s = record {
+    ((text : List ℕ) → wants (Ok text) → others (Ok text)) → IsExpectedFor e machine list wants lines unmet status →
+    IsExpectedFor e wider longer others lines unmet status
+expected_more e machine wider list longer wants others lines unmet status texts lists asks s = record {
   text = s.text;
   given = texts s.text s.given;
   on = s.on;
@@ -244,10 +244,10 @@ list_opened opens gives (Some name) other file is o =
 pub done_by_list : {File : Type 0} (opens : List ℕ → Result File ErrorKind → Type 0) (gives : File → Gives) (e : Expecting) (machine list : Gives) (file : File)
     (out : Takes) (keeps : Type 0) (faults : Takes) (status : ℕ) → opens e.name.now (Ok file) →
     IsExpectDone e machine list (gives file) out keeps faults status → IsExpectDone e machine list (FileGives opens gives e.name.now) out keeps faults status
-done_by_list opens gives e machine list file out keeps faults status o (lines, told, s, wrote, said) = (
+done_by_list opens gives e machine list file out keeps faults status o (lines, unmet, s, wrote, said) = (
   lines,
-  told,
-  expected_more e machine machine list list (gives file) (FileGives opens gives e.name.now) lines told status (λ text is. is)
+  unmet,
+  expected_more e machine machine list list (gives file) (FileGives opens gives e.name.now) lines unmet status (λ text is. is)
       (same_list (list_file_of e.course) list) (λ text is. (file, o, is)) s,
   wrote,
   said,
@@ -258,12 +258,12 @@ pub not_by_list : {File : Type 0} (opens : List ℕ → Result File ErrorKind �
     IsNotExpected e machine list (gives file) (IsExpectFault e machine list (gives file)) out keeps faults →
     IsNotExpected e machine list (FileGives opens gives e.name.now) (IsFaultBehindList opens gives e machine list) out keeps faults
 not_by_list opens gives e machine list file out keeps faults o (inl (f, is, kept, reported)) = inl (f, inr (file, o, is), kept, reported)
-not_by_list opens gives e machine list file out keeps faults o (inr (lines, told, status, s, wrote, reported)) =
+not_by_list opens gives e machine list file out keeps faults o (inr (lines, unmet, status, s, wrote, reported)) =
     inr (
       lines,
-      told,
+      unmet,
       status,
-      expected_more e machine machine list list (gives file) (FileGives opens gives e.name.now) lines told status (λ text is. is)
+      expected_more e machine machine list list (gives file) (FileGives opens gives e.name.now) lines unmet status (λ text is. is)
           (same_list (list_file_of e.course) list) (λ text is. (file, o, is)) s,
       wrote,
       reported,
@@ -274,10 +274,10 @@ not_by_list opens gives e machine list file out keeps faults o (inr (lines, told
 pub done_by_text : (e : Expecting) (machine list longer wants : Gives) (out : Takes) (keeps : Type 0) (faults : Takes) (status : ℕ) →
     IfSome (list_file_of e.course) (λ _. (given : Result (List ℕ) ErrorKind) → list given → longer given) →
     IsExpectDone e machine list wants out keeps faults status → IsExpectDone e machine longer wants out keeps faults status
-done_by_text e machine list longer wants out keeps faults status lists (lines, told, s, wrote, said) = (
+done_by_text e machine list longer wants out keeps faults status lists (lines, unmet, s, wrote, said) = (
   lines,
-  told,
-  expected_more e machine machine list longer wants wants lines told status (λ text is. is) lists (λ text is. is) s,
+  unmet,
+  expected_more e machine machine list longer wants wants lines unmet status (λ text is. is) lists (λ text is. is) s,
   wrote,
   said,
 )
@@ -317,8 +317,8 @@ not_more : (e : Expecting) (machine list longer wants : Gives) (is_fault is_othe
     IfSome (list_file_of e.course) (λ _. (given : Result (List ℕ) ErrorKind) → list given → longer given) → ((f : Fault) → is_fault f → is_other f) →
     IsNotExpected e machine list wants is_fault out keeps faults → IsNotExpected e machine longer wants is_other out keeps faults
 not_more e machine list longer wants is_fault is_other out keeps faults lists on (inl (f, is, kept, reported)) = inl (f, on f is, kept, reported)
-not_more e machine list longer wants is_fault is_other out keeps faults lists on (inr (lines, told, status, s, wrote, reported)) =
-    inr (lines, told, status, expected_more e machine machine list longer wants wants lines told status (λ text is. is) lists (λ text is. is) s, wrote, reported)
+not_more e machine list longer wants is_fault is_other out keeps faults lists on (inr (lines, unmet, status, s, wrote, reported)) =
+    inr (lines, unmet, status, expected_more e machine machine list longer wants wants lines unmet status (λ text is. is) lists (λ text is. is) s, wrote, reported)
 
 pub done_without_list : (e : Expecting) (machine list longer wants : Gives) (out : Takes) (keeps : Type 0) (faults : Takes) (status : ℕ) →
     list_file_of e.course ≡ None → IsExpectDone e machine list wants out keeps faults status → IsExpectDone e machine longer wants out keeps faults status
@@ -352,10 +352,10 @@ list_unopened opens gives e machine name kind f is refused unread =
 pub done_on_files : {File : Type 0} (opens : List ℕ → Result File ErrorKind → Type 0) (gives : File → Gives) (e : Expecting) (list wants : Gives) (file : File)
     (out : Takes) (keeps : Type 0) (faults : Takes) (status : ℕ) → opens e.file.now (Ok file) →
     IsExpectDone e (gives file) list wants out keeps faults status → IsExpectDone e (FileGives opens gives e.file.now) list wants out keeps faults status
-done_on_files opens gives e list wants file out keeps faults status o (lines, told, s, wrote, said) = (
+done_on_files opens gives e list wants file out keeps faults status o (lines, unmet, s, wrote, said) = (
   lines,
-  told,
-  expected_more e (gives file) (FileGives opens gives e.file.now) list list wants wants lines told status (λ text is. (file, o, is))
+  unmet,
+  expected_more e (gives file) (FileGives opens gives e.file.now) list list wants wants lines unmet status (λ text is. (file, o, is))
       (same_list (list_file_of e.course) list) (λ text is. is) s,
   wrote,
   said,
@@ -366,12 +366,12 @@ pub not_on_files : {File : Type 0} (opens : List ℕ → Result File ErrorKind �
     IsNotExpected e (gives file) list wants is_fault out keeps faults →
     IsNotExpected e (FileGives opens gives e.file.now) list wants is_other out keeps faults
 not_on_files opens gives e list wants file is_fault is_other out keeps faults o on (inl (f, is, kept, reported)) = inl (f, on f is, kept, reported)
-not_on_files opens gives e list wants file is_fault is_other out keeps faults o on (inr (lines, told, status, s, wrote, reported)) =
+not_on_files opens gives e list wants file is_fault is_other out keeps faults o on (inr (lines, unmet, status, s, wrote, reported)) =
     inr (
       lines,
-      told,
+      unmet,
       status,
-      expected_more e (gives file) (FileGives opens gives e.file.now) list list wants wants lines told status (λ text is. (file, o, is))
+      expected_more e (gives file) (FileGives opens gives e.file.now) list list wants wants lines unmet status (λ text is. (file, o, is))
           (same_list (list_file_of e.course) list) (λ text is. is) s,
       wrote,
       reported,

@@ -1,5 +1,5 @@
 -- From what an audit tells of steps to what it shows of a trace.
-use Rattle.std.proofs.Common.{◌≡◌, ℕ, Bool, true, Option, Some, None, Ok, List, [], ◌++◌, length, sym, ap, subst, ◌∙◌}
+use Rattle.std.proofs.Common.{◌≡◌, ℕ, Bool, true, Option, Some, None, List, [], ◌++◌, length, sym, ap, subst, ◌∙◌}
 use Rattle.std.specs.Prelude.{◌↔◌, filter_map, if◌then◌else◌}
 use Rattle.l4_model.specs.History.{IsHistory, reached, refused_place, view, waiting}
 use Rattle.l4_model.specs.Machine.{Machine}
@@ -16,7 +16,7 @@ use Rattle.l4_explain.specs.declared.accounts.Account.{Account}
 use Rattle.l4_explain.specs.declared.accounts.Refusal.{Refusal}
 use Rattle.l4_explain.specs.declared.accounts.Shown.{Shown}
 use Rattle.l4_reports.specs.ReportLines.{report_text}
-use Rattle.l4_trace.specs.Reading.{steps_of}
+use Rattle.l4_trace.specs.Lines.{IsTraceOf}
 use Rattle.l4_types.specs.declared.reports.Ending.{Ending}
 use Rattle.l4_commands.specs.declared.job.Judged.{Judged}
 use Rattle.l4_jobs.specs.Audits.{IsRefused, passed_line, report_where, tells_refusals}
@@ -60,7 +60,7 @@ history_is shown m h account is none = (tells_first_fault m h).history.0 (sym (p
 -- All steps are possible.
 
 passed_by : (judged : Judged) (m : Machine) (h : List Step) (trace lines : List ℕ) (account : Account) (a : Auditing) (refusal : Option Refusal) →
-    IsStopped m h a refusal → IsToldBy (shown_of judged) a refusal account → account.refused ≡ None → steps_of trace ≡ Ok h →
+    IsStopped m h a refusal → IsToldBy (shown_of judged) a refusal account → account.refused ≡ None → IsTraceOf trace h →
     ((w : World) → reached m h ≡ Some w → lines ≡ passed_line (length h) account.ending ++ account.lines.items ++ behind judged.extras m w h) →
     IsPassed judged m trace lines
 passed_by judged m h trace lines account a None stopped told none reads are =
@@ -79,7 +79,7 @@ passed_by judged m h trace lines account a (Some r) stopped told none reads are 
     absurd (let bad : Some r.number ≡ None = sym told.refused ∙ none in cc)
 
 pub passed_told : (judged : Judged) (m : Machine) (h : List Step) (trace lines : List ℕ) (account : Account) → IsAccount (shown_of judged) m h account →
-    account.refused ≡ None → steps_of trace ≡ Ok h →
+    account.refused ≡ None → IsTraceOf trace h →
     ((w : World) → reached m h ≡ Some w → lines ≡ passed_line (length h) account.ending ++ account.lines.items ++ behind judged.extras m w h) →
     IsPassed judged m trace lines
 passed_told judged m h trace lines account is none reads are = passed_by judged m h trace lines account is.at is.refusal is.stopped is.told none reads are
@@ -88,7 +88,7 @@ passed_told judged m h trace lines account is none reads are = passed_by judged 
 
 refused_by : (judged : Judged) (m : Machine) (h : List Step) (trace lines : List ℕ) (account : Account) (number : ℕ) (a : Auditing) (refusal : Option Refusal) →
     IsStopped m h a refusal → IsToldBy (shown_of judged) a refusal account → account.refused ≡ Some number → tells_refusals judged ≡ true →
-    steps_of trace ≡ Ok h → lines ≡ account.lines.items → IsRefused judged m trace lines
+    IsTraceOf trace h → lines ≡ account.lines.items → IsRefused judged m trace lines
 refused_by judged m h trace lines account number a None stopped told some asked reads are =
     absurd (let bad : None ≡ Some number = sym told.refused ∙ some in cc)
 refused_by judged m h trace lines account number a (Some r) stopped told some asked reads are =
@@ -114,6 +114,6 @@ refused_by judged m h trace lines account number a (Some r) stopped told some as
     }
 
 pub refused_told : (judged : Judged) (m : Machine) (h : List Step) (trace lines : List ℕ) (account : Account) (number : ℕ) → IsAccount (shown_of judged) m h account →
-    account.refused ≡ Some number → tells_refusals judged ≡ true → steps_of trace ≡ Ok h → lines ≡ account.lines.items → IsRefused judged m trace lines
+    account.refused ≡ Some number → tells_refusals judged ≡ true → IsTraceOf trace h → lines ≡ account.lines.items → IsRefused judged m trace lines
 refused_told judged m h trace lines account number is some asked reads are =
     refused_by judged m h trace lines account number is.at is.refusal is.stopped is.told some asked reads are

@@ -12,3 +12,4 @@ pub mod ListJudged
 pub mod Opened
 pub mod RunsShown
 pub mod Shown
+pub mod Spelled

@@ -29,26 +29,26 @@ Gives = Result (List ℕ) ErrorKind → Type 0
 pub file_told : (m : Machine) (gives : Gives) (text slice old new : List ℕ) (none : Bool) →
     (all : List ℕ) × gives (Ok all) × ((text ≡ all) ⊎ (text ≡ take (most_bytes + 1) all)) → slice ≡ text →
     new ≡ old ++ faults_text (file_faults m slice) → none ≡ (length (file_faults m slice) == 0) →
-    (told : List ℕ) × gives (Ok told) × (new ≡ old ++ faults_text (file_faults m told)) × (none ≡ (length (file_faults m told) == 0))
+    (read : List ℕ) × gives (Ok read) × (new ≡ old ++ faults_text (file_faults m read)) × (none ≡ (length (file_faults m read) == 0))
 file_told m gives text slice old new none (all, given, much) same written is =
     let alike : file_faults m slice ≡ file_faults m all = ap (file_faults m) same ∙ faults_as_much m all text much in
     (all, given, written ∙ ap (λ (found : List ListFault). old ++ faults_text found) alike, is ∙ ap (λ (found : List ListFault). length found == 0) alike)
 
 pub list_told : (m : Machine) (list : List ℕ) (gives : Gives) (old new : List ℕ) (none : Bool) → list_name list ≡ None →
     new ≡ old ++ faults_text (list_faults m list) → none ≡ (length (list_faults m list) == 0) →
-    (told : List ℕ) × IsRead (list_name list) gives told × (new ≡ old ++ faults_text (asked_faults m list told))
-    × (none ≡ (length (asked_faults m list told) == 0))
+    (read : List ℕ) × IsRead (list_name list) gives read × (new ≡ old ++ faults_text (asked_faults m list read))
+    × (none ≡ (length (asked_faults m list read) == 0))
 list_told m list gives old new none by_itself written is =
-    subst (λ (name : Option (List ℕ)). (told : List ℕ) × IsRead name gives told × (new ≡ old ++ faults_text (named_faults m name list told))
-    × (none ≡ (length (named_faults m name list told) == 0))) (sym by_itself) ([], tt, written, is)
+    subst (λ (name : Option (List ℕ)). (read : List ℕ) × IsRead name gives read × (new ≡ old ++ faults_text (named_faults m name list read))
+    × (none ≡ (length (named_faults m name list read) == 0))) (sym by_itself) ([], tt, written, is)
 
 pub named_told : (m : Machine) (list name : List ℕ) (gives : Gives) (old new : List ℕ) (none : Bool) → list_name list ≡ Some name →
-    (told : List ℕ) × gives (Ok told) × (new ≡ old ++ faults_text (file_faults m told)) × (none ≡ (length (file_faults m told) == 0)) →
-    (told : List ℕ) × IsRead (list_name list) gives told × (new ≡ old ++ faults_text (asked_faults m list told))
-    × (none ≡ (length (asked_faults m list told) == 0))
+    (read : List ℕ) × gives (Ok read) × (new ≡ old ++ faults_text (file_faults m read)) × (none ≡ (length (file_faults m read) == 0)) →
+    (read : List ℕ) × IsRead (list_name list) gives read × (new ≡ old ++ faults_text (asked_faults m list read))
+    × (none ≡ (length (asked_faults m list read) == 0))
 named_told m list name gives old new none is =
-    subst (λ (n : Option (List ℕ)). (told : List ℕ) × IsRead n gives told × (new ≡ old ++ faults_text (named_faults m n list told))
-    × (none ≡ (length (named_faults m n list told) == 0))) (sym is)
+    subst (λ (n : Option (List ℕ)). (read : List ℕ) × IsRead n gives read × (new ≡ old ++ faults_text (named_faults m n list read))
+    × (none ≡ (length (named_faults m n list read) == 0))) (sym is)
 
 -- A text with a fault, and one that declares a machine
 
@@ -64,11 +64,11 @@ status_by : (found : List ListFault) (none : Bool) → none ≡ (length found ==
 status_by found none is = ap (λ (none : Bool). if none then 0 else 1) is
 
 pub with_list : (text list : List ℕ) (gives : Gives) (m : Machine) (old lines : List ℕ) (none : Bool) → machine_of_text text ≡ Ok m → old ≡ lint_text text →
-    (told : List ℕ) × IsRead (list_name list) gives told × (lines ≡ old ++ faults_text (asked_faults m list told))
-    × (none ≡ (length (asked_faults m list told) == 0)) → IsListLintOf text list gives lines (if none then 0 else 1)
-with_list text list gives m old lines none declares said (told, read, are, is) =
+    (read : List ℕ) × IsRead (list_name list) gives read × (lines ≡ old ++ faults_text (asked_faults m list read))
+    × (none ≡ (length (asked_faults m list read) == 0)) → IsListLintOf text list gives lines (if none then 0 else 1)
+with_list text list gives m old lines none declares said (read, given, are, is) =
     subst (λ (declared : Result Machine TextFault). IsListLintOn declared text list gives lines (if none then 0 else 1)) (sym declares)
-    (told, read, are ∙ ap (λ text. text ++ faults_text (asked_faults m list told)) said, status_by (asked_faults m list told) none is)
+    (read, given, are ∙ ap (λ text. text ++ faults_text (asked_faults m list read)) said, status_by (asked_faults m list read) none is)
 
 -- Where a text has no fault, it is read as a machine unless memory is refused.
 pub unparsed : {X : Type 0} (text list : List ℕ) (gives : Gives) (status : ℕ) (r : Result X Fault) (e : TextFault) → IfErr r (λ f. f ≡ text_fault e.line e.kind) →
@@ -86,7 +86,7 @@ more_said : (declared : Result Machine TextFault) (text list : List ℕ) (gives 
     IfSome (list_name list) (λ _. (given : Result (List ℕ) ErrorKind) → gives given → longer given) →
     IsListLintOn declared text list gives lines status → IsListLintOn declared text list longer lines status
 more_said (Err f) text list gives longer lines status more is = is
-more_said (Ok m) text list gives longer lines status more (told, read, are, is) = (told, read_more (list_name list) gives longer told more read, are, is)
+more_said (Ok m) text list gives longer lines status more (read, given, are, is) = (read, read_more (list_name list) gives longer read more given, are, is)
 
 pub linted_more : (list : List ℕ) (machine wider gives longer : Gives) (is_fault is_other : Fault → Type 0) (out : List ℕ → Bool → Type 0)
     (keeps_out keeps : Type 0) (faults : List ℕ → Bool → Type 0) (status : ℕ) → ((text : List ℕ) → machine (Ok text) → wider (Ok text)) →

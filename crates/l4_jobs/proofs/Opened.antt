@@ -1,12 +1,12 @@
 -- What is done over files that were opened.
-use Rattle.std.proofs.Common.{◌≡◌, ℕ, Bool, true, false, Option, Some, None, Result, Ok, Err, List, sym, subst, inl, inr}
+use Rattle.std.proofs.Common.{◌≡◌, ℕ, Bool, true, Option, Some, None, Result, Ok, Err, List, sym, subst, inl, inr}
 use Rattle.std.specs.Prelude.{IfSome, IsSomeAnd}
 use Rattle.std.specs.declared.io.ErrorKind.{ErrorKind}
 use Rattle.l4_model.specs.Machine.{Machine}
 use Rattle.l4_script.specs.Texts.{machine_of_text}
 use Rattle.l4_script.specs.declared.text.fault.TextFault.{TextFault}
 use Rattle.l4_commands.specs.Files.{file_of, list_name, second_file_of}
-use Rattle.l4_jobs.specs.Jobs.{IsRead, IsReplayFault, IsScheduleFault, IsTold, IsTraceFault, IsAuditFault, IsChartFault, IsFaultOf, IsJobFault, IsFaultBehind, IsDone, IsNotDone, IsTrulyDone, IsUnread, TraceGives}
+use Rattle.l4_jobs.specs.Jobs.{IsRead, IsReplayFault, IsScheduleFault, IsTold, IsTraceFault, IsChartFault, IsFaultOf, IsJobFault, IsFaultBehind, IsDone, IsNotDone, IsTrulyDone, IsUnread, TraceGives}
 use Rattle.l4_jobs.specs.Audits.{tells_refusals}
 use Rattle.l4_jobs.specs.Streams.{FileGives}
 use Rattle.l4_jobs.specs.declared.fault.Fault.{Fault}
@@ -26,30 +26,23 @@ Takes = List ℕ → Bool → Type 0
 abbrev IsMore : Job → (less more : Gives) → Type 0
 IsMore job less more = IfSome (second_file_of job) (λ _. (given : Result (List ℕ) ErrorKind) → less given → more given)
 
-pub read_more : (name : Option (List ℕ)) (less more : Gives) (told : List ℕ) → IfSome name (λ _. (given : Result (List ℕ) ErrorKind) → less given → more given) →
-    IsRead name less told → IsRead name more told
-read_more None less more told h t = tt
-read_more (Some name) less more told h t = h (Ok told) t
+pub read_more : (name : Option (List ℕ)) (less more : Gives) (read : List ℕ) → IfSome name (λ _. (given : Result (List ℕ) ErrorKind) → less given → more given) →
+    IsRead name less read → IsRead name more read
+read_more None less more read h t = tt
+read_more (Some name) less more read h t = h (Ok read) t
 
-told_more : (job : Job) (less more : Gives) (told : List ℕ) → IsMore job less more → IsTold job less told → IsTold job more told
-told_more job less more told h t = read_more (second_file_of job) less more told h t
+told_more : (job : Job) (less more : Gives) (read : List ℕ) → IsMore job less more → IsTold job less read → IsTold job more read
+told_more job less more read h t = read_more (second_file_of job) less more read h t
 
-trace_fault_more : (m : Machine) (name : List ℕ) (less more : Gives) (f : Fault) → ((given : Result (List ℕ) ErrorKind) → less given → more given) →
-    IsTraceFault m name less f → IsTraceFault m name more f
-trace_fault_more m name less more f h (inl (kind, given, unread)) = inl (kind, h (Err kind) given, unread)
-trace_fault_more m name less more f h (inr (trace, given, faulty)) = inr (trace, h (Ok trace) given, faulty)
+trace_fault_more : (tells : Bool) (m : Machine) (name : List ℕ) (less more : Gives) (f : Fault) → ((given : Result (List ℕ) ErrorKind) → less given → more given) →
+    IsTraceFault tells m name less f → IsTraceFault tells m name more f
+trace_fault_more tells m name less more f h (inl (kind, given, unread)) = inl (kind, h (Err kind) given, unread)
+trace_fault_more tells m name less more f h (inr (trace, given, faulty)) = inr (trace, h (Ok trace) given, faulty)
 
 chart_fault_more : (chart : ChartJob) (m : Machine) (less more : Gives) (f : Fault) → ((given : Result (List ℕ) ErrorKind) → less given → more given) →
     IsChartFault chart m less f → IsChartFault chart m more f
 chart_fault_more chart m less more f h (inl is) = inl is
-chart_fault_more chart m less more f h (inr (right, inl (kind, given, unread))) = inr (right, inl (kind, h (Err kind) given, unread))
-chart_fault_more chart m less more f h (inr (right, inr (trace, given, faulty))) = inr (right, inr (trace, h (Ok trace) given, faulty))
-
-audit_fault_more : (tells : Bool) (m : Machine) (name : List ℕ) (less more : Gives) (f : Fault) → ((given : Result (List ℕ) ErrorKind) → less given → more given) →
-    IsAuditFault tells m name less f → IsAuditFault tells m name more f
-audit_fault_more false m name less more f h is = trace_fault_more m name less more f h is
-audit_fault_more true m name less more f h (inl (kind, given, unread)) = inl (kind, h (Err kind) given, unread)
-audit_fault_more true m name less more f h (inr (trace, given, faulty)) = inr (trace, h (Ok trace) given, faulty)
+chart_fault_more chart m less more f h (inr (right, is)) = inr (right, trace_fault_more true m chart.trace.now less more f h is)
 
 list_fault_more : (m : Machine) (list : List ℕ) (name : Option (List ℕ)) (less more : Gives) (f : Fault) →
     IfSome name (λ _. (given : Result (List ℕ) ErrorKind) → less given → more given) →
@@ -69,7 +62,7 @@ fault_more : (job : Job) (m : Result Machine TextFault) (less more : Gives) (f :
 fault_more job (Err e) less more f h is = is
 fault_more (Run file turns printed record_to expected) (Ok m) less more f h is = is
 fault_more (Replay file schedule rest printed expected) (Ok m) less more f h is = replay_fault_more m rest schedule.now less more f h is
-fault_more (Audit file name judged) (Ok m) less more f h is = audit_fault_more (tells_refusals judged) m name.now less more f h is
+fault_more (Audit file name judged) (Ok m) less more f h is = trace_fault_more (tells_refusals judged) m name.now less more f h is
 fault_more (Chart chart) (Ok m) less more f h is = chart_fault_more chart m less more f h is
 fault_more (Endings search) (Ok m) less more f h is = is
 fault_more (Lint file schedule) (Ok m) less more f h is = is
@@ -98,18 +91,18 @@ opened {File} opens gives job name file is o = by (second_file_of job) is
 -- What was done on a machine text and a trace was done on the files.
 pub done_more : (job : Job) (machine less more : Gives) (out : Takes) (keeps : Type 0) (status : ℕ) → IsMore job less more →
     IsDone job machine less out keeps status → IsDone job machine more out keeps status
-done_more job machine less more out keeps status h (text, told, lines, given, t, s, wrote, kept) =
-    (text, told, lines, given, told_more job less more told h t, s, wrote, kept)
+done_more job machine less more out keeps status h (text, read, lines, given, t, s, wrote, kept) =
+    (text, read, lines, given, told_more job less more read h t, s, wrote, kept)
 
 -- The same of what was reported.
 told_on : (job : Job) (machine less more : Gives) (is_fault : Fault → Type 0) (out : Takes) (keeps : Type 0) (faults : Takes) → IsMore job less more →
     ((f : Fault) → IsJobFault job machine less f → is_fault f) →
     IsNotDone job machine less (IsJobFault job machine less) out keeps faults → IsNotDone job machine more is_fault out keeps faults
 told_on job machine less more is_fault out keeps faults h on (inl (f, is, kept, reported)) = inl (f, on f is, kept, reported)
-told_on job machine less more is_fault out keeps faults h on (inr (inl (text, told, lines, status, given, t, s, wrote, reported))) =
-    inr (inl (text, told, lines, status, given, told_more job less more told h t, s, wrote, reported))
-told_on job machine less more is_fault out keeps faults h on (inr (inr (text, told, lines, number, given, t, s, cut, wrote, reported))) =
-    inr (inr (text, told, lines, number, given, told_more job less more told h t, s, cut, wrote, reported))
+told_on job machine less more is_fault out keeps faults h on (inr (inl (text, read, lines, status, given, t, s, wrote, reported))) =
+    inr (inl (text, read, lines, status, given, told_more job less more read h t, s, wrote, reported))
+told_on job machine less more is_fault out keeps faults h on (inr (inr (text, read, lines, number, given, t, s, cut, wrote, reported))) =
+    inr (inr (text, read, lines, number, given, told_more job less more read h t, s, cut, wrote, reported))
 
 pub not_done_alone : {File : Type 0} (opens : List ℕ → Result File ErrorKind → Type 0) (gives : File → Gives) (job : Job) (machine less : Gives)
     (out : Takes) (keeps : Type 0) (faults : Takes) → second_file_of job ≡ None → IsNotDone job machine less (IsJobFault job machine less) out keeps faults →
@@ -137,22 +130,22 @@ trace_refused opens gives job machine name kind f is refused unread =
 pub done_on_file : {File : Type 0} (opens : List ℕ → Result File ErrorKind → Type 0) (gives : File → Gives) (job : Job) (trace : Gives) (file : File)
     (out : Takes) (keeps : Type 0) (status : ℕ) → opens (file_of job) (Ok file) →
     IsDone job (gives file) trace out keeps status → IsDone job (FileGives opens gives (file_of job)) trace out keeps status
-done_on_file opens gives job trace file out keeps status o (text, told, lines, given, t, s, wrote, kept) =
-    (text, told, lines, (file, o, given), t, s, wrote, kept)
+done_on_file opens gives job trace file out keeps status o (text, read, lines, given, t, s, wrote, kept) =
+    (text, read, lines, (file, o, given), t, s, wrote, kept)
 
 -- What was reported for one reader is also reported for a reader that may give more.
 pub not_done_more : (job : Job) (machine wider trace : Gives) (is_fault is_other : Fault → Type 0) (out : Takes) (keeps : Type 0) (faults : Takes) →
     ((text : List ℕ) → machine (Ok text) → wider (Ok text)) → ((f : Fault) → is_fault f → is_other f) →
     IsNotDone job machine trace is_fault out keeps faults → IsNotDone job wider trace is_other out keeps faults
 not_done_more job machine wider trace is_fault is_other out keeps faults more on (inl (f, is, kept, reported)) = inl (f, on f is, kept, reported)
-not_done_more job machine wider trace is_fault is_other out keeps faults more on (inr (inl (text, told, lines, status, given, t, s, wrote, reported))) =
-    inr (inl (text, told, lines, status, more text given, t, s, wrote, reported))
-not_done_more job machine wider trace is_fault is_other out keeps faults more on (inr (inr (text, told, lines, number, given, t, s, cut, wrote, reported))) =
-    inr (inr (text, told, lines, number, more text given, t, s, cut, wrote, reported))
+not_done_more job machine wider trace is_fault is_other out keeps faults more on (inr (inl (text, read, lines, status, given, t, s, wrote, reported))) =
+    inr (inl (text, read, lines, status, more text given, t, s, wrote, reported))
+not_done_more job machine wider trace is_fault is_other out keeps faults more on (inr (inr (text, read, lines, number, given, t, s, cut, wrote, reported))) =
+    inr (inr (text, read, lines, number, more text given, t, s, cut, wrote, reported))
 
 -- What was done on the file of the machine text is true of the machine there.
 pub truly_on_file : {File : Type 0} (opens : List ℕ → Result File ErrorKind → Type 0) (gives : File → Gives) (job : Job) (trace : Gives)
     (file : File) (out : Takes) (keeps : Type 0) (status : ℕ) → opens (file_of job) (Ok file) → IsDone job (gives file) trace out keeps status →
     IsTrulyDone job (FileGives opens gives (file_of job)) trace out status
-truly_on_file opens gives job trace file out keeps status o (text, told, lines, given, t, s, wrote, kept) =
-    (text, told, lines, s.machine, (file, o, given), s.declares, t, true_on job text s.machine told lines status s.shown, wrote)
+truly_on_file opens gives job trace file out keeps status o (text, read, lines, given, t, s, wrote, kept) =
+    (text, read, lines, s.machine, (file, o, given), s.declares, t, true_on job text s.machine read lines status s.shown, wrote)

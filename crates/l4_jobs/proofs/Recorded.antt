@@ -136,9 +136,9 @@ never_1 r machine lines text status made one = by (made_status r machine lines t
 
 -- What was recorded is done.
 
-shown_made : (r : Recording) (machine : Gives) (lines text told : List ℕ) (status : ℕ) (made : IsMade (job_of r) machine lines text status) →
-    IsShown (job_of r) made.text told lines status
-shown_made r machine lines text told status made = record {
+shown_made : (r : Recording) (machine : Gives) (lines text read : List ℕ) (status : ℕ) (made : IsMade (job_of r) machine lines text status) →
+    IsShown (job_of r) made.text read lines status
+shown_made r machine lines text read status made = record {
   machine = made.on;
   declares = made.declares;
   shown = as_run r.printed made.on r.turns lines text status made.recorded;

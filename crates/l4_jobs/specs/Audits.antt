@@ -1,5 +1,5 @@
 -- The audit of the text of a trace, its line and its fault.
-use Rattle.std.specs.Prelude.{◌≡◌, ◌↔◌, ◌+◌, ◌||◌, ℕ, Bool, true, if◌then◌else◌, Some, Result, Ok, Err, List, [], ◌∷◌, ◌++◌, length, slice_get, take, codes, decimal}
+use Rattle.std.specs.Prelude.{◌≡◌, ◌↔◌, ◌⊎◌, ◌+◌, ◌||◌, ℕ, Bool, true, false, if◌then◌else◌, Option, Some, Result, Ok, Err, List, [], ◌∷◌, ◌++◌, length, slice_get, take, codes, decimal}
 use Rattle.l4_model.specs.Machine.{Machine}
 use Rattle.l4_model.specs.Steps.{Step}
 use Rattle.l4_model.specs.World.{World}
@@ -13,9 +13,8 @@ use Rattle.l4_audit.specs.declared.reasons.Reason.{Reason}
 use Rattle.l4_commands.specs.declared.job.Judged.{Judged}
 use Rattle.l4_explain.specs.Worlds.{explanation}
 use Rattle.l4_reports.specs.ReportLines.{ending_word, report_text}
-use Rattle.l4_trace.specs.Forward.{Ahead}
-use Rattle.l4_trace.specs.Lines.{line_of_words}
-use Rattle.l4_trace.specs.Reading.{steps_of}
+use Rattle.l4_trace.specs.Lines.{IsTraceOf, line_of_words}
+use Rattle.l4_trace.specs.Reading.{HasFaultAt}
 use Rattle.l4_types.specs.declared.reports.Ending.{Ending}
 use Rattle.l4_jobs.specs.declared.audits.PassedTrace.{PassedTrace}
 use Rattle.l4_jobs.specs.declared.fault.Fault.{Fault}
@@ -24,7 +23,7 @@ use Rattle.l4_jobs.specs.declared.fault.Fault.TheVariants as fault
 -- Each line spells a step, and the steps are a history with this number of steps and this ending.
 pub record HasPassed (m : Machine) (text : List ℕ) (passed : PassedTrace) : Type 0 where
   pub steps : List Step
-  pub reads : steps_of text ≡ Ok steps
+  pub reads : IsTraceOf text steps
   pub counted : passed.steps ≡ length steps
   pub world : World
   pub reaches : reached m steps ≡ Some world
@@ -35,10 +34,23 @@ abbrev pub fault_of_rest : (place : ℕ) → Result (List Step) ℕ → Fault
 fault_of_rest place (Ok steps) = fault.Refused place
 fault_of_rest place (Err behind) = fault.Trace (place + behind)
 
--- The fault of a text, by the fault of the last step that was read.
-abbrev pub fault_behind : Ahead → StepFault → Fault
-fault_behind ahead NoMemory = fault.NoMemory
-fault_behind ahead (Refused reason) = fault_of_rest ahead.read (steps_of ahead.rest)
+-- The fault of a text, by what is read behind so many steps and by the fault of the last of these.
+abbrev pub fault_behind : (place : ℕ) → Result (List Step) ℕ → StepFault → Fault
+fault_behind place rest NoMemory = fault.NoMemory
+fault_behind place rest (Refused reason) = fault_of_rest place rest
+
+-- Each line spells a step, and the first step that is not possible has this number, if there is one.
+abbrev pub IsRefusedAt : Machine → (trace : List ℕ) → (number : Option ℕ) → Type 0
+IsRefusedAt m trace number =
+    (steps : List Step) × IsTraceOf trace steps × (refused_place m steps ≡ number)
+
+-- The fault of a trace: its first line that spells no step, else its first step that is not
+-- possible. Where such a step is told of, it is no fault.
+abbrev pub IsFaultOfTrace : (tells : Bool) → Machine → (trace : List ℕ) → Fault → Type 0
+IsFaultOfTrace tells m trace f =
+    ((line : ℕ) × (f ≡ fault.Trace line) × HasFaultAt trace line)
+    ⊎ ((number : ℕ) × (f ≡ fault.Refused number) × (tells ≡ false)
+    × IsRefusedAt m trace (Some number))
 
 -- The line of an audit that a trace of so many steps passed.
 abbrev pub passed_line : (steps : ℕ) → Ending → List ℕ
@@ -65,7 +77,7 @@ explanation_where asked m w r = if asked then explanation m w r else []
 pub record IsRefused (judged : Judged) (m : Machine) (trace lines : List ℕ) : Type 0 where
   pub asked : tells_refusals judged ≡ true
   pub steps : List Step
-  pub reads : steps_of trace ≡ Ok steps
+  pub reads : IsTraceOf trace steps
   pub taken : ℕ
   pub first : refused_place m steps ≡ Some (taken + 1)
   pub world : World

@@ -11,7 +11,7 @@ use Rattle.l4_chart.specs.Threads.{threads_of}
 use Rattle.l4_chart.specs.Windows.{Part, until_refused}
 use Rattle.l4_chart.specs.declared.threads.ThreadsFault.{ThreadsFault}
 use Rattle.l4_chart.specs.declared.threads.ThreadsFault.TheVariants as threads_fault
-use Rattle.l4_trace.specs.Reading.{steps_of}
+use Rattle.l4_trace.specs.Lines.{IsTraceOf}
 use Rattle.l4_jobs.specs.declared.fault.Fault.{Fault}
 use Rattle.l4_jobs.specs.declared.fault.Fault.TheVariants as fault
 use Rattle.l4_chart.specs.declared.drawing.Form.{Form}
@@ -59,12 +59,12 @@ pub record IsCharted (chart : ChartJob) (m : Machine) (trace lines : List ℕ) (
   pub threads : Option (List GlobalId)
   pub chosen : chosen_by m chart ≡ Ok threads
   pub steps : List Step
-  pub reads : steps_of trace ≡ Ok steps
+  pub reads : IsTraceOf trace steps
   pub drawn : IsDrawing (drawing_form chart.form) (width_of chart) (columns_of m threads)
       (rows_of m (until_refused (refused_place m steps) (part_of chart threads)) steps) lines
   pub status_is : status ≡ status_of_refused (refused_place m steps)
 
--- The fault of a chart: that of its list of threads, else that of a line that spells no step.
+-- The fault of its list of threads.
 abbrev pub fault_of_list : ThreadsFault → Fault
 fault_of_list threads_fault.NoMemory = fault.NoMemory
 fault_of_list (threads_fault.Item number) = fault.Threads number
@@ -72,20 +72,3 @@ fault_of_list (threads_fault.Item number) = fault.Threads number
 abbrev pub fault_of_threads : Result (Option (List GlobalId)) ℕ → Option Fault
 fault_of_threads (Ok threads) = None
 fault_of_threads (Err number) = Some (fault.Threads number)
-
-abbrev pub fault_of_lines : Result (List Step) ℕ → Option Fault
-fault_of_lines (Ok steps) = None
-fault_of_lines (Err line) = Some (fault.Trace line)
-
-abbrev pub or_later : Option Fault → Option Fault → Option Fault
-or_later None later = later
-or_later (Some f) later = Some f
-
-abbrev pub fault_of_chart : ChartJob → Machine → (trace : List ℕ) → Option Fault
-fault_of_chart chart m trace = or_later (fault_of_threads (chosen_by m chart))
-    (fault_of_lines (steps_of trace))
-
--- The first step of a trace that is not possible.
-abbrev pub refused_of_steps : Machine → Result (List Step) ℕ → Option ℕ
-refused_of_steps m (Ok steps) = refused_place m steps
-refused_of_steps m (Err line) = None

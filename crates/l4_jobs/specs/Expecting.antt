@@ -25,16 +25,16 @@ use Rattle.l4_jobs.specs.Streams.{FileGives}
 use Rattle.l4_jobs.specs.declared.fault.Fault.{Fault}
 use Rattle.l4_jobs.specs.declared.fault.Fault.TheVariants as fault
 
--- These lines are printed of a core run, `told` is what its report does not meet, and this is the
+-- These lines are printed of a core run, `unmet` is what its report does not meet, and this is the
 -- exit status. The report is judged whether it is printed or not.
 pub record IsRunExpected (printed : Printed) (m : Machine) (IsAsked : CoreRun → Type 0)
-    (expected : List Expected) (lines told : List ℕ) (status : ℕ) : Type 0 where
+    (expected : List Expected) (lines unmet : List ℕ) (status : ℕ) : Type 0 where
   pub findings : Findings
   pub run : CoreRun
   pub is : IsAsked run
   pub of_run : IsOutcomeOf m run findings
   pub written : IsWritten printed m findings lines
-  pub told_is : told ≡ unmet_text (lines_of_outcome true findings) expected
+  pub unmet_is : unmet ≡ unmet_text (lines_of_outcome true findings) expected
   pub status_is :
       status
       ≡ expected_status (are_met (lines_of_outcome true findings) expected)
@@ -42,14 +42,14 @@ pub record IsRunExpected (printed : Printed) (m : Machine) (IsAsked : CoreRun �
 
 -- The same for each job that may have expectations. In a search, each ending that is printed has to
 -- meet them.
-abbrev pub IsExpectedOn : Course → Machine → List Expected → (list lines told : List ℕ) →
+abbrev pub IsExpectedOn : Course → Machine → List Expected → (list lines unmet : List ℕ) →
     (status : ℕ) → Type 0
-IsExpectedOn (course.Run turns printed) m expected list lines told status =
-    IsRunExpected printed m (IsRunAsked m turns) expected lines told status
-IsExpectedOn (course.Replay schedule rest printed) m expected list lines told status =
-    IsRunExpected printed m (IsReplayAsked m rest schedule.now list) expected lines told status
-IsExpectedOn (course.Endings search) m expected list lines told status =
-    IsAnsweredBeside m (question_of search) search.waits (Some expected) lines told status
+IsExpectedOn (course.Run turns printed) m expected list lines unmet status =
+    IsRunExpected printed m (IsRunAsked m turns) expected lines unmet status
+IsExpectedOn (course.Replay schedule rest printed) m expected list lines unmet status =
+    IsRunExpected printed m (IsReplayAsked m rest schedule.now list) expected lines unmet status
+IsExpectedOn (course.Endings search) m expected list lines unmet status =
+    IsAnsweredBeside m (question_of search) search.waits (Some expected) lines unmet status
 
 -- Runs to one ending may differ in parts of their reports, so a search can't expect these.
 abbrev pub scope_of : Course → Scope
@@ -60,7 +60,7 @@ scope_of _ = scope.OneRun
 -- list where it is in a file. These are what is printed and what is not met.
 pub record IsExpectedFor (e : Expecting)
     (machine list expectations : Result (List ℕ) ErrorKind → Type 0)
-    (lines told : List ℕ) (status : ℕ) : Type 0 where
+    (lines unmet : List ℕ) (status : ℕ) : Type 0 where
   pub text : List ℕ
   pub given : machine (Ok text)
   pub on : Machine
@@ -71,7 +71,7 @@ pub record IsExpectedFor (e : Expecting)
   pub reads : expectations_of (scope_of e.course) asked ≡ Ok expected
   pub entries : List ℕ
   pub goes_by : IsRead (list_file_of e.course) list entries
-  pub is : IsExpectedOn e.course on expected entries lines told status
+  pub is : IsExpectedOn e.course on expected entries lines unmet status
 
 -- Why nothing is printed. The text is judged first, then the expectations, and then the turns, the
 -- list or the limits of the search.
@@ -114,10 +114,10 @@ IsExpectFault e machine list expectations f =
 
 -- What is not met was written to the faults once, behind the lines, or all is met and nothing was
 -- written. If the writer did not take all of it, only the status tells.
-abbrev pub IsSaidOf : (told : List ℕ) → (takes : (bytes : List ℕ) → (all : Bool) → Type 0) →
+abbrev pub IsSaidOf : (unmet : List ℕ) → (takes : (bytes : List ℕ) → (all : Bool) → Type 0) →
     (keeps : Type 0) → Type 0
 IsSaidOf [] takes keeps = keeps
-IsSaidOf (byte ∷ told) takes keeps = (all : Bool) × takes (byte ∷ told) all
+IsSaidOf (byte ∷ unmet) takes keeps = (all : Bool) × takes (byte ∷ unmet) all
 
 -- The lines were written, and then what is not met.
 abbrev pub IsExpectDone : Expecting →
@@ -125,9 +125,9 @@ abbrev pub IsExpectDone : Expecting →
     (out : List ℕ → Bool → Type 0) → (keeps_faults : Type 0) →
     (faults : List ℕ → Bool → Type 0) → (status : ℕ) → Type 0
 IsExpectDone e machine list expectations out keeps_faults faults status =
-    (lines : List ℕ) × (told : List ℕ)
-    × IsExpectedFor e machine list expectations lines told status × out lines true
-    × IsSaidOf told faults keeps_faults
+    (lines : List ℕ) × (unmet : List ℕ)
+    × IsExpectedFor e machine list expectations lines unmet status × out lines true
+    × IsSaidOf unmet faults keeps_faults
 
 -- Nothing was written, and the fault was reported; or the lines were not written whole, and only
 -- that was reported.
@@ -137,8 +137,8 @@ abbrev pub IsNotExpected : Expecting →
     (faults : List ℕ → Bool → Type 0) → Type 0
 IsNotExpected e machine list expectations is_fault out keeps_out faults =
     ((f : Fault) × is_fault f × keeps_out × IsReported faults f)
-    ⊎ ((lines : List ℕ) × (told : List ℕ) × (status : ℕ)
-    × IsExpectedFor e machine list expectations lines told status × out lines false
+    ⊎ ((lines : List ℕ) × (unmet : List ℕ) × (status : ℕ)
+    × IsExpectedFor e machine list expectations lines unmet status × out lines false
     × IsReported faults fault.Write)
 
 -- The exit statuses of a job with expectations. 4 stands for an expectation that is not met, or for

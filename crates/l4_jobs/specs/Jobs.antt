@@ -6,7 +6,7 @@ use Rattle.std.specs.declared.io.ErrorKind.TheVariants.{OutOfMemory}
 use Rattle.l4_model.specs.Machine.{Machine}
 use Rattle.l4_model.specs.Steps.{Step}
 use Rattle.l4_model.specs.World.{World}
-use Rattle.l4_model.specs.History.{reached, refused_place, view, waiting as undecided_sends}
+use Rattle.l4_model.specs.History.{reached, view, waiting as undecided_sends}
 use Rattle.l4_model.specs.Still.{IsStill}
 use Rattle.l4_core_model.specs.Runs.{Run as CoreRun, told, at_rest}
 use Rattle.l4_choices.specs.Entries.{Entry, replay_entries}
@@ -26,13 +26,12 @@ use Rattle.l4_reports.specs.ReportLines.{ending_at_rest, report_text}
 use Rattle.l4_rounds.specs.ThenRest.{rest_fault, then_rest}
 use Rattle.l4_schedules.specs.InFiles.{schedule_in_file}
 use Rattle.l4_schedules.specs.Items.{schedule_of}
-use Rattle.l4_trace.specs.Lines.{trace_of}
-use Rattle.l4_trace.specs.Reading.{steps_of}
+use Rattle.l4_trace.specs.Lines.{IsTraceOf, trace_of}
 use Rattle.l4_trace.specs.declared.fault.TraceFault.{TraceFault}
 use Rattle.l4_trace.specs.declared.fault.TraceFault.TheVariants as trace_fault
 use Rattle.l4_commands.specs.Files.{file_of, list_name, second_file_of}
-use Rattle.l4_jobs.specs.Audits.{IsRefused, passed_line, report_where, tells_refusals}
-use Rattle.l4_jobs.specs.ChartJobs.{IsCharted, chosen_by, fault_of_chart, fault_of_lines, fault_of_threads, refused_of_steps}
+use Rattle.l4_jobs.specs.Audits.{IsFaultOfTrace, IsRefused, IsRefusedAt, passed_line, report_where, tells_refusals}
+use Rattle.l4_jobs.specs.ChartJobs.{IsCharted, chosen_by, fault_of_threads}
 use Rattle.l4_jobs.specs.Extras.{behind}
 use Rattle.l4_jobs.specs.FaultLines.{IsReported, fault_line}
 use Rattle.l4_jobs.specs.Searches.{IsFoundBy, fault_of_search}
@@ -53,8 +52,8 @@ IsRead None gives text = Unit {0}
 IsRead (Some name) gives text = gives (Ok text)
 
 -- The trace or the list that a job reads.
-abbrev pub IsTold : Job → (gives : Result (List ℕ) ErrorKind → Type 0) → (told : List ℕ) → Type 0
-IsTold job gives told = IsRead (second_file_of job) gives told
+abbrev pub IsTold : Job → (gives : Result (List ℕ) ErrorKind → Type 0) → (read : List ℕ) → Type 0
+IsTold job gives read = IsRead (second_file_of job) gives read
 
 -- The fault of this file that can't be read, by the kind of the error.
 abbrev pub Names : (file : List ℕ) → Fault → Type 0
@@ -134,61 +133,21 @@ abbrev pub fault_of_reading : TraceFault → Fault
 fault_of_reading trace_fault.NoMemory = fault.NoMemory
 fault_of_reading (trace_fault.Line line) = fault.Trace line
 
--- The trace has a line that spells no step, or a step that is not possible.
-abbrev pub fault_of_steps : Machine → Result (List Step) ℕ → Option Fault
-fault_of_steps m (Err line) = Some (fault.Trace line)
-fault_of_steps m (Ok steps) = option_map fault.Refused (refused_place m steps)
-
-abbrev pub fault_of_trace : Machine → (trace : List ℕ) → Option Fault
-fault_of_trace m trace = fault_of_steps m (steps_of trace)
-
--- The fault of an audit. Where it tells of a refused step, that step is none.
-abbrev pub fault_of_audit : (tells : Bool) → Machine → (trace : List ℕ) → Option Fault
-fault_of_audit true m trace = fault_of_lines (steps_of trace)
-fault_of_audit false m trace = fault_of_trace m trace
-
-abbrev pub fault_of_job : Job → Machine → (trace : List ℕ) → Option Fault
-fault_of_job (Run file turns printed record_to expected) m trace = fault_of_turns turns
-fault_of_job (Replay file schedule rest printed expected) m text =
-    fault_of_result (run_by_list m rest schedule.now text)
-fault_of_job (Audit file name judged) m trace = fault_of_audit (tells_refusals judged) m trace
-fault_of_job (Chart chart) m trace = fault_of_chart chart m trace
-fault_of_job (Endings search) m trace = fault_of_search search
-fault_of_job (Lint file schedule) m trace = None
-
-abbrev pub fault_on : Job → Result Machine TextFault → (trace : List ℕ) → Option Fault
-fault_on job (Err f) trace = Some (text_fault f.line f.kind)
-fault_on job (Ok m) trace = fault_of_job job m trace
-
-abbrev pub fault_of : Job → (text trace : List ℕ) → Option Fault
-fault_of job text trace = fault_on job (machine_of_text text) trace
-
 -- Why a job prints nothing: memory was refused, the machine text can't be read, or the text, or the
 -- job on its machine, has this fault. A trace is read only where there is a machine to audit it on.
-abbrev pub IsTraceFault : Machine → (name : List ℕ) → (gives : Result (List ℕ) ErrorKind → Type 0) →
-    Fault → Type 0
-IsTraceFault m name gives f =
-    ((kind : ErrorKind) × gives (Err kind) × IsUnread name kind f) ⊎
-    ((trace : List ℕ) × gives (Ok trace) × (fault_of_trace m trace ≡ Some f))
-
--- The same where an audit tells of a refused step, and for a chart whose list of threads has no
--- fault.
-abbrev pub IsLinesFault : (name : List ℕ) → (gives : Result (List ℕ) ErrorKind → Type 0) →
-    Fault → Type 0
-IsLinesFault name gives f =
-    ((kind : ErrorKind) × gives (Err kind) × IsUnread name kind f)
-    ⊎ ((trace : List ℕ) × gives (Ok trace) × (fault_of_lines (steps_of trace) ≡ Some f))
-
-abbrev pub IsAuditFault : (tells : Bool) → Machine → (name : List ℕ) →
+abbrev pub IsTraceFault : (tells : Bool) → Machine → (name : List ℕ) →
     (gives : Result (List ℕ) ErrorKind → Type 0) → Fault → Type 0
-IsAuditFault true m name gives f = IsLinesFault name gives f
-IsAuditFault false m name gives f = IsTraceFault m name gives f
+IsTraceFault tells m name gives f =
+    ((kind : ErrorKind) × gives (Err kind) × IsUnread name kind f)
+    ⊎ ((trace : List ℕ) × gives (Ok trace) × IsFaultOfTrace tells m trace f)
 
+-- The fault of a chart: that of its list of threads, else that of its trace. It tells of a refused
+-- step.
 abbrev pub IsChartFault : ChartJob → Machine → (gives : Result (List ℕ) ErrorKind → Type 0) →
     Fault → Type 0
 IsChartFault chart m gives f =
     (fault_of_threads (chosen_by m chart) ≡ Some f)
-    ⊎ ((fault_of_threads (chosen_by m chart) ≡ None) × IsLinesFault chart.trace.now gives f)
+    ⊎ ((fault_of_threads (chosen_by m chart) ≡ None) × IsTraceFault true m chart.trace.now gives f)
 
 -- The fault of a replay's schedule. A list in a file is read only where there is a machine to judge
 -- it on.
@@ -223,7 +182,7 @@ IsFaultOn (Run file turns printed record_to expected) m trace f = fault_of_turns
 IsFaultOn (Replay file schedule rest printed expected) m list f =
     IsReplayFault m rest schedule.now list f
 IsFaultOn (Audit file name judged) m trace f =
-    IsAuditFault (tells_refusals judged) m name.now trace f
+    IsTraceFault (tells_refusals judged) m name.now trace f
 IsFaultOn (Chart chart) m trace f = IsChartFault chart m trace f
 IsFaultOn (Endings search) m trace f = fault_of_search search ≡ Some f
 IsFaultOn (Lint file schedule) m trace f = ⊥
@@ -238,6 +197,11 @@ IsJobFault job machine trace f =
     (f ≡ fault.NoMemory)
     ⊎ ((kind : ErrorKind) × machine (Err kind) × IsUnread (file_of job) kind f)
     ⊎ ((text : List ℕ) × machine (Ok text) × IsFaultOf job (machine_of_text text) trace f)
+
+-- The job has a fault for this text and this trace or list.
+abbrev pub IsFaulty : Job → (text read : List ℕ) → Type 0
+IsFaulty job text read =
+    (f : Fault) × IsFaultOf job (machine_of_text text) (λ given. given ≡ Ok read) f
 
 -- What reading the trace or the list of a job may give, where it has one.
 abbrev pub TraceGives : {File : Type 0} → (opens : List ℕ → Result File ErrorKind → Type 0) →
@@ -327,7 +291,7 @@ pub record IsRunShown (printed : Printed) (machine : Machine) (IsAsked : CoreRun
 -- behind them. What is asked for follows.
 pub record IsPassed (judged : Judged) (machine : Machine) (trace lines : List ℕ) : Type 0 where
   pub steps : List Step
-  pub reads : steps_of trace ≡ Ok steps
+  pub reads : IsTraceOf trace steps
   pub world : World
   pub reaches : reached machine steps ≡ Some world
   pub ending : Ending
@@ -342,31 +306,31 @@ IsAudited judged m trace lines status =
     (IsPassed judged m trace lines × (status ≡ 0)) ⊎ (IsRefused judged m trace lines × (status ≡ 1))
 
 -- What a job prints for a text on the machine that it declares, and the exit status.
-abbrev pub IsShownOn : Job → (text : List ℕ) → Machine → (told lines : List ℕ) → (status : ℕ) →
+abbrev pub IsShownOn : Job → (text : List ℕ) → Machine → (read lines : List ℕ) → (status : ℕ) →
     Type 0
-IsShownOn (Run file turns printed record_to expected) text m told lines status =
+IsShownOn (Run file turns printed record_to expected) text m read lines status =
     IsRunShown printed m (IsRunAsked m turns) lines status
-IsShownOn (Replay file schedule rest printed expected) text m told lines status =
-    IsRunShown printed m (IsReplayAsked m rest schedule.now told) lines status
-IsShownOn (Audit file name judged) text m told lines status = IsAudited judged m told lines status
-IsShownOn (Chart chart) text m told lines status = IsCharted chart m told lines status
-IsShownOn (Endings search) text m told lines status =
+IsShownOn (Replay file schedule rest printed expected) text m read lines status =
+    IsRunShown printed m (IsReplayAsked m rest schedule.now read) lines status
+IsShownOn (Audit file name judged) text m read lines status = IsAudited judged m read lines status
+IsShownOn (Chart chart) text m read lines status = IsCharted chart m read lines status
+IsShownOn (Endings search) text m read lines status =
     IsFoundBy search m lines status
-IsShownOn (Lint file schedule) text m told lines status =
+IsShownOn (Lint file schedule) text m read lines status =
     (lines ≡ doubts_text (doubts_of text)) × (status ≡ 0)
 
 -- What a job prints is true of the machine.
-abbrev pub IsTrueOn : Job → (text : List ℕ) → Machine → (told lines : List ℕ) → (status : ℕ) →
+abbrev pub IsTrueOn : Job → (text : List ℕ) → Machine → (read lines : List ℕ) → (status : ℕ) →
     Type 0
-IsTrueOn (Run file turns printed record_to expected) text m told lines status =
+IsTrueOn (Run file turns printed record_to expected) text m read lines status =
     IsTrueShown printed m lines status
-IsTrueOn (Replay file schedule rest printed expected) text m told lines status =
+IsTrueOn (Replay file schedule rest printed expected) text m read lines status =
     IsTrueShown printed m lines status
-IsTrueOn (Audit file name judged) text m told lines status = IsAudited judged m told lines status
-IsTrueOn (Chart chart) text m told lines status = IsCharted chart m told lines status
-IsTrueOn (Endings search) text m told lines status =
+IsTrueOn (Audit file name judged) text m read lines status = IsAudited judged m read lines status
+IsTrueOn (Chart chart) text m read lines status = IsCharted chart m read lines status
+IsTrueOn (Endings search) text m read lines status =
     IsFoundBy search m lines status
-IsTrueOn (Lint file schedule) text m told lines status =
+IsTrueOn (Lint file schedule) text m read lines status =
     (lines ≡ doubts_text (doubts_of text)) × (status ≡ 0)
 
 -- Only a search that should find nothing may have status 4.
@@ -390,8 +354,8 @@ abbrev pub IsDone : Job → (machine trace : Result (List ℕ) ErrorKind → Typ
     (out : List ℕ → Bool → Type 0) → (keeps_faults : Type 0) →
     (status : ℕ) → Type 0
 IsDone job machine trace out keeps_faults status =
-    (text : List ℕ) × (told : List ℕ) × (lines : List ℕ) × machine (Ok text) ×
-    IsTold job trace told × IsShown job text told lines status
+    (text : List ℕ) × (read : List ℕ) × (lines : List ℕ) × machine (Ok text) ×
+    IsTold job trace read × IsShown job text read lines status
     × out lines true × keeps_faults
 
 -- The reader gave a text that declares a machine, and the lines that the job wrote once are true of
@@ -405,21 +369,19 @@ IsTrulyDone job machine trace out status =
 
 -- The first step that is not possible, of a trace that is drawn or whose audit tells of such a
 -- step. No other job prints anything of one.
-abbrev pub refused_of_audit : (tells : Bool) → Machine → (trace : List ℕ) → Option ℕ
-refused_of_audit true m trace = refused_of_steps m (steps_of trace)
-refused_of_audit false m trace = None
+abbrev pub IsRefusedBy : (tells : Bool) → Machine → (trace : List ℕ) → Option ℕ → Type 0
+IsRefusedBy true m trace refused = IsRefusedAt m trace refused
+IsRefusedBy false m trace refused = refused ≡ None
 
-abbrev pub refused_on : Job → Machine → (trace : List ℕ) → Option ℕ
-refused_on (Run file turns printed record_to expected) m trace = None
-refused_on (Replay file schedule rest printed expected) m trace = None
-refused_on (Audit file name judged) m trace = refused_of_audit (tells_refusals judged) m trace
-refused_on (Chart chart) m trace = refused_of_steps m (steps_of trace)
-refused_on (Endings search) m trace = None
-refused_on (Lint file schedule) m trace = None
+abbrev pub IsRefusedOn : Job → Machine → (trace : List ℕ) → Option ℕ → Type 0
+IsRefusedOn (Audit file name judged) m trace refused =
+    IsRefusedBy (tells_refusals judged) m trace refused
+IsRefusedOn (Chart chart) m trace refused = IsRefusedAt m trace refused
+IsRefusedOn _ m trace refused = refused ≡ None
 
-abbrev pub refused_in : Job → Result Machine TextFault → (trace : List ℕ) → Option ℕ
-refused_in job (Err f) trace = None
-refused_in job (Ok m) trace = refused_on job m trace
+abbrev pub IsRefusedIn : Job → Result Machine TextFault → (trace : List ℕ) → Option ℕ → Type 0
+IsRefusedIn job (Err f) trace refused = refused ≡ None
+IsRefusedIn job (Ok m) trace refused = IsRefusedOn job m trace refused
 
 -- A job ended with status 1. Either nothing was written, and its fault was reported. Or writing its
 -- lines failed, and that was reported. Or they were written, and then the first step that is not
@@ -429,12 +391,12 @@ abbrev pub IsNotDone : Job → (machine trace : Result (List ℕ) ErrorKind → 
     (keeps_out : Type 0) → (faults : List ℕ → Bool → Type 0) → Type 0
 IsNotDone job machine trace is_fault out keeps_out faults =
     ((f : Fault) × is_fault f × keeps_out × IsReported faults f)
-    ⊎ ((text : List ℕ) × (told : List ℕ) × (lines : List ℕ) × (status : ℕ) × machine (Ok text) ×
-    IsTold job trace told
-    × IsShown job text told lines status × out lines false × IsReported faults fault.Write)
-    ⊎ ((text : List ℕ) × (told : List ℕ) × (lines : List ℕ) × (number : ℕ) × machine (Ok text) ×
-    IsTold job trace told
-    × IsShown job text told lines 1 × (refused_in job (machine_of_text text) told ≡ Some number) ×
+    ⊎ ((text : List ℕ) × (read : List ℕ) × (lines : List ℕ) × (status : ℕ) × machine (Ok text) ×
+    IsTold job trace read
+    × IsShown job text read lines status × out lines false × IsReported faults fault.Write)
+    ⊎ ((text : List ℕ) × (read : List ℕ) × (lines : List ℕ) × (number : ℕ) × machine (Ok text) ×
+    IsTold job trace read
+    × (shown : IsShown job text read lines 1) × IsRefusedAt shown.machine read (Some number) ×
     out lines true × IsReported faults (fault.Refused number))
 
 -- The line of a step that is not possible. It is made before anything is written.

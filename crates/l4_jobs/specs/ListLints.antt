@@ -16,12 +16,12 @@ use Rattle.l4_jobs.specs.declared.fault.Fault.{Fault}
 use Rattle.l4_jobs.specs.declared.fault.Fault.TheVariants as fault
 
 -- The faults of a list, or of the list in a file.
-abbrev pub named_faults : Machine → (name : Option (List ℕ)) → (list told : List ℕ) → List ListFault
-named_faults m None list told = list_faults m list
-named_faults m (Some name) list told = file_faults m told
+abbrev pub named_faults : Machine → (name : Option (List ℕ)) → (list text : List ℕ) → List ListFault
+named_faults m None list text = list_faults m list
+named_faults m (Some name) list text = file_faults m text
 
-abbrev pub asked_faults : Machine → (list told : List ℕ) → List ListFault
-asked_faults m list told = named_faults m (list_name list) list told
+abbrev pub asked_faults : Machine → (list text : List ℕ) → List ListFault
+asked_faults m list text = named_faults m (list_name list) list text
 
 abbrev pub status_of_list : List ListFault → ℕ
 status_of_list found = if length found == 0 then 0 else 1
@@ -32,9 +32,9 @@ abbrev pub IsListLintOn : Result Machine TextFault → (text list : List ℕ) �
     (gives : Result (List ℕ) ErrorKind → Type 0) → (lines : List ℕ) → (status : ℕ) → Type 0
 IsListLintOn (Err f) text list gives lines status = IsLintOf text lines status
 IsListLintOn (Ok m) text list gives lines status =
-    (told : List ℕ) × IsRead (list_name list) gives told
-    × (lines ≡ lint_text text ++ faults_text (asked_faults m list told))
-    × (status ≡ status_of_list (asked_faults m list told))
+    (read : List ℕ) × IsRead (list_name list) gives read
+    × (lines ≡ lint_text text ++ faults_text (asked_faults m list read))
+    × (status ≡ status_of_list (asked_faults m list read))
 
 abbrev pub IsListLintOf : (text list : List ℕ) →
     (gives : Result (List ℕ) ErrorKind → Type 0) → (lines : List ℕ) → (status : ℕ) → Type 0

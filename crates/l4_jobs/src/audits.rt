@@ -1,12 +1,13 @@
 //! The audit of a trace, and the line that it prints.
 ghost use Rattle.std.specs.Prelude.{◌≡◌, ◌⊎◌, ◌++◌, ℕ, List, false, true, length, IfOk, IfErr, Ok, Some};
-ghost use Rattle.l4_jobs.specs.Audits.{HasPassed, fault_behind, passed_line, tells_refusals};
-ghost use Rattle.l4_jobs.specs.ChartJobs.{fault_of_lines, refused_of_steps};
+ghost use Rattle.l4_jobs.specs.Audits.{HasPassed, IsFaultOfTrace, IsRefusedAt};
+ghost use Rattle.l4_jobs.specs.Audits.{fault_behind, passed_line, tells_refusals};
 ghost use Rattle.l4_jobs.specs.Extras.{behind};
-ghost use Rattle.l4_jobs.specs.Jobs.{IsAudited, IsPassed, fault_of_trace};
+ghost use Rattle.l4_jobs.specs.Jobs.{IsAudited, IsPassed};
 ghost use Rattle.l4_jobs.specs.declared.fault.Fault.TheVariants.{NoMemory as OutOfMemory};
 ghost use Rattle.l4_model.specs.History.{IsHistory, reached, refused_place};
 ghost use Rattle.l4_model.specs.World.{World};
+ghost use Rattle.l4_trace.specs.Lines.{IsTraceOf};
 ghost use Rattle.l4_trace.specs.Reading.{steps_of};
 
 use crate::extras::write_extras;
@@ -47,7 +48,7 @@ pub fn audit_text<'a>(
 ) -> Result<PassedTrace, Fault<'a>>
     ensures ok { IfOk result (HasPassed machine.now text.now) }
     ensures err { IfErr result (λ fault. (fault ≡ OutOfMemory) ⊎
-        (fault_of_trace machine.now text.now ≡ Some fault)) }
+        IsFaultOfTrace false machine.now text.now fault) }
 {
     let mut auditor = Auditor::new(alloc, machine)?;
     let mut reader = Reader::of(text);
@@ -66,7 +67,7 @@ pub fn audit_text<'a>(
 
 // The fault of a trace with a refused step. A faulty line after that step comes first.
 fn fault_behind<'a>(reader: Reader<'_>, refused: StepFault) -> Fault<'a>
-    ensures { result ≡ fault_behind reader.entry refused }
+    ensures { result ≡ fault_behind reader.entry.read (steps_of reader.entry.rest) refused }
 {
     match refused {
         StepFault::NoMemory => Fault::NoMemory,
@@ -91,7 +92,7 @@ pub(crate) fn audited<'a>(
     requires { tells_refusals judged ≡ false }
     ensures ok { IfOk result (λ lines. IsPassed judged machine.now trace.now lines.items) }
     ensures err { IfErr result (λ fault. (fault ≡ OutOfMemory) ⊎
-        (fault_of_trace machine.now trace.now ≡ Some fault)) }
+        IsFaultOfTrace false machine.now trace.now fault) }
 {
     let passed = audit_text(alloc, machine, trace)?;
     let mut lines = passed_line(alloc, passed.steps, passed.ending)?;
@@ -125,7 +126,7 @@ fn passed_lines(
 }
 
 // What an audit with `--report` or `--explain` prints of a history.
-fn told(
+fn judged_history(
     alloc: Global,
     machine: &Machine,
     history: &History,
@@ -133,7 +134,7 @@ fn told(
 ) -> Result<Output, NoMemory>
     requires { tells_refusals judged ≡ true }
     ensures lines { IfOk result (λ output.
-        (trace : List ℕ) → steps_of trace ≡ Ok history.now.steps →
+        (trace : List ℕ) → IsTraceOf trace history.now.steps →
         IsAudited judged machine.now trace output.lines.items output.status) }
     ensures refused { IfOk result (λ output.
         output.refused ≡ refused_place machine.now history.now.steps) }
@@ -158,7 +159,7 @@ fn told(
 }
 
 // What an audit with `--report` or `--explain` prints of a trace. It keeps the steps.
-pub(crate) fn told_output<'a>(
+pub(crate) fn judged_trace<'a>(
     alloc: Global,
     machine: &Machine,
     trace: &[u8],
@@ -168,12 +169,12 @@ pub(crate) fn told_output<'a>(
     ensures lines { IfOk result (λ output.
         IsAudited judged machine.now trace.now output.lines.items output.status) }
     ensures refused { IfOk result (λ output.
-        output.refused ≡ refused_of_steps machine.now (steps_of trace.now)) }
+        IsRefusedAt machine.now trace.now output.refused) }
     ensures err { IfErr result (λ fault. (fault ≡ OutOfMemory) ⊎
-        (fault_of_lines (steps_of trace.now) ≡ Some fault)) }
+        IsFaultOfTrace true machine.now trace.now fault) }
 {
     let history = read_history(alloc, trace)?;
-    Ok(told(alloc, machine, &history, judged)?)
+    Ok(judged_history(alloc, machine, &history, judged)?)
 }
 
 fn passed_line(alloc: Global, steps: usize, ending: Ending) -> Result<Vec<u8>, NoMemory>

@@ -5,11 +5,11 @@ ghost use Rattle.l4_model.specs.History.{refused_place};
 ghost use Rattle.l4_chart.specs.Charts.{columns_of, row_of, rows_of};
 ghost use Rattle.l4_chart.specs.Drawings.{IsDrawing};
 ghost use Rattle.l4_chart.specs.Windows.{until_refused};
+ghost use Rattle.l4_jobs.specs.Audits.{IsRefusedAt};
 ghost use Rattle.l4_jobs.specs.ChartJobs.{IsCharted, chosen_by, drawing_form, fault_of_threads};
-ghost use Rattle.l4_jobs.specs.ChartJobs.{part_of, refused_of_steps, status_of_refused, width_of};
+ghost use Rattle.l4_jobs.specs.ChartJobs.{part_of, status_of_refused, width_of};
 ghost use Rattle.l4_jobs.specs.Jobs.{IsChartFault};
 ghost use Rattle.l4_jobs.specs.declared.fault.Fault.TheVariants.{NoMemory as OutOfMemory};
-ghost use Rattle.l4_trace.specs.Reading.{steps_of};
 
 use crate::fault::{Fault, unread};
 use crate::job::{ChartForm, ChartJob};
@@ -137,18 +137,18 @@ pub(crate) fn chart_output<'a, T: Source>(
     chart: &ChartJob<'a>,
     trace: &mut T,
 ) -> Result<Output, Fault<'a>>
-    ensures ok { IfOk result (λ output. (told : List ℕ) × T.gives trace.old (Ok told) ×
-        IsCharted chart.now machine.now told output.lines.items output.status ×
-        (output.refused ≡ refused_of_steps machine.now (steps_of told))) }
+    ensures ok { IfOk result (λ output. (text : List ℕ) × T.gives trace.old (Ok text) ×
+        IsCharted chart.now machine.now text output.lines.items output.status ×
+        IsRefusedAt machine.now text output.refused) }
     ensures err { IfErr result (λ fault. (fault ≡ OutOfMemory) ⊎
         IsChartFault chart.now machine.now (T.gives trace.old) fault) }
 {
     let threads = listed_threads(alloc, machine, chart)?;
-    let told = match trace.read_whole(alloc) {
-        Ok(told) => told,
+    let text = match trace.read_whole(alloc) {
+        Ok(text) => text,
         Err(kind) => return Err(unread(chart.trace, kind)),
     };
-    let history = read_history(alloc, told.as_slice())?;
+    let history = read_history(alloc, text.as_slice())?;
     let listed = list_of(&threads);
     Ok(drawn(alloc, machine, chart, listed, &history)?)
 }

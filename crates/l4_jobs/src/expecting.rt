@@ -39,7 +39,7 @@ use std::thread::Threads;
 #[derive(Drop)]
 struct Verdict {
     lines: Vec<u8>,
-    told: Vec<u8>,
+    unmet: Vec<u8>,
     status: u8,
 }
 
@@ -61,7 +61,7 @@ fn verdict_on(
     requires { IsHistory machine.now (steps_of outcome.history) }
     ensures lines { IfOk result (λ verdict.
         IsWritten printed machine.now (compact_findings_of outcome.entry) verdict.lines.items) }
-    ensures told { IfOk result (λ verdict. verdict.told.items ≡
+    ensures unmet { IfOk result (λ verdict. verdict.unmet.items ≡
         unmet_text (lines_of_outcome true (compact_findings_of outcome.entry)) expected.now) }
     ensures status { IfOk result (λ verdict. verdict.status ≡
         expected_status
@@ -69,12 +69,12 @@ fn verdict_on(
         (status_of_ending outcome.entry.ending)) }
 {
     let report = lines_of(alloc, true, &outcome)?;
-    let mut told = Vec::new(alloc);
-    let are_met = expected.write_unmet(report.as_slice(), &mut told)?;
+    let mut unmet = Vec::new(alloc);
+    let are_met = expected.write_unmet(report.as_slice(), &mut unmet)?;
     let output = output_of_run(alloc, printed, machine, outcome)?;
     Ok(Verdict {
         lines: output.lines,
-        told,
+        unmet,
         status: status_of(are_met, output.status),
     })
 }
@@ -90,7 +90,7 @@ fn run_verdict<'a, R: Threads + Sync>(
 ) -> Result<Verdict, Fault<'a>>
     ensures ok { IfOk result (λ verdict.
         IsRunExpected printed machine.now (IsRunAsked machine.now turns) expected.now
-        verdict.lines.items verdict.told.items verdict.status) }
+        verdict.lines.items verdict.unmet.items verdict.status) }
     ensures err { IfErr result (λ fault. (fault ≡ OutOfMemory) ⊎
         (fault_of_turns turns ≡ Some fault)) }
 {
@@ -111,7 +111,7 @@ fn replay_verdict<'a, L: Source>(
     ensures ok { IfOk result (λ verdict. (text : List ℕ) ×
         IsRead (list_name schedule.now) (L.gives list.old) text ×
         IsRunExpected printed machine.now (IsReplayAsked machine.now rest schedule.now text)
-        expected.now verdict.lines.items verdict.told.items verdict.status) }
+        expected.now verdict.lines.items verdict.unmet.items verdict.status) }
     ensures err { IfErr result (λ fault. (fault ≡ OutOfMemory) ⊎
         IsReplayFault machine.now rest schedule.now (L.gives list.old) fault) }
 {
@@ -130,7 +130,7 @@ fn search_verdict<'a, P: Progress>(
 ) -> Result<Verdict, Fault<'a>>
     ensures ok { IfOk result (λ verdict.
         IsAnsweredBeside machine.now (question_of search.now) search.now.waits
-        (Some expected.now) verdict.lines.items verdict.told.items verdict.status) }
+        (Some expected.now) verdict.lines.items verdict.unmet.items verdict.status) }
     ensures err { IfErr result (λ fault. (fault ≡ OutOfMemory) ⊎
         (fault_of_search search.now ≡ Some fault)) }
 {
@@ -142,7 +142,7 @@ fn search_verdict<'a, P: Progress>(
     let answer = answers_beside(alloc, machine, &question, beside, progress)?;
     Ok(Verdict {
         lines: answer.lines,
-        told: answer.unmet,
+        unmet: answer.unmet,
         status: answer.status,
     })
 }
@@ -160,7 +160,7 @@ fn verdict_of<'a, R: Threads + Sync, L: Source, P: Progress>(
     ensures ok { IfOk result (λ verdict. (entries : List ℕ) ×
         IsRead (list_file_of course.now) (L.gives list.old) entries ×
         IsExpectedOn course.now machine.now expected.now entries verdict.lines.items
-        verdict.told.items verdict.status) }
+        verdict.unmet.items verdict.status) }
     ensures err { IfErr result (λ fault. (fault ≡ OutOfMemory) ⊎
         IsCourseFault course.now machine.now (L.gives list.old) fault) }
 {
@@ -201,7 +201,7 @@ fn verdict_by<'a, R: Threads + Sync, L: Source, P: Progress>(
         (expectations_of (scope_of course.now) asked.now ≡ Ok expected) ×
         IsRead (list_file_of course.now) (L.gives list.old) entries ×
         IsExpectedOn course.now machine.now expected entries verdict.lines.items
-        verdict.told.items verdict.status) }
+        verdict.unmet.items verdict.status) }
     ensures err { IfErr result (λ fault. (fault ≡ OutOfMemory) ⊎
         IsAskedFault course.now machine.now (L.gives list.old)
         (expectations_of (scope_of course.now) asked.now) fault) }
@@ -226,7 +226,7 @@ fn verdict_for<'a, R: Threads + Sync, L: Source, X: Source, P: Progress>(
         (expectations_of (scope_of expecting.now.course) asked ≡ Ok expected) ×
         IsRead (list_file_of expecting.now.course) (L.gives list.old) entries ×
         IsExpectedOn expecting.now.course machine.now expected entries verdict.lines.items
-        verdict.told.items verdict.status) }
+        verdict.unmet.items verdict.status) }
     ensures err { IfErr result (λ fault. (fault ≡ OutOfMemory) ⊎
         IsWantedFault expecting.now machine.now (L.gives list.old)
         (X.gives expectations.old) fault) }
@@ -252,7 +252,7 @@ fn verdict_on_text<'a, R: Threads + Sync, L: Source, X: Source, P: Progress>(
         (expectations_of (scope_of expecting.now.course) asked ≡ Ok expected) ×
         IsRead (list_file_of expecting.now.course) (L.gives list.old) entries ×
         IsExpectedOn expecting.now.course machine expected entries verdict.lines.items
-        verdict.told.items verdict.status) }
+        verdict.unmet.items verdict.status) }
     ensures err { IfErr result (λ fault. (fault ≡ OutOfMemory) ⊎
         IsExpectedFault expecting.now (machine_of_text text.now) (L.gives list.old)
         (X.gives expectations.old) fault) }
@@ -272,7 +272,7 @@ fn judge<'a, R: Threads + Sync, M: Source, L: Source, X: Source, P: Progress>(
     progress: &mut P,
 ) -> Result<Verdict, Fault<'a>>
     ensures ok { IfOk result (λ verdict. IsExpectedFor expecting.now (M.gives machine.old)
-        (L.gives list.old) (X.gives expectations.old) verdict.lines.items verdict.told.items
+        (L.gives list.old) (X.gives expectations.old) verdict.lines.items verdict.unmet.items
         verdict.status) }
     ensures err { IfErr result (IsExpectFault expecting.now (M.gives machine.old)
         (L.gives list.old) (X.gives expectations.old)) }
@@ -283,12 +283,12 @@ fn judge<'a, R: Threads + Sync, M: Source, L: Source, X: Source, P: Progress>(
 }
 
 // Writes which expectations are not met.
-fn tell<E: Sink>(faults: &mut E, told: &[u8])
-    ensures { IsSaidOf told.now (E.takes faults.old faults.new) (faults.new ≡ faults.old) }
+fn tell<E: Sink>(faults: &mut E, unmet: &[u8])
+    ensures { IsSaidOf unmet.now (E.takes faults.old faults.new) (faults.new ≡ faults.old) }
 {
-    if !told.is_empty() {
+    if !unmet.is_empty() {
         // Where this can't be written, only the status says so.
-        let _ = faults.put(told);
+        let _ = faults.put(unmet);
     }
 }
 
@@ -339,7 +339,7 @@ pub fn perform_expected<
     };
     match out.put(made.lines.as_slice()) {
         Ok(()) => {
-            tell(faults, made.told.as_slice());
+            tell(faults, made.unmet.as_slice());
             made.status
         }
         Err(_) => report(alloc, faults, &Fault::Write),

@@ -32,9 +32,9 @@ fn write_named_faults<'a, L: Source>(
     list: &mut L,
     lines: &mut Vec<u8>,
 ) -> Result<bool, Fault<'a>>
-    ensures ok { IfOk result (λ none. (told : List ℕ) × L.gives list.old (Ok told) ×
-        (lines.new.items ≡ lines.old.items ++ faults_text (file_faults machine.now told)) ×
-        (none ≡ (length (file_faults machine.now told) == 0))) }
+    ensures ok { IfOk result (λ none. (text : List ℕ) × L.gives list.old (Ok text) ×
+        (lines.new.items ≡ lines.old.items ++ faults_text (file_faults machine.now text)) ×
+        (none ≡ (length (file_faults machine.now text) == 0))) }
     ensures err { IfErr result (λ fault. (fault ≡ OutOfMemory) ⊎
         ((kind : Kind) × L.gives list.old (Err kind) × IsUnread name.now kind fault)) }
 {
@@ -50,11 +50,11 @@ fn write_asked_faults<'a, L: Source>(
     list: &mut L,
     lines: &mut Vec<u8>,
 ) -> Result<bool, Fault<'a>>
-    ensures ok { IfOk result (λ none. (told : List ℕ) ×
-        IsRead (list_name schedule.now) (L.gives list.old) told ×
+    ensures ok { IfOk result (λ none. (text : List ℕ) ×
+        IsRead (list_name schedule.now) (L.gives list.old) text ×
         (lines.new.items ≡ lines.old.items ++
-        faults_text (asked_faults machine.now schedule.now told)) ×
-        (none ≡ (length (asked_faults machine.now schedule.now told) == 0))) }
+        faults_text (asked_faults machine.now schedule.now text)) ×
+        (none ≡ (length (asked_faults machine.now schedule.now text) == 0))) }
     ensures err { IfErr result (λ fault. (fault ≡ OutOfMemory) ⊎
         IsListUnread schedule.now (L.gives list.old) fault) }
 {

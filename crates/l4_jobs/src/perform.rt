@@ -10,16 +10,16 @@ ghost use Rattle.l4_schedules.specs.InFiles.{schedule_in_file};
 ghost use Rattle.l4_commands.specs.Files.{file_of, second_file_of, list_name};
 ghost use Rattle.l4_jobs.specs.Jobs.{IsTold, IsShown, IsShownOn, refusal_line};
 ghost use Rattle.l4_jobs.specs.Audits.{tells_refusals};
-ghost use Rattle.l4_jobs.specs.Jobs.{IsRunShown, IsAudited, IsAuditFault, IsFaultOn, IsFaultOf};
+ghost use Rattle.l4_jobs.specs.Jobs.{IsRunShown, IsAudited, IsTraceFault, IsFaultOn, IsFaultOf};
 ghost use Rattle.l4_jobs.specs.Jobs.{IsJobFault, IsDone, IsNotDone, IsRunAsked, IsReplayAsked};
 ghost use Rattle.l4_jobs.specs.Jobs.{IsEnded, IsListFault, IsRead, IsScheduleFault, IsStatusOf};
 ghost use Rattle.l4_jobs.specs.Jobs.{IsOutcomeOfAny, IsReplayFault, IsTrulyDone, IsWritten, gone_on};
-ghost use Rattle.l4_jobs.specs.Jobs.{asked_schedule, fault_of, fault_of_turns};
-ghost use Rattle.l4_jobs.specs.Jobs.{refused_in, refused_of_audit, refused_on};
+ghost use Rattle.l4_jobs.specs.Jobs.{IsFaulty, asked_schedule, fault_of_turns};
+ghost use Rattle.l4_jobs.specs.Jobs.{IsRefusedBy, IsRefusedIn, IsRefusedOn};
 ghost use Rattle.l4_jobs.specs.Jobs.{lines_of_outcome, status_of_ending};
 ghost use Rattle.l4_jobs.specs.declared.fault.Fault.TheVariants.{NoMemory as OutOfMemory};
 
-use crate::audits::{audited, told_output};
+use crate::audits::{audited, judged_trace};
 use crate::charts::chart_output;
 use crate::extras::write_extras;
 use crate::fault::{Fault, line_of, report, unread};
@@ -251,20 +251,20 @@ fn audit_output<'a, T: Source>(
     judged: Judged,
     trace: &mut T,
 ) -> Result<Output, Fault<'a>>
-    ensures ok { IfOk result (λ output. (told : List ℕ) × T.gives trace.old (Ok told) ×
-        IsAudited judged machine.now told output.lines.items output.status ×
-        (output.refused ≡ refused_of_audit (tells_refusals judged) machine.now told)) }
+    ensures ok { IfOk result (λ output. (text : List ℕ) × T.gives trace.old (Ok text) ×
+        IsAudited judged machine.now text output.lines.items output.status ×
+        IsRefusedBy (tells_refusals judged) machine.now text output.refused) }
     ensures err { IfErr result (λ fault. (fault ≡ OutOfMemory) ⊎
-        IsAuditFault (tells_refusals judged) machine.now name.now (T.gives trace.old) fault) }
+        IsTraceFault (tells_refusals judged) machine.now name.now (T.gives trace.old) fault) }
 {
-    let told = match trace.read_whole(alloc) {
-        Ok(told) => told,
+    let text = match trace.read_whole(alloc) {
+        Ok(text) => text,
         Err(kind) => return Err(unread(name, kind)),
     };
     if judged.tells_refusals() {
-        return told_output(alloc, machine, told.as_slice(), judged);
+        return judged_trace(alloc, machine, text.as_slice(), judged);
     }
-    let lines = audited(alloc, machine, told.as_slice(), judged)?;
+    let lines = audited(alloc, machine, text.as_slice(), judged)?;
     Ok(Output {
         lines,
         status: 0,
@@ -284,9 +284,9 @@ fn output_on<'a, R: Threads + Sync, T: Source, P: Progress>(
     progress: &mut P,
 ) -> Result<Output, Fault<'a>>
     requires { machine_of_text text.now ≡ Ok machine.now }
-    ensures ok { IfOk result (λ output. (told : List ℕ) × IsTold job.now (T.gives trace.old) told ×
-        IsShownOn job.now text.now machine.now told output.lines.items output.status ×
-        (output.refused ≡ refused_on job.now machine.now told)) }
+    ensures ok { IfOk result (λ output. (read : List ℕ) × IsTold job.now (T.gives trace.old) read ×
+        IsShownOn job.now text.now machine.now read output.lines.items output.status ×
+        IsRefusedOn job.now machine.now read output.refused) }
     ensures err { IfErr result (λ fault. (fault ≡ OutOfMemory) ⊎
         IsFaultOn job.now machine.now (T.gives trace.old) fault) }
     ensures unread { second_file_of job.now ≡ None → trace.new ≡ trace.old }
@@ -320,9 +320,9 @@ fn output_of<'a, R: Threads + Sync, T: Source, P: Progress>(
     trace: &mut T,
     progress: &mut P,
 ) -> Result<Output, Fault<'a>>
-    ensures ok { IfOk result (λ output. (told : List ℕ) × IsTold job.now (T.gives trace.old) told ×
-        IsShown job.now text.now told output.lines.items output.status ×
-        (output.refused ≡ refused_in job.now (machine_of_text text.now) told)) }
+    ensures ok { IfOk result (λ output. (read : List ℕ) × IsTold job.now (T.gives trace.old) read ×
+        IsShown job.now text.now read output.lines.items output.status ×
+        IsRefusedIn job.now (machine_of_text text.now) read output.refused) }
     ensures err { IfErr result (λ fault. (fault ≡ OutOfMemory) ⊎
         IsFaultOf job.now (machine_of_text text.now) (T.gives trace.old) fault) }
     ensures unread { second_file_of job.now ≡ None → trace.new ≡ trace.old }
@@ -341,10 +341,10 @@ fn job_output<'a, R: Threads + Sync, M: Source, T: Source, P: Progress>(
     progress: &mut P,
 ) -> Result<Output, Fault<'a>>
     ensures shown { IfOk result (λ output.
-        (text : List ℕ) × (told : List ℕ) × M.gives machine.old (Ok text) ×
-        IsTold job.now (T.gives trace.old) told ×
-        IsShown job.now text told output.lines.items output.status ×
-        (output.refused ≡ refused_in job.now (machine_of_text text) told)) }
+        (text : List ℕ) × (read : List ℕ) × M.gives machine.old (Ok text) ×
+        IsTold job.now (T.gives trace.old) read ×
+        IsShown job.now text read output.lines.items output.status ×
+        IsRefusedIn job.now (machine_of_text text) read output.refused) }
     ensures err { IfErr result (IsJobFault job.now (M.gives machine.old) (T.gives trace.old)) }
     ensures unread { second_file_of job.now ≡ None → trace.new ≡ trace.old }
 {
@@ -379,10 +379,10 @@ fn prepare<'a, R: Threads + Sync, M: Source, T: Source, P: Progress>(
     progress: &mut P,
 ) -> Result<Prepared, Fault<'a>>
     ensures shown { IfOk result (λ prepared.
-        (text : List ℕ) × (told : List ℕ) × M.gives machine.old (Ok text) ×
-        IsTold job.now (T.gives trace.old) told ×
-        IsShown job.now text told prepared.output.lines.items prepared.output.status ×
-        (prepared.output.refused ≡ refused_in job.now (machine_of_text text) told)) }
+        (text : List ℕ) × (read : List ℕ) × M.gives machine.old (Ok text) ×
+        IsTold job.now (T.gives trace.old) read ×
+        IsShown job.now text read prepared.output.lines.items prepared.output.status ×
+        IsRefusedIn job.now (machine_of_text text) read prepared.output.refused) }
     ensures line { IfOk result (λ prepared.
         option_map string_bytes prepared.refusal ≡ refusal_line prepared.output.refused) }
     ensures err { IfErr result (IsJobFault job.now (M.gives machine.old) (T.gives trace.old)) }
@@ -450,9 +450,9 @@ pub fn perform<R: Threads + Sync, M: Source, T: Source, W: Sink, E: Sink>(
         IsNotDone job.now (M.gives machine.old) (T.gives trace.old)
         (IsJobFault job.now (M.gives machine.old) (T.gives trace.old))
         (W.takes out.old out.new) (out.new ≡ out.old) (E.takes faults.old faults.new) }
-    ensures faulty { ((text told : List ℕ) → M.gives machine.old (Ok text) →
-        IsTold job.now (T.gives trace.old) told →
-        fault_of job.now text told ≢ None) → (result ≡ 1) × (out.new ≡ out.old) }
+    ensures faulty { ((text read : List ℕ) → M.gives machine.old (Ok text) →
+        IsTold job.now (T.gives trace.old) read →
+        IsFaulty job.now text read) → (result ≡ 1) × (out.new ≡ out.old) }
     ensures statuses { IsStatusOf job.now result }
     ensures unread { second_file_of job.now ≡ None → trace.new ≡ trace.old }
 {
@@ -482,9 +482,9 @@ pub fn perform_heard<R: Threads + Sync, M: Source, T: Source, W: Sink, E: Sink, 
         IsNotDone job.now (M.gives machine.old) (T.gives trace.old)
         (IsJobFault job.now (M.gives machine.old) (T.gives trace.old))
         (W.takes out.old out.new) (out.new ≡ out.old) (E.takes faults.old faults.new) }
-    ensures faulty { ((text told : List ℕ) → M.gives machine.old (Ok text) →
-        IsTold job.now (T.gives trace.old) told →
-        fault_of job.now text told ≢ None) → (result ≡ 1) × (out.new ≡ out.old) }
+    ensures faulty { ((text read : List ℕ) → M.gives machine.old (Ok text) →
+        IsTold job.now (T.gives trace.old) read →
+        IsFaulty job.now text read) → (result ≡ 1) × (out.new ≡ out.old) }
     ensures statuses { IsStatusOf job.now result }
     ensures unread { second_file_of job.now ≡ None → trace.new ≡ trace.old }
 {

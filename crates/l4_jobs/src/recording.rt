@@ -40,7 +40,7 @@ fn made_on<'a, R: Threads + Sync>(
     ensures err { IfErr result (λ fault. (fault ≡ OutOfMemory) ⊎
         (fault_of_turns recording.now.turns ≡ Some fault)) }
 {
-    let _ = machine.cpus();
+    machine.facts();
     let (outcome, entries) = run_recorded(rt, alloc, machine, recording.turns, &Open)?;
     Ok(Made {
         list: recorded_text(alloc, entries.as_slice())?,

@@ -1,12 +1,10 @@
 -- What a station does with the letter that it takes.
 use Rattle.std.proofs.Common.{◌≡◌, ℕ, ◌<◌, Bool, true, false, Option, Some, None, List, [], ◌∷◌, ◌++◌, map, length, get_or, refl, ap, sym, ◌∙◌, subst, inl, inr}
-use Rattle.std.specs.Prelude.{◌+◌, slice_get, is_some, OnErr, OnOk, Result, Ok, Err}
+use Rattle.std.specs.Prelude.{◌+◌, slice_get, OnErr, OnOk, Result, Ok, Err}
 use Rattle.std.specs.Option.{option_map}
 use Rattle.std.proofs.lemmas.Option.{slice_get-get_or, slice_get-map}
 use Rattle.l4_core_model.specs.Acts.{Work}
-use Rattle.l4_core_model.specs.Letters.{Letter}
-use Rattle.l4_core_model.specs.Mail.{handle}
-use Rattle.l4_core_model.specs.Runs.{Event}
+use Rattle.l4_core_model.specs.Runs.{is_empty, Event}
 use Rattle.l4_core_model.specs.Turns.{can_stamp, turn}
 use Rattle.l4_merge.specs.Transitions.{work_of}
 use Rattle.l4_types.specs.declared.letters.Letter as letters
@@ -17,11 +15,13 @@ use Rattle.l4_proc.specs.declared.stops.Stop.TheVariants as stop
 use Rattle.l4_proc.specs.declared.worker.Worker.{Worker}
 use Rattle.l4_proc.specs.Events.{event_in_hand, stamp_in_hand, HasNone}
 use Rattle.l4_proc.specs.Logs.{events, HasBegun, HasLetters, IsClosed}
-use Rattle.l4_proc.specs.Working.{HasTakenTurn, HasTickedTo, IsSameWorker}
+use Rattle.l4_proc.specs.Working.{with_in_hand, HasTakenTurn, HasTickedTo, IsSameWorker}
 use Rattle.l4_proc.proofs.Logging.{begun_closed, begun_events, logged, same_closed, same_events, IsLogged}
 use Rattle.l4_machine.specs.declared.station.Station as program
-use Rattle.l4_machine.specs.Inboxes.{letters_in, IsTakenFrom, TakesFirst}
-use Rattle.l4_machine.specs.Stations.{station_of, event_of, letters_from, CanGoOn, CanTurn, HandlesFrom, HasDone, HasTriedTurn, IsHandling, IsNoTurn, IsOwnTurn, IsSameStation, IsTick, TakesCoreTurn, TakesTurn}
+use Rattle.l4_machine.specs.declared.inbox.Inbox.{Inbox}
+use Rattle.l4_machine.specs.Inboxes.{letters_in, IsTakenFrom}
+use Rattle.l4_machine.specs.Posters.{AreEmpty, IsFirstFilled}
+use Rattle.l4_machine.specs.Stations.{station_of, event_of, CanGoOn, CanHandle, CanHandleFirst, CanTurn, HandlesFirst, HandlesFrom, HasDone, HasTriedTurn, IsHandling, IsNoTurn, IsOwnTurn, IsSameStation, IsTick, TakesCoreTurn, TakesTurn}
 
 -- What the worker of a station has told.
 pub record Keeps (w : Worker) : Type 0 where
@@ -138,10 +138,6 @@ station_idle old new w h inbox same why = record {
   };
 }
 
--- A letter in hand is something to do.
-not_idle : (old w : Worker) (p : ℕ × letters.Letter) → IsAtHand old w (Some p) → HasNone w.core w.hand → ⊥
-not_idle old w p h why = let none : w.hand ≡ None = why.empty in let some = h.held in cc
-
 -- What a station tries
 
 pub core_tried : (b : Bool) (old new : program.Station) (w : Worker) → Keeps old.worker →
@@ -150,22 +146,32 @@ pub core_tried : (b : Bool) (old new : program.Station) (w : Worker) → Keeps o
 core_tried true old new w k h inbox t = station_turned old new w k h inbox t
 core_tried false old new w k h inbox t = station_idle old new w h inbox t.0 t.1
 
-pub letter_tried : (b : Bool) (old new : program.Station) (w : Worker) (p : ℕ × letters.Letter) → Keeps old.worker →
-    IsAtHand old.worker w (Some p) →
-    IsTakenFrom p.0 (letters_in old.inbox) (letter_of p.1) (letters_in new.inbox) → HasTriedTurn b w new.worker →
-    HandlesFrom p.0 b old new
-letter_tried true old new w p k h taken t = station_handled old new w p k h taken t
-letter_tried false old new w p k h taken t = absurd (not_idle old.worker w p h t.1)
+-- A worker of which an event has begun, with this letter in hand.
+letter_at_hand : (old begun : Worker) (from : ℕ) (letter : letters.Letter) → IsAtHand old begun None →
+    IsAtHand old (with_in_hand from letter begun) (Some (from, letter))
+letter_at_hand old begun from letter h = record { core = h.core; held = refl; log = h.log }
 
-pub turn_tried : (b : Bool) (old new : program.Station) (w : Worker) (hand : Option (ℕ × letters.Letter)) →
-    Keeps old.worker → IsAtHand old.worker w hand →
-    TakesFirst (letters_in old.inbox) hand (letters_in new.inbox) → HasTriedTurn b w new.worker →
-    TakesTurn b old new
-turn_tried true old new w None k h taken t = inr (taken.0, station_turned old new w k h taken.1 t)
-turn_tried true old new w (Some p) k h taken t =
-    inl (record { from = p.0; poster = taken.0; handled = station_handled old new w p k h taken.1 t })
-turn_tried false old new w None k h taken t = (taken.0, station_idle old new w h taken.1 t.0 t.1)
-turn_tried false old new w (Some p) k h taken t = absurd (not_idle old.worker w p h t.1)
+pub letter_tried : (from : ℕ) (b : Bool) (old new : program.Station) (begun : Worker) → Keeps old.worker → IsAtHand old.worker begun None →
+    HandlesFirst from b old.inbox new.inbox begun new.worker → HandlesFrom from b old new
+letter_tried from true old new begun k h t =
+    station_handled old new (with_in_hand from t.letter begun) (from, t.letter) k (letter_at_hand old.worker begun from t.letter h) t.taken t.turn
+letter_tried from false old new begun k h t = (
+  t.0,
+  begun_station old new t.1 (ap (λ (w : Worker). w.core) t.2 ∙ h.core) (subst (λ (w : Worker). HasBegun old.worker.log w.log) (sym t.2) h.log),
+)
+
+-- The letter of the lowest poster, which has one.
+pub first_tried : (from : ℕ) (b : Bool) (old new : program.Station) (begun : Worker) → Keeps old.worker → IsAtHand old.worker begun None →
+    IsFirstFilled (letters_in old.inbox) from → HandlesFirst from b old.inbox new.inbox begun new.worker → TakesTurn b old new
+first_tried from true old new begun k h first t =
+    inl (record { from = from; poster = first; handled = letter_tried from true old new begun k h t })
+first_tried from false old new begun k h first t = absurd (let filled = first.filled in let none = ap is_empty t.0 in let no = sym none ∙ filled in cc)
+
+-- There is no letter.
+pub own_tried : (b : Bool) (old new : program.Station) (begun : Worker) → Keeps old.worker → IsAtHand old.worker begun None →
+    AreEmpty (letters_in old.inbox) → letters_in new.inbox ≡ letters_in old.inbox → HasTriedTurn b begun new.worker → TakesTurn b old new
+own_tried true old new begun k h none inbox t = inr (none, station_turned old new begun k h inbox t)
+own_tried false old new begun k h none inbox t = (none, station_idle old new begun h inbox t.0 t.1)
 
 -- What is kept, whether there was something to do or not.
 pub tried_kept : (b : Bool) (old w new : Worker) (hand : Option (ℕ × letters.Letter)) → Keeps old →
@@ -177,42 +183,27 @@ tried_kept false old w new hand k h t = record {
   own = t.0.log.cpu ∙ h.log.cpu ∙ k.own ∙ sym (ap (λ (c : Processor). c.cpu) (t.0.core ∙ h.core));
 }
 
--- A letter that can be handled is not refused, and neither is the core's turn.
+pub letter_kept : (from : ℕ) (b : Bool) (i j : Inbox) (old begun new : Worker) → Keeps old → IsAtHand old begun None → HandlesFirst from b i j begun new →
+    Keeps new
+letter_kept from true i j old begun new k h t =
+    turned_kept old (with_in_hand from t.letter begun) new (Some (from, t.letter)) k (letter_at_hand old begun from t.letter h) t.turn
+letter_kept from false i j old begun new k h t = subst Keeps (sym t.2) (begun_kept old begun k h.core (h.held ∙ sym k.empty) h.log)
 
--- The letter in hand is the first of its poster.
-abbrev pub IsFirst : program.Station → Option (ℕ × letters.Letter) → Type 0
-IsFirst old None = Unit {0}
-IsFirst old (Some p) = slice_get (letters_from p.0 (station_of old)) 0 ≡ Some (letter_of p.1)
+-- Neither the core's turn nor a letter that can be handled is refused.
 
-pub first_taken : (old : program.Station) (hand : Option (ℕ × letters.Letter)) (after : List (List Letter)) →
-    TakesFirst (letters_in old.inbox) hand after → IsFirst old hand
-first_taken old None after taken = tt
-first_taken old (Some p) after taken = taken.1.first
-
-pub can_turn : (old : program.Station) (w : Worker) (hand : Option (ℕ × letters.Letter)) → CanGoOn (station_of old) →
-    IsAtHand old.worker w hand → IsFirst old hand → CanTurn w
-can_turn old w hand can h first stop.Idle why = refl
-can_turn old w hand can h first stop.Used why = absurd why
-can_turn old w hand can h first stop.NoMemory why = absurd why
-can_turn old w None can h first stop.Mail why = absurd (let some = why.here in let none = h.held in cc)
-can_turn old w (Some p) can h first stop.Mail why =
-    let same : p ≡ why.letter = some_is_same p why.letter (sym h.held ∙ why.here) in
-    let core : Processor → Type 0 = λ c. handle c.machine c.cpu c.local (letter_of p.1) ≡ None in
-    let none = subst core h.core (subst (λ (l : ℕ × letters.Letter). handle w.core.machine w.core.cpu w.core.local (letter_of l.1) ≡ None) (sym same) why.unlawful) in
-    let lawful = (can.letters p.0 (letter_of p.1) first).lawful in
-    absurd (let is = ap is_some none in cc)
-  where
-    some_is_same : {A : Type 0} (a b : A) → Some a ≡ Some b → a ≡ b
-    some_is_same a b is = cc
-can_turn old w None can h first stop.Stamp why =
+pub can_turn : (old : program.Station) (w : Worker) → CanGoOn (station_of old) → IsAtHand old.worker w None → CanTurn w
+can_turn old w can h stop.Idle why = refl
+can_turn old w can h stop.Used why = absurd why
+can_turn old w can h stop.NoMemory why = absurd why
+can_turn old w can h stop.Mail why = absurd (let some = why.here in let none = h.held in cc)
+can_turn old w can h stop.Stamp why =
     let core : Processor → Type 0 = λ c. can_stamp c.local 0 ≡ false in
     let full = subst core h.core (subst (λ (o : Option (ℕ × letters.Letter)). can_stamp w.core.local (stamp_in_hand o) ≡ false) h.held why.full) in
     absurd (let own = can.own in cc)
-can_turn old w (Some p) can h first stop.Stamp why =
-    let core : Processor → Type 0 = λ c. can_stamp c.local p.1.stamp ≡ false in
-    let full = subst core h.core (subst (λ (o : Option (ℕ × letters.Letter)). can_stamp w.core.local (stamp_in_hand o) ≡ false) h.held why.full) in
-    let stamp = (can.letters p.0 (letter_of p.1) first).stamp in
-    absurd cc
+
+pub can_handle_first : (old : program.Station) (w : Worker) (from : ℕ) → CanGoOn (station_of old) → IsAtHand old.worker w None →
+    CanHandleFirst from w.core (letters_in old.inbox)
+can_handle_first old w from can h letter first = subst (λ (c : Processor). CanHandle c letter) (sym h.core) (can.letters from letter first)
 
 -- The clock of a station goes on.
 pub station_ticked : (clock : ℕ) (old new : program.Station) → Keeps old.worker → letters_in new.inbox ≡ letters_in old.inbox → HasTickedTo clock old.worker new.worker → IsTick clock old new
@@ -278,13 +269,8 @@ station_there ss i s lt at = slice_get-map station_of ss i ∙ ap (option_map st
 pub keeps : (s : program.Station) → Keeps s.worker
 keeps s = record { empty = s.empty; closed = s.closed; own = s.own }
 
-pub at_hand : (old begun w : Worker) (hand : Option (ℕ × letters.Letter)) → begun.core ≡ old.core → HasBegun old.log begun.log → w.core ≡ begun.core → w.hand ≡ hand → w.log ≡ begun.log →
-    IsAtHand old w hand
-at_hand old begun w hand core log same held told = record {
-  core = same ∙ core;
-  held = held;
-  log = subst (HasBegun old.log) (sym told) log;
-}
+pub has_begun : (old : program.Station) (begun : Worker) → begun.core ≡ old.worker.core → begun.hand ≡ old.worker.hand → HasBegun old.worker.log begun.log → IsAtHand old.worker begun None
+has_begun old begun core hand log = record { core = core; held = hand ∙ old.empty; log = log }
 
 pub tried_tick : (clock : ℕ) (old new : Worker) {A E : Type 0} (r : Result A E) → Keeps old → OnOk r (HasTickedTo clock old new) → OnErr r (IsSameWorker old new) → Keeps new
 tried_tick clock old new (Ok x) k ticked same = ticked_kept clock old new k ticked

@@ -8,6 +8,7 @@ pub mod Outcomes
 pub mod Recorded
 pub mod Rising
 pub mod Inboxes
+pub mod Posters
 pub mod InOrder
 pub mod Ordered
 pub mod Stations

@@ -9,14 +9,18 @@ use Rattle.l4_core_model.specs.Mail.{handle}
 use Rattle.l4_core_model.specs.Runs.{Event, System, Action, Handles, Turns, Ticks}
 use Rattle.l4_core_model.specs.Schedules.{next_turn}
 use Rattle.l4_core_model.specs.Turns.{advance, can_stamp, is_busy, turn}
+use Rattle.l4_types.specs.LetterView.{letter_of}
+use Rattle.l4_types.specs.declared.letters.Letter as letters
 use Rattle.l4_core.specs.Processor.{Processor}
 use Rattle.l4_proc.specs.Events.{HasNone, IsRefused}
 use Rattle.l4_proc.specs.Logs.{events}
-use Rattle.l4_proc.specs.Working.{HasTakenTurn, IsSameWorker}
+use Rattle.l4_proc.specs.Working.{with_in_hand, HasTakenTurn, IsSameWorker}
 use Rattle.l4_proc.specs.declared.stops.Stop.{Stop}
 use Rattle.l4_proc.specs.declared.stops.Stop.TheVariants as stop
 use Rattle.l4_proc.specs.declared.worker.Worker.{Worker}
-use Rattle.l4_machine.specs.Inboxes.{letters_in, AreEmpty, IsFirstFilled}
+use Rattle.l4_machine.specs.Inboxes.{letters_in, IsTakenFrom}
+use Rattle.l4_machine.specs.Posters.{AreEmpty, IsFirstFilled}
+use Rattle.l4_machine.specs.declared.inbox.Inbox.{Inbox}
 use Rattle.l4_machine.specs.declared.station.Choice.{Choice}
 use Rattle.l4_machine.specs.declared.station.Choice.TheVariants as choice
 use Rattle.l4_machine.specs.declared.station.Station as program
@@ -84,6 +88,23 @@ CanTurn w = (why : Stop) → IsRefused w.core w.hand why → why ≡ stop.Idle
 abbrev pub HasTriedTurn : Bool → (old new : Worker) → Type 0
 HasTriedTurn true old new = HasTakenTurn old new
 HasTriedTurn false old new = IsSameWorker old new × HasNone old.core old.hand
+
+-- The first letter of one poster, if there is one, can be handled.
+abbrev pub CanHandleFirst : (from : ℕ) → Processor → (inbox : List (List Letter)) → Type 0
+CanHandleFirst from p inbox = (letter : Letter) →
+    slice_get (slice_index_or inbox from []) 0 ≡ Some letter → CanHandle p letter
+
+-- A worker handled the first letter of one poster, which was taken out.
+pub record HasHandledFirst (from : ℕ) (old new : Inbox) (before after : Worker) : Type 0 where
+  pub letter : letters.Letter
+  pub taken : IsTakenFrom from (letters_in old) (letter_of letter) (letters_in new)
+  pub turn : HasTakenTurn (with_in_hand from letter before) after
+
+-- Where there is no letter of this poster, nothing has changed.
+abbrev pub HandlesFirst : (from : ℕ) → Bool → (old new : Inbox) → (before after : Worker) → Type 0
+HandlesFirst from true old new before after = HasHandledFirst from old new before after
+HandlesFirst from false old new before after = (slice_index_or (letters_in old) from [] ≡ []) ×
+    (letters_in new ≡ letters_in old) × (after ≡ before)
 
 -- What is told of an event of this processor.
 abbrev pub event_of : Processor → Work → Event

@@ -1,52 +1,63 @@
 //! The letters that have arrived at a processor.
 ghost use Rattle.std.specs.Prelude.{◌≡◌, ◌≤◌, [], IfOk, length, map, replicate};
+ghost use Rattle.l4_model.specs.Machine.{most_processors};
 ghost use Rattle.l4_types.specs.LetterView.{letter_of};
+ghost use Rattle.l4_machine.specs.Posters.{MarksPosters};
 
+use l4_script::machine::Machine;
 use l4_types::errors::NoMemory;
 use l4_types::letters::Letter;
 use std::alloc::{AllocError, Global};
 use std::collections::VecDeque;
 
-/// For each processor the letters that came from it and were not taken yet.
+/// For each processor of a machine the letters that came from it and were not taken yet.
 #[derive(Drop)]
 pub(crate) struct Inbox {
     queues: Vec<VecDeque<Letter>>,
-    ghost few: { length queues.items ≤ 256 },
+    // Bit p is set where there are letters from processor p: a turn need not look at each queue.
+    posters: u64,
+    ghost few: { length queues.items ≤ most_processors },
+    ghost marks: { MarksPosters posters (map (λ letters. map letter_of letters.items) queues.items) },
 }
 
 impl Inbox {
-    ghost use Rattle.std.specs.Prelude.{◌≡◌, ◌<◌, ◌++◌, ◌∷◌, ◌↔◌, [], IfOk, IsTrue, OnOk, length};
-    ghost use Rattle.std.specs.Prelude.{map, replicate, slice_index_or};
+    ghost use Rattle.std.specs.Prelude.{◌≡◌, ◌<◌, ◌++◌, ◌∷◌, ◌↔◌, [], IfOk, IsTrue, OnOk, drop};
+    ghost use Rattle.std.specs.Prelude.{length, map, replicate, slice_get, slice_index_or};
+    ghost use Rattle.std.specs.Option.{option_map};
     ghost use Rattle.l4_model.specs.World.{changed};
     ghost use Rattle.l4_types.specs.LetterView.{letter_of};
-    ghost use Rattle.l4_machine.specs.Inboxes.{letters_in, AreEmpty, PostsFirst, TakesFirst};
-    ghost use Rattle.l4_machine.specs.Inboxes.{TakesFrom};
+    ghost use Rattle.l4_machine.specs.Inboxes.{letters_in};
+    ghost use Rattle.l4_machine.specs.Posters.{AreEmpty, PostsFirst};
 
-    /// An empty inbox for this many processors.
-    pub(crate) fn new(alloc: Global, cpus: u8) -> Result<Inbox, NoMemory>
-        ensures { IfOk result (λ inbox. letters_in inbox ≡ replicate cpus []) }
+    /// An empty inbox of a processor of this machine.
+    pub(crate) fn new(alloc: Global, machine: &Machine) -> Result<Inbox, NoMemory>
+        ensures { IfOk result (λ inbox. letters_in inbox ≡ replicate machine.now.cpus []) }
     {
         Ok(Inbox {
-            queues: empty_queues(alloc, cpus)?,
+            queues: empty_queues(alloc, machine.cpus())?,
+            posters: 0,
         })
     }
 
-    /// Takes out the first letter of the lowest processor that letters have come from. Returns it
-    /// with the number of that processor.
-    pub(crate) fn take(&mut self) -> Option<(u8, Letter)>
-        ensures { TakesFirst (letters_in self.old) result (letters_in self.new) }
+    /// The first of the letters that came from this processor.
+    pub(crate) fn first(&self, from: u8) -> Option<&Letter>
+        requires { from < length (letters_in self.now) }
+        ensures { option_map (λ letter. letter_of letter.now) result ≡
+            slice_get (slice_index_or (letters_in self.now) from []) 0 }
     {
-        let from = self.first_poster()?;
-        let letter = self.take_from(from)?;
-        Some((from, letter))
+        self.queues[usize::from(from)].front()
     }
 
-    /// Takes out the first of the letters that came from this processor.
-    pub(crate) fn take_from(&mut self, from: u8) -> Option<Letter>
+    /// Drops the first of the letters that came from this processor.
+    pub(crate) fn drop_first(&mut self, from: u8)
         requires { from < length (letters_in self.old) }
-        ensures { TakesFrom from (letters_in self.old) result (letters_in self.new) }
+        ensures { letters_in self.new ≡ changed (drop 1) (letters_in self.old) from }
     {
-        self.queues[usize::from(from)].pop_front()
+        let letters = &mut self.queues[usize::from(from)];
+        letters.pop_front();
+        if letters.is_empty() {
+            self.posters &= !(1 << from);
+        }
     }
 
     /// Appends a letter from a processor. If memory is refused, the letter is lost.
@@ -58,6 +69,7 @@ impl Inbox {
         let letters = &mut self.queues[usize::from(from)];
         letters.reserve(1)?;
         letters.push_back_reserved(letter);
+        self.posters |= 1 << from;
         Ok(())
     }
 
@@ -76,16 +88,14 @@ impl Inbox {
         self.first_poster().is_none()
     }
 
-    // The lowest processor that letters have come from.
-    fn first_poster(&self) -> Option<u8>
+    /// The lowest processor that letters have come from.
+    pub(crate) fn first_poster(&self) -> Option<u8>
         ensures { PostsFirst (letters_in self.now) result }
     {
-        for from in 0..self.queues.len() {
-            if !self.queues[from].is_empty() {
-                return Some(from as u8);
-            }
+        if self.posters == 0 {
+            return None;
         }
-        None
+        Some(self.posters.trailing_zeros() as u8)
     }
 }
 

@@ -1,10 +1,9 @@
 //! A processor with the letters that have arrived at it.
 ghost use Rattle.std.specs.Prelude.{◌≡◌, None};
 ghost use Rattle.l4_proc.specs.Logs.{IsClosed};
-ghost use Rattle.l4_machine.specs.Inboxes.{letters_in, TakesFirst};
 
 use crate::inbox::Inbox;
-use crate::workers::take_turn;
+use crate::workers::{handle_first, take_turn};
 use l4_core::processor::Core;
 use l4_proc::log::Log;
 use l4_proc::stops::ProcFault;
@@ -64,7 +63,7 @@ impl<'m> Station<'m> {
     {
         Ok(Station {
             worker: Worker::new(alloc, Core::new(alloc, machine, cpu)?),
-            inbox: Inbox::new(alloc, machine.cpus())?,
+            inbox: Inbox::new(alloc, machine)?,
         })
     }
 
@@ -88,8 +87,10 @@ impl<'m> Station<'m> {
         ensures { IfOk result (λ taken. TakesTurn taken self.old self.new) }
     {
         self.worker.begin()?;
-        take_mail(&mut self.inbox, &mut self.worker);
-        Ok(take_turn(&mut self.worker))
+        match self.inbox.first_poster() {
+            Some(from) => Ok(handle_first(&mut self.inbox, &mut self.worker, from)),
+            None => Ok(take_turn(&mut self.worker)),
+        }
     }
 
     // Handles the first letter of this poster.
@@ -99,13 +100,7 @@ impl<'m> Station<'m> {
         ensures { IfOk result (λ handled. HandlesFrom from handled self.old self.new) }
     {
         self.worker.begin()?;
-        match self.inbox.take_from(from) {
-            Some(letter) => {
-                self.worker.take_in_hand(Some((from, letter)));
-                Ok(take_turn(&mut self.worker))
-            }
-            None => Ok(false),
-        }
+        Ok(handle_first(&mut self.inbox, &mut self.worker, from))
     }
 
     // Takes the core's turn, though letters may have come.
@@ -199,28 +194,4 @@ impl<'m> Station<'m> {
         }
         self.has_no_mail()
     }
-}
-
-// Takes the first letter of the lowest poster in hand, if one has come.
-fn take_mail(inbox: &mut Inbox, worker: &mut Worker<'_>)
-    requires { worker.old.hand ≡ None }
-    ensures core { worker.new.core ≡ worker.old.core }
-    ensures log { worker.new.log ≡ worker.old.log }
-    ensures mail { TakesFirst (letters_in inbox.old) worker.new.hand (letters_in inbox.new) }
-{
-    if !inbox.is_empty() {
-        take_next(inbox, worker);
-    }
-}
-
-// Takes the first letter of the lowest poster in hand. It is a call of its own: a turn without a
-// letter is spared the room for one.
-#[inline(never)]
-fn take_next(inbox: &mut Inbox, worker: &mut Worker<'_>)
-    requires { worker.old.hand ≡ None }
-    ensures core { worker.new.core ≡ worker.old.core }
-    ensures log { worker.new.log ≡ worker.old.log }
-    ensures mail { TakesFirst (letters_in inbox.old) worker.new.hand (letters_in inbox.new) }
-{
-    worker.take_in_hand(inbox.take());
 }

@@ -4,7 +4,7 @@ ghost use Rattle.std.specs.Prelude.{◌≡◌, map};
 ghost use Rattle.l4_mail.specs.Ports.{AreOneFabric, place};
 
 use crate::ports::{gives, send};
-use crate::rows::push_answer;
+use crate::rows::{processor_of, push_answer};
 use l4_core::processor::Core;
 use l4_mail::fabric::fabric;
 use l4_mail::ports::Port;
@@ -65,15 +65,12 @@ fn a_text_is_parsed(rt: HostRuntime) -> Result<(), Fail> {
 
 // The second processor of a machine, made again if memory was refused.
 fn made<'m>(rt: &HostRuntime, machine: &'m Machine) -> Option<Core<'m>> {
-    if machine.cpus() < 2 {
-        return None;
-    }
     call_begins(rt, "Core::new");
-    let made = Core::new(rt.alloc(), machine, 1);
+    let made = processor_of(rt.alloc(), machine, 1);
     call_ends(rt);
     match made {
-        Ok(core) => Some(core),
-        Err(NoMemory) => Core::new(rt.alloc(), machine, 1).ok(),
+        Some(core) => Some(core),
+        None => processor_of(rt.alloc(), machine, 1),
     }
 }
 

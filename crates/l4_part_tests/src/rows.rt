@@ -10,8 +10,8 @@
 //     stands            whether there is something to do, the clock and the least deadline
 //     can STAMP         whether it has a stamp for the event of a letter of this one, or 0
 //
-// Questions that begin with `? ` are alternatives. Each is asked of a processor of its own, between
-// the questions that come before all of them and those that come after.
+// Questions that begin with `? ` are alternatives, and end their section. Each is asked of a
+// processor of its own, after the questions before them.
 //
 // An answer is `at` and the stamp of the event, a line for each step of the event, and `to CPU at
 // STAMP ..` for each letter that the event posts. Or it says why nothing was done. A letter is
@@ -361,29 +361,10 @@ pub(crate) fn push_answer(
             let deadline = core.least_deadline();
             Ok(writeln!(out, "  {busy} {} {deadline:?}", core.clock())?)
         }
+        "#" => Ok(()),
         "can" => Ok(writeln!(out, "  {}", core.can_stamp(rest.parse()?))?),
         _ => Err("no question".into()),
     }
-}
-
-// The rows with one of several alternative questions, that of this number, counted from 0. The
-// other questions and their answers are left out.
-fn chosen(alloc: Global, rows: &str, number: usize) -> Result<String, Fail> {
-    let mut out = String::new(alloc);
-    let mut several = 0usize;
-    let mut is_chosen = true;
-    for row in rows.lines() {
-        if row.starts_with('?') {
-            is_chosen = several == number;
-            several = several.saturating_add(1);
-        } else if !row.starts_with(' ') {
-            is_chosen = true;
-        }
-        if is_chosen && !row.starts_with('#') {
-            writeln!(out, "{row}")?;
-        }
-    }
-    Ok(out)
 }
 
 // Appends the questions of these rows, each with the answer that it gets.
@@ -394,21 +375,26 @@ fn push_answers(
     rows: &str,
 ) -> Result<(), Fail> {
     for row in rows.lines() {
-        if !row.starts_with(' ') {
+        if !row.is_empty() && !row.starts_with(' ') {
             writeln!(out, "{row}")?;
-            push_answer(alloc, out, core, row.strip_prefix("? ").unwrap_or(row))?;
+            push_answer(alloc, out, core, row)?;
         }
     }
     Ok(())
 }
 
+/// The processor of this number. None if the machine has none, or memory is refused.
+pub(crate) fn processor_of<'m>(alloc: Global, machine: &'m Machine, cpu: u8) -> Option<Core<'m>> {
+    if cpu >= machine.cpus() {
+        return None;
+    }
+    Core::new(alloc, machine, cpu).ok()
+}
+
 // The processor that a first row names.
 fn named<'m>(alloc: Global, machine: &'m Machine, row: &str) -> Result<Core<'m>, Fail> {
-    let cpu: u8 = row.strip_prefix("cpu ").ok_or("a processor")?.parse()?;
-    if cpu >= machine.cpus() {
-        return Err("a processor of the machine".into());
-    }
-    Ok(Core::new(alloc, machine, cpu)?)
+    let cpu = row.strip_prefix("cpu ").ok_or("a first row")?.parse()?;
+    Ok(processor_of(alloc, machine, cpu).ok_or("a processor")?)
 }
 
 // The questions of these rows, each with the answer that it gets.
@@ -420,9 +406,22 @@ fn answered(alloc: Global, machine: &Machine, rows: &str) -> Result<String, Fail
     Ok(out)
 }
 
+// Whether the machine answers the questions of these rows as the rows say. Prints them if not.
+fn is_answered<R: AllocGlobal + Print>(
+    rt: &R,
+    machine: &Machine,
+    wanted: &str,
+) -> Result<bool, Fail> {
+    let said = answered(rt.alloc(), machine, wanted)?;
+    if said.as_str().trim_end() == wanted.trim_end() {
+        return Ok(true);
+    }
+    println!(rt; "wanted:\n{wanted}\nanswered:\n{said}")?;
+    Ok(false)
+}
+
 /// Whether the machine of a text answers the questions of these rows as the rows say. An empty row
-/// ends a section; each section is asked by itself. Prints the first section that is answered
-/// otherwise.
+/// ends a section; each section is asked by itself.
 pub(crate) fn are_answered<R: AllocGlobal + Print>(
     rt: &R,
     text: &str,
@@ -430,12 +429,10 @@ pub(crate) fn are_answered<R: AllocGlobal + Print>(
 ) -> Result<bool, Fail> {
     let machine = Machine::parse(rt.alloc(), text.as_bytes())?;
     for section in rows.split("\n\n") {
-        let several = section.matches("\n? ").count();
-        for number in 0..several.max(1) {
-            let wanted = chosen(rt.alloc(), section, number)?;
-            let said = answered(rt.alloc(), &machine, wanted.as_str())?;
-            if said != wanted {
-                println!(rt; "wanted:\n{wanted}answered:\n{said}")?;
+        let (before, alternatives) = section.split_once("\n? ").unwrap_or((section, ""));
+        for alternative in alternatives.split("\n? ") {
+            let wanted = format!(in rt.alloc(); "{before}\n{alternative}")?;
+            if !is_answered(rt, &machine, wanted.as_str())? {
                 return Ok(false);
             }
         }

@@ -81,7 +81,8 @@ fn turn(core: &mut Core<'_>, buffer: &mut EventBuffer<History>) -> Result<u64, S
 
 impl<'m> Worker<'m> {
     ghost use Rattle.std.specs.Prelude.{ℕ, ◌≡◌, ◌↔◌, ◌++◌, ◌<◌, [], false, true, IfErr, IfNone};
-    ghost use Rattle.std.specs.Prelude.{IfOk, IsErrOf, IsSome, None, OnErr, OnOk, is_some, vec_len};
+    ghost use Rattle.std.specs.Prelude.{IfOk, IsErrOf, IsSome, None, OnErr, OnOk, Some, is_some};
+    ghost use Rattle.std.specs.Prelude.{vec_len};
     ghost use Rattle.std.specs.Option.{option_map, option_to_list};
     ghost use Rattle.std.specs.Vec.{vec_capacity};
     ghost use Rattle.l4_core_model.specs.Runs.{IsMachine};
@@ -93,6 +94,7 @@ impl<'m> Worker<'m> {
     ghost use Rattle.l4_proc.specs.Events.{event_in_hand, IsRefused};
     ghost use Rattle.l4_proc.specs.Logs.{all_steps, HasBegun, HasLetters, IsSameLog};
     ghost use Rattle.l4_proc.specs.Working.{HasDone, HasTakenTurn, HasTickedTo, IsSameWorker};
+    ghost use Rattle.l4_proc.specs.Working.{with_in_hand};
 
     /// A processor that has done nothing, without a port. It takes no memory.
     pub fn new(alloc: Global, core: Core<'m>) -> Worker<'m>
@@ -145,17 +147,6 @@ impl<'m> Worker<'m> {
         self.log.begin()
     }
 
-    /// Puts this letter in hand, with the processor that posted it. The next turn handles it.
-    pub fn take_in_hand(&mut self, next: Option<(u8, Letter)>)
-        requires { self.old.hand ≡ None }
-        ensures core { self.new.core ≡ self.old.core }
-        ensures hand { self.new.hand ≡ next }
-        ensures stop { self.new.stop ≡ self.old.stop }
-        ensures log { self.new.log ≡ self.old.log }
-    {
-        self.hand = next;
-    }
-
     /// Takes a turn as the event that has begun: handles the letter in hand, else takes the core's
     /// turn. If the turn is not taken, core and letter stay.
     pub fn take_turn(&mut self) -> Result<(), Stop>
@@ -170,6 +161,22 @@ impl<'m> Worker<'m> {
         let choice = self.next_choice();
         let stamp = self.go_on()?;
         self.log.end_turn(stamp, choice);
+        Ok(())
+    }
+
+    /// Takes a turn as the event that has begun: handles this letter, which processor `from` posted.
+    /// It is left where it lies, since a letter is large. If it is not handled, nothing is changed.
+    pub fn handle(&mut self, from: u8, letter: &Letter) -> Result<(), Stop>
+        requires open { IsOpen self.old.log.buffer }
+        requires room { vec_len self.old.log.ends < vec_capacity self.old.log.ends }
+        requires empty { self.old.hand ≡ None }
+        ensures ok { OnOk result (HasTakenTurn (with_in_hand from letter.now self.old) self.new) }
+        ensures err { OnErr result (IsSameWorker self.old self.new) }
+        ensures why { IfErr result (λ stop.
+            IsRefused self.old.core (Some (from, letter.now)) stop) }
+    {
+        let stamp = handle(&mut self.core, letter, &mut self.log.buffer)?;
+        self.log.end_turn(stamp, letter_number(from));
         Ok(())
     }
 

@@ -10,8 +10,8 @@ still_there [] ys i x at = absurd cc
 still_there (y ∷ xs) ys zero x at = at
 still_there (y ∷ xs) ys (suc i) x at = still_there xs ys i x at
 
-pub gather-requires : goal.gather-requires
-gather-requires c =
+pub gather_once-requires : goal.gather_once-requires
+gather_once-requires c =
     let firsts = c.pop-last.new.self.items in
     let last = option_to_list c.pop-last.result in
     let all = subst (AreOfOne c.args.machine.now) c.pop-last.ensures.items c.requires in

@@ -1,10 +1,10 @@
 use Rattle.std.proofs.Common.{subst, arith}
 use Rattle.l4_proc.specs.Working.{HasGoneOn}
-use Rattle.l4_machine.proofs.InOneHand.{assembled, one_gone_on}
+use Rattle.l4_machine.proofs.InOneHand.{one_gone_on}
 use Rattle.l4_host_tests.proofs.gathers.worked.Goals as goal
 
 pub loop-cpu-init : goal.loop-cpu-init
-loop-cpu-init g c = assembled c.args.machine.now c.in-Ok.processors.items c.in-Ok.ensures
+loop-cpu-init g c = c.in_ok-processors.ensures
 
 pub loop-cpu-preserved : goal.loop-cpu-preserved
 loop-cpu-preserved g c =

@@ -15,7 +15,7 @@ returns-clause-ok g c =
       asked.1,
       replay_expected c.args.printed c.args.machine.now c.args.rest c.args.schedule.now asked.0 _ _ _ _ _ _
           (asked.2 ∙ ap (λ (es : List Entry). Ok (map entry_from es)) (sym c.as_slice.ensures.value)) c.in_ok-outcome.ensures.ok
-          verdict.lines verdict.told verdict.status,
+          verdict.lines verdict.unmet verdict.status,
     )
 
 pub verdict_on-requires : goal.verdict_on-requires

@@ -6,7 +6,7 @@ returns-clause-ok g c =
     let found = c.in_ok-outcome.ensures in
     let verdict = c.in_ok-verdict_on.ensures in
     run_expected c.args.printed c.args.machine.now c.args.turns _ _ _ _ _ (λ refused. absurd (let err = found.range.1 refused in cc)) found.ok
-    verdict.lines verdict.told verdict.status
+    verdict.lines verdict.unmet verdict.status
 
 pub verdict_on-requires : goal.verdict_on-requires
 verdict_on-requires g c = c.in_ok-outcome.ensures.ok.outcome.is_true.possible

@@ -1,4 +1,4 @@
-use Rattle.std.proofs.Common.{◌≤◌, List, map, ap, subst, ◌∙◌}
+use Rattle.std.proofs.Common.{List, map, ap, ◌∙◌}
 use Rattle.l4_machine.specs.Entries.{entry_from}
 use Rattle.l4_machine.specs.declared.entries.Entry.{Entry}
 use Rattle.l4_schedules.specs.Written.{recorded_text}
@@ -10,7 +10,7 @@ returns-clause-ok g c =
     let found = c.in_ok-outcome.ensures in
     let output = c.in_ok-output_of_run.ensures in
     let text = c.in_ok-recorded_text.ensures ∙ ap (λ (es : List Entry). recorded_text (map entry_from es)) c.as_slice.ensures.value in
-    is_recorded c.args.recording.now.printed c.args.machine.now c.args.recording.now.turns _ _ _ _ _ (subst (λ n. n ≤ 16) c.cpus.ensures.value c.cpus.ensures.limit)
+    is_recorded c.args.recording.now.printed c.args.machine.now c.args.recording.now.turns _ _ _ _ _ c.facts.ensures.limit
     (λ refused. absurd (let err = found.range.1 refused in cc)) found.ok found.replayed found.lawful text output.lines output.status
 
 pub output_of_run-requires : goal.output_of_run-requires

@@ -1,11 +1,11 @@
-use Rattle.std.proofs.Common.{◌≡◌, true, [], get_or, map, ◌∙◌, arith, rules}
-use Rattle.l4_machine.proofs.Inboxes.{queue, queue_read, below_next, nothing_there}
+use Rattle.std.proofs.Common.{◌≤◌, length, arith, rules}
+use Rattle.std.proofs.lemmas.List.{length-map}
+use Rattle.l4_machine.specs.Inboxes.{letters_in}
+use Rattle.l4_machine.proofs.Inboxes.{is_first, queue}
 use Rattle.l4_machine.proofs.inbox.Inbox.first_poster.Goals as goal
 
-pub loop-from-preserved : goal.loop-from-preserved
-loop-from-preserved c = λ other lt.
-    let qs = c.args.self.now.queues.items in
-    let from = c.loop-from.from in
-    let empty : c.is_empty.result ≡ true = search rules in
-    below_next (λ k. get_or (map queue qs) k [] ≡ []) from other c.loop-from.invariant
-    (queue_read queue qs from c.index.result.now (omega arith) c.index.ensures ∙ nothing_there c.index.result.now c.is_empty.result c.is_empty.ensures empty) lt
+pub returns : goal.returns
+returns c =
+    let i = c.args.self.now in
+    let few : length i.queues.items ≤ 16 = i.few in
+    is_first (letters_in i) i.posters (omega (arith, few, length-map i.queues.items queue)) (search rules) (search rules) i.marks

@@ -1,28 +1,52 @@
-use Rattle.std.proofs.Common.{refl}
-use Rattle.l4_machine.specs.Inboxes.{letters_in}
-use Rattle.l4_machine.proofs.Stations.{at_hand, can_turn, first_taken, keeps, tried_kept, turn_tried}
+use Rattle.std.proofs.Common.{refl, None}
+use Rattle.l4_machine.proofs.Stations.{can_handle_first, can_turn, first_tried, has_begun, keeps, letter_kept, own_tried, tried_kept}
 use Rattle.l4_machine.proofs.station.Station.take_turn.Goals as goal
+
+pub handle_first-requires-clause-can : goal.handle_first-requires-clause-can
+handle_first-requires-clause-can c =
+    let old = c.args.self.now in
+    let begun = c.in_ok-begin.ensures in
+    can_handle_first old c.begin.new.self c.in-Some.from c.requires (has_begun old c.begin.new.self begun.core begun.hand begun.ok)
+
+pub handle_first-requires-clause-empty : goal.handle_first-requires-clause-empty
+handle_first-requires-clause-empty c =
+    let old = c.args.self.now in
+    let begun = c.in_ok-begin.ensures in
+    (has_begun old c.begin.new.self begun.core begun.hand begun.ok).held
+
+pub invariant_of-self-in-Some : goal.invariant_of-self-in-Some
+invariant_of-self-in-Some c =
+    let old = c.args.self.now in
+    let begun = c.in_ok-begin.ensures in
+    let new = c.handle_first.new in
+    let k = letter_kept c.in-Some.from c.handle_first.result old.inbox new.inbox old.worker c.begin.new.self new.worker (keeps old)
+    (has_begun old c.begin.new.self begun.core begun.hand begun.ok) c.handle_first.ensures in
+    record { empty = k.empty; closed = k.closed; own = k.own }
+
+pub returns-in-Some : goal.returns-in-Some
+returns-in-Some c =
+    let old = c.args.self.now in
+    let begun = c.in_ok-begin.ensures in
+    first_tried c.in-Some.from c.handle_first.result old _ c.begin.new.self (keeps old)
+    (has_begun old c.begin.new.self begun.core begun.hand begun.ok) c.in-Some.ensures c.handle_first.ensures
 
 pub take_turn-requires-clause-can : goal.take_turn-requires-clause-can
 take_turn-requires-clause-can c =
     let old = c.args.self.now in
-    let h = at_hand old.worker c.begin.new.self c.take_mail.new.worker c.take_mail.new.worker.hand c.in_ok-begin.ensures.core
-    c.in_ok-begin.ensures.ok c.take_mail.ensures.core refl c.take_mail.ensures.log in
-    can_turn old c.take_mail.new.worker c.take_mail.new.worker.hand c.requires h
-    (first_taken old c.take_mail.new.worker.hand (letters_in c.take_mail.new.inbox) c.take_mail.ensures.mail)
+    let begun = c.in_ok-begin.ensures in
+    can_turn old c.begin.new.self c.requires (has_begun old c.begin.new.self begun.core begun.hand begun.ok)
 
-pub invariant_of-self-2 : goal.invariant_of-self-2
-invariant_of-self-2 c =
+pub invariant_of-self-in-None : goal.invariant_of-self-in-None
+invariant_of-self-in-None c =
     let old = c.args.self.now in
-    let h = at_hand old.worker c.begin.new.self c.take_mail.new.worker c.take_mail.new.worker.hand c.in_ok-begin.ensures.core
-    c.in_ok-begin.ensures.ok c.take_mail.ensures.core refl c.take_mail.ensures.log in
-    let k = tried_kept c.take_turn.result old.worker c.take_mail.new.worker c.take_turn.new.worker c.take_mail.new.worker.hand
-    (keeps old) h c.take_turn.ensures in
+    let begun = c.in_ok-begin.ensures in
+    let k = tried_kept c.take_turn.result old.worker c.begin.new.self c.take_turn.new.worker None (keeps old)
+    (has_begun old c.begin.new.self begun.core begun.hand begun.ok) c.take_turn.ensures in
     record { empty = k.empty; closed = k.closed; own = k.own }
 
-pub returns : goal.returns
-returns c =
+pub returns-in-None : goal.returns-in-None
+returns-in-None c =
     let old = c.args.self.now in
-    let h = at_hand old.worker c.begin.new.self c.take_mail.new.worker c.take_mail.new.worker.hand c.in_ok-begin.ensures.core
-    c.in_ok-begin.ensures.ok c.take_mail.ensures.core refl c.take_mail.ensures.log in
-    turn_tried c.take_turn.result old _ c.take_mail.new.worker c.take_mail.new.worker.hand (keeps old) h c.take_mail.ensures.mail c.take_turn.ensures
+    let begun = c.in_ok-begin.ensures in
+    own_tried c.take_turn.result old _ c.begin.new.self (keeps old)
+    (has_begun old c.begin.new.self begun.core begun.hand begun.ok) c.in-None.ensures refl c.take_turn.ensures

@@ -1,6 +1,6 @@
 use Rattle.std.proofs.Common.{refl, sym, inl, inr, ◌∙◌}
 use Rattle.l4_jobs.proofs.Judged.{passed_told, place_is, refused_told}
-use Rattle.l4_jobs.proofs.audits.told.Goals as goal
+use Rattle.l4_jobs.proofs.audits.judged_history.Goals as goal
 
 pub returns-in_ok-passed_lines-in-None-clause-lines : goal.returns-in_ok-passed_lines-in-None-clause-lines
 returns-in_ok-passed_lines-in-None-clause-lines c = λ trace reads.

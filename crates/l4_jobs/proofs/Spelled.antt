@@ -1,0 +1,56 @@
+-- What is read of a trace, by the lines that spell its steps.
+use Rattle.std.proofs.Common.{◌≡◌, ℕ, Bool, true, false, Option, Some, None, Result, Ok, Err, List, ap, subst, sym, inl, inr, ◌∙◌}
+use Rattle.std.specs.Prelude.{◌⊎◌, IfErr}
+use Rattle.std.specs.declared.io.ErrorKind.{ErrorKind}
+use Rattle.l4_model.specs.Words.{GlobalId}
+use Rattle.l4_model.specs.Machine.{Machine}
+use Rattle.l4_model.specs.Steps.{Step}
+use Rattle.l4_model.specs.History.{refused_place}
+use Rattle.l4_trace.specs.Lines.{IsTraceOf}
+use Rattle.l4_trace.specs.Reading.{HasFaultAt, Reads, steps_of}
+use Rattle.l4_trace.specs.declared.fault.TraceFault.{TraceFault}
+use Rattle.l4_trace.specs.declared.fault.TraceFault.TheVariants as trace_fault
+use Rattle.l4_trace.proofs.ReadTexts.{first_fault, one_spelling, read_back}
+use Rattle.l4_commands.specs.declared.job.ChartJob.{ChartJob}
+use Rattle.l4_jobs.specs.Audits.{IsFaultOfTrace, IsRefusedAt}
+use Rattle.l4_jobs.specs.ChartJobs.{chosen_by, fault_of_threads}
+use Rattle.l4_jobs.specs.Jobs.{IsChartFault, fault_of_reading}
+use Rattle.l4_jobs.specs.declared.fault.Fault.{Fault}
+use Rattle.l4_jobs.specs.declared.fault.Fault.TheVariants as fault
+
+-- A text spells one list of steps, or has a faulty line.
+
+pub one_trace : (text : List ℕ) (h g : List Step) → IsTraceOf text h → IsTraceOf text g → h ≡ g
+one_trace text h g is other = one_spelling h g is.0 other.0 (is.1 ∙ sym other.1)
+
+never_both : (text : List ℕ) (steps : List Step) (line : ℕ) → IsTraceOf text steps → HasFaultAt text line → ⊥
+never_both text steps line is faulty =
+    absurd (let bad : Ok steps ≡ Err line = sym (read_back steps is.0) ∙ ap steps_of is.1 ∙ (first_fault text line).1 faulty in cc)
+
+pub same_place : (m : Machine) (text : List ℕ) (steps : List Step) (number : Option ℕ) → IsTraceOf text steps → IsRefusedAt m text number →
+    refused_place m steps ≡ number
+same_place m text steps number is (others, spelled, place) = ap (refused_place m) (one_trace text steps others is spelled) ∙ place
+
+-- A trace whose steps are told of, or are possible, has no fault.
+pub trace_right : (tells : Bool) (m : Machine) (text : List ℕ) (steps : List Step) (f : Fault) → IsTraceOf text steps →
+    (tells ≡ true) ⊎ (refused_place m steps ≡ None) → IsFaultOfTrace tells m text f → ⊥
+trace_right tells m text steps f is right (inl (line, at, faulty)) = never_both text steps line is faulty
+trace_right tells m text steps f is (inl told) (inr (number, at, untold, refused)) = absurd (let bad : true ≡ false = sym told ∙ untold in cc)
+trace_right tells m text steps f is (inr none) (inr (number, at, untold, refused)) =
+    absurd (let bad : None ≡ Some number = sym none ∙ same_place m text steps (Some number) is refused in cc)
+
+-- The fault of reading a trace is that of its first line that spells no step.
+pub line_fault : {X : Type 0} (tells : Bool) (m : Machine) (text : List ℕ) (r : Result X Fault) (e : TraceFault) →
+    IfErr r (λ f. f ≡ fault_of_reading e) → Reads {X = List Step} (λ steps. steps) (Err e) (steps_of text) → IfErr r (λ f. (f ≡ fault.NoMemory) ⊎ IsFaultOfTrace tells m text f)
+line_fault tells m text (Ok x) e is reads = tt
+line_fault tells m text (Err f) trace_fault.NoMemory is reads = inl is
+line_fault tells m text (Err f) (trace_fault.Line line) is reads = inr (inl (line, is, (first_fault text line).0 reads))
+
+-- The same of a chart, whose threads were found before.
+pub chart_fault : {X : Type 0} (chart : ChartJob) (m : Machine) (gives : Result (List ℕ) ErrorKind → Type 0) (text slice : List ℕ)
+    (threads : Option (List GlobalId)) (r : Result X Fault) → chosen_by m chart ≡ Ok threads → gives (Ok text) → slice ≡ text →
+    IfErr r (λ f. (f ≡ fault.NoMemory) ⊎ IsFaultOfTrace true m slice f) → IfErr r (λ f. (f ≡ fault.NoMemory) ⊎ IsChartFault chart m gives f)
+chart_fault chart m gives text slice threads (Ok x) chosen given same is = tt
+chart_fault chart m gives text slice threads (Err f) chosen given same (inl none) = inl none
+chart_fault chart m gives text slice threads (Err f) chosen given same (inr is) =
+    inr (inr (ap fault_of_threads chosen, inr (text, given, subst (λ t. IsFaultOfTrace true m t f) same is)))

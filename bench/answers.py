@@ -2,7 +2,7 @@
 and which steps are. Prints counts.
 
 The machines and histories are random, as in second.py. Asked are the whole trace of each, a
-beginning of it, and it with one field spoilt, and with one retarget late.
+beginning of it, six times it with one field spoilt, and it with one retarget late.
 """
 
 import collections
@@ -13,6 +13,7 @@ import sys
 from second import explained, machines, model, randoms, reasons, traces
 
 SEED = 20_261_126
+SPOILT = 6
 KINDS = (randoms.General, randoms.HandingOn, randoms.Conflicts, randoms.HandingOn)
 
 
@@ -61,7 +62,7 @@ def questions(dice, machine, history):
     trace = traces.text(history)
     yield "whole traces", trace
     yield "beginnings", traces.text(history[: dice.randint(0, len(history))])
-    if trace:
+    for _ in range(SPOILT if trace else 0):
         yield "spoilt traces", randoms.spoilt(dice, machine, trace)
     late = randoms.retargeted_late(dice, trace)
     if late:

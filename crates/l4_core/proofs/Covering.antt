@@ -145,15 +145,15 @@ covers-noted d e m cpu l i c own puts = record {
     by o (inl g) = c.within o g
     by o (inr g) = let same = eqb-true o i g in subst (λ k. IsOwn m cpu k) (sym same) own
 
+pub no_duty : (o : Option Duty) → is_some o ≡ false → o ≡ None
+no_duty None e = refl
+no_duty (Some duty) e = cc
+
 pub covers-unnoted : (d : List ℕ) (m : Machine) (cpu : ℕ) (l : Local) (i : ℕ) → CoversOthers i d m cpu l → is_some (duty_at m cpu l i) ≡ false → Covers d m cpu l
 covers-unnoted d m cpu l i c idle = record { within = c.within; others = λ o own h. by o own h (cases_eq o i) }
   where
-    none : (o : Option Duty) → is_some o ≡ false → o ≡ None
-    none None e = refl
-    none (Some duty) e = cc
-
     by : (o : ℕ) → IsOwn m cpu o → has d o ≡ false → (o ≡ i) ⊎ (o ≡ i → ⊥) → duty_at m cpu l o ≡ None
-    by o own h (inl same) = subst (λ k. duty_at m cpu l k ≡ None) (sym same) (none (duty_at m cpu l i) idle)
+    by o own h (inl same) = subst (λ k. duty_at m cpu l k ≡ None) (sym same) (no_duty (duty_at m cpu l i) idle)
     by o own h (inr apart) = c.others o own (λ same. apart (sym same)) h
 
 -- Of two places the first one was noted, or has no duty.
@@ -172,12 +172,8 @@ but-noted d e m cpu l i j c own puts = record {
 pub but-unnoted : (d : List ℕ) (m : Machine) (cpu : ℕ) (l : Local) (i j : ℕ) → CoversBut i j d m cpu l → is_some (duty_at m cpu l i) ≡ false → CoversOthers j d m cpu l
 but-unnoted d m cpu l i j c idle = record { within = c.within; others = λ o own apart h. by o own apart h (cases_eq o i) }
   where
-    none : (o : Option Duty) → is_some o ≡ false → o ≡ None
-    none None e = refl
-    none (Some duty) e = cc
-
     by : (o : ℕ) → IsOwn m cpu o → (j ≡ o → ⊥) → has d o ≡ false → (o ≡ i) ⊎ (o ≡ i → ⊥) → duty_at m cpu l o ≡ None
-    by o own apart h (inl same) = subst (λ k. duty_at m cpu l k ≡ None) (sym same) (none (duty_at m cpu l i) idle)
+    by o own apart h (inl same) = subst (λ k. duty_at m cpu l k ≡ None) (sym same) (no_duty (duty_at m cpu l i) idle)
     by o own apart h (inr ne) = c.others o own (λ same. ne (sym same)) apart h
 
 -- A thread of another processor has no duty here.

@@ -1,17 +1,17 @@
 -- The duty of a thread by its parts.
-use Rattle.std.proofs.Common.{◌≡◌, ℕ, Bool, true, false, cond, ◌&&◌, not, Option, Some, None, List, [], ◌∷◌, map, refl, sym, ap, ◌∙◌}
+use Rattle.std.proofs.Common.{◌≡◌, ℕ, Bool, true, false, cond, ◌&&◌, ◌||◌, not, Option, Some, None, List, [], ◌∷◌, map, refl, sym, ap, ◌∙◌}
 use Rattle.std.specs.Prelude.{◌==◌, find, slice_get, slice_index_or, is_some}
 use Rattle.std.specs.Option.{option_map}
 use Rattle.std.specs.List.{list_any}
 use Rattle.l4_model.specs.Words.{GlobalId, Id, NilThread, AnyThread, AnyLocalThread, LocalThread, GlobalThread}
 use Rattle.l4_model.specs.Machine.{Machine, Declaration}
-use Rattle.l4_model.specs.World.{Receive, Send, Owed, Phase, Ready, Sending, Receiving, Ordering, Ended, Deleted, Thread, is_deleted, is_alive, receive_now}
+use Rattle.l4_model.specs.World.{Receive, Send, Owed, Phase, Ready, Sending, Receiving, Ordering, Ended, Deleted, Thread, is_deleted, is_alive, is_ready, is_sending, receive_now}
 use Rattle.l4_model.specs.Conditions.{Found, is_nobody, is_zero, may_still_accept, call_accepts, ◌>>=◌, ◌>>◌}
 use Rattle.l4_core_model.specs.Plain as plain
 use Rattle.l4_core_model.specs.Local.{Local, thread, held, held_by, declared, owed_beside}
 use Rattle.l4_core_model.specs.Acts.{first_of_list, zero_refusable}
 use Rattle.l4_core_model.specs.Turns.{Duty, Retargets, DropsOwn, RefusesFirst, TellsGone, CancelsOwn, CancelsReceive, DeliversFirst, ClosesReceive, RefusesZero, next_untold, first_some}
-use Rattle.l4_core.specs.Covered.{after_retarget, duty_at, is_zero_send, first_zero, names_nobody, first_refusable, untold_of, deleted_duty, or_close, or_refuse, receive_duty, living_duty, duty_of_thread}
+use Rattle.l4_core.specs.Covered.{after_retarget, duty_at, is_zero_send, first_zero, names_nobody, first_refusable, untold_of, deleted_duty, or_close, or_refuse, receive_duty, living_duty, duty_of_thread, runs_or_sends}
 use Rattle.l4_core.proofs.Zeros.{find_same}
 
 -- A deleted thread's sends of timeout zero are not refused as such.
@@ -134,29 +134,45 @@ pub none_refusable : (m : Machine) (l : Local) (i : ℕ) → first_zero l (plain
 none_refusable m l i e =
     find_fewer (λ w. is_zero_send (thread l w.block).send) (λ w. zero_refusable m (held m l i) (thread l w.block).send) (plain.list_of l.lists i) (λ w. not_zero m (held m l i) (thread l w.block).send) e
 
--- A ready thread, at which no send of timeout zero waits, has no duty but a retarget that is kept beside it.
-pub ready_owes : (m : Machine) (cpu : ℕ) (l : Local) (i : ℕ) → (thread l i).phase ≡ Ready → plain.is_queued l.lists i ≡ false → first_zero l (plain.list_of l.lists i) ≡ None →
-    is_some (duty_at m cpu l i) ≡ is_some (owed_beside l i)
-ready_owes m cpu l i ready free none =
+-- A living thread without a receive phase, whose send is not both cancelled and queued, and at which no send of timeout zero waits, has no duty but a retarget that is kept beside it.
+idle_owes : (m : Machine) (cpu : ℕ) (l : Local) (i : ℕ) → is_deleted (thread l i).phase ≡ false → receive_now (thread l i).phase ≡ None → ((thread l i).cancel_send && plain.is_queued l.lists i) ≡ false →
+    first_zero l (plain.list_of l.lists i) ≡ None → is_some (duty_at m cpu l i) ≡ is_some (owed_beside l i)
+idle_owes m cpu l i alive waits kept none =
     let t : Thread = thread l i in
     let ws : List plain.Waiting = plain.list_of l.lists i in
-    let of_phase : Phase → Option Duty = λ p.
-    cond (is_deleted p) (deleted_duty (plain.is_queued l.lists i) ws (untold_of m cpu l i))
-    (cond (t.cancel_send && plain.is_queued l.lists i) (Some CancelsOwn) (or_refuse (receive_duty (names_nobody m l) t.cancel_receive ws (receive_now p)) (first_refusable m l i))) in
-    let idle : of_phase t.phase ≡ None =
-    ap of_phase ready
-    ∙ ap (λ b. cond (t.cancel_send && b) (Some CancelsOwn) (or_refuse None (first_refusable m l i))) free
-    ∙ ap (λ o. cond (t.cancel_send && false) (Some CancelsOwn) (or_refuse None o)) (none_refusable m l i none)
-    ∙ never t.cancel_send in
+    let queued : Bool = plain.is_queued l.lists i in
+    let nobody : Id → Bool = names_nobody m l in
+    let idle : duty_of_thread nobody t queued ws (untold_of m cpu l i) (first_refusable m l i) ≡ None =
+    ap (λ b. cond b (deleted_duty queued ws (untold_of m cpu l i)) (living_duty nobody t queued ws (first_refusable m l i))) alive
+    ∙ ap (λ b. cond b (Some CancelsOwn) (or_refuse (receive_duty nobody t.cancel_receive ws (receive_now t.phase)) (first_refusable m l i))) kept
+    ∙ ap (λ r. or_refuse (receive_duty nobody t.cancel_receive ws r) (first_refusable m l i)) waits
+    ∙ ap (or_refuse None) (none_refusable m l i none) in
     ap is_some (duty_is m cpu l i ∙ ap (after_retarget (owed_beside l i)) idle) ∙ owes (owed_beside l i)
   where
-    never : (b : Bool) → cond (b && false) (Some CancelsOwn) None ≡ None
-    never true = refl
-    never false = refl
-
     owes : (o : Option Owed) → is_some (after_retarget o None) ≡ is_some o
     owes None = refl
     owes (Some owed) = refl
+
+-- So has one that is ready, or in a send phase that is not cancelled. What is ready stands in no list.
+pub runs_or_sends_owes : (m : Machine) (cpu : ℕ) (l : Local) (i : ℕ) → runs_or_sends (thread l i) ≡ true → ((thread l i).phase ≡ Ready → plain.is_queued l.lists i ≡ false) → first_zero l (plain.list_of l.lists i) ≡ None →
+    is_some (duty_at m cpu l i) ≡ is_some (owed_beside l i)
+runs_or_sends_owes m cpu l i is free none = by (thread l i).phase refl is
+  where
+    never : (b : Bool) → (b && false) ≡ false
+    never true = refl
+    never false = refl
+
+    uncancelled : (b queued : Bool) → not b ≡ true → (b && queued) ≡ false
+    uncancelled true queued e = cc
+    uncancelled false queued e = refl
+
+    by : (phase : Phase) → (thread l i).phase ≡ phase → (is_ready phase || is_sending phase && not (thread l i).cancel_send) ≡ true → is_some (duty_at m cpu l i) ≡ is_some (owed_beside l i)
+    by Ready e h = idle_owes m cpu l i (ap is_deleted e) (ap receive_now e) (ap (λ b. (thread l i).cancel_send && b) (free e) ∙ never (thread l i).cancel_send) none
+    by Sending e h = idle_owes m cpu l i (ap is_deleted e) (ap receive_now e) (uncancelled (thread l i).cancel_send (plain.is_queued l.lists i) h) none
+    by (Receiving receive since) e h = absurd cc
+    by Ordering e h = absurd cc
+    by Ended e h = absurd cc
+    by Deleted e h = absurd cc
 
 -- The first block that passes a test is that of the first send that does.
 pub find_blocks : (test : ℕ → Bool) (ws : List plain.Waiting) → find test (map (λ w. w.block) ws) ≡ option_map (λ w. w.block) (find (λ w. test w.block) ws)

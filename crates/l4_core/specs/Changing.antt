@@ -1,5 +1,5 @@
 -- When something can happen to a thread.
-use Rattle.std.specs.Prelude.{None, ◌≡◌, ℕ, ◌+◌, ◌<◌, ◌^◌, Bool, true, false, is_some}
+use Rattle.std.specs.Prelude.{None, ◌≡◌, ◌+◌, ◌<◌, ◌^◌, Bool, true, false, is_some}
 use Rattle.l4_model.specs.World.{Thread, is_deleted}
 use Rattle.l4_thread.specs.Changes.{may_advance}
 use Rattle.l4_thread.specs.declared.changes.Change.{Change}

@@ -1,10 +1,10 @@
 -- Sets of places that leave none out: of those of this processor's threads with a duty, and of
 -- those where a send of timeout zero waits.
-use Rattle.std.specs.Prelude.{◌≡◌, ℕ, ◌<◌, Bool, true, false, if◌then◌else◌, ◌&&◌, Option, Some, None, List, find, slice_index_or}
+use Rattle.std.specs.Prelude.{◌≡◌, ℕ, ◌<◌, Bool, true, false, if◌then◌else◌, ◌&&◌, ◌||◌, not, Option, Some, None, List, find, slice_index_or}
 use Rattle.std.specs.Option.{option_map}
 use Rattle.l4_model.specs.Words.{Id, AnyThread}
 use Rattle.l4_model.specs.Machine.{Machine}
-use Rattle.l4_model.specs.World.{Receive, Send, Thread, Owed, is_deleted, receive_now}
+use Rattle.l4_model.specs.World.{Receive, Send, Thread, Owed, is_deleted, is_ready, is_sending, receive_now}
 use Rattle.l4_model.specs.Conditions.{is_zero, is_nobody}
 use Rattle.l4_core_model.specs.Plain.{Waiting, list_of, first_taken}
 use Rattle.l4_core_model.specs.Local.{Local, thread, held, held_by}
@@ -109,6 +109,11 @@ abbrev pub living_duty : (nobody : Id → Bool) → Thread → (queued : Bool) �
 living_duty nobody t queued ws zero =
     if t.cancel_send && queued then Some CancelsOwn
     else or_refuse (receive_duty nobody t.cancel_receive ws (receive_now t.phase)) zero
+
+-- A thread is ready, or in a send phase that is not cancelled: nothing can be its duty but a
+-- retarget, and a send of timeout zero that waits at it.
+abbrev pub runs_or_sends : Thread → Bool
+runs_or_sends t = is_ready t.phase || is_sending t.phase && not t.cancel_send
 
 abbrev pub duty_of_thread : (nobody : Id → Bool) → Thread → (queued : Bool) → List Waiting →
     (untold : Option ℕ) → (zero : Option Waiting) → Option Duty

@@ -52,6 +52,13 @@ all-merged P (e ∷ es) all = all-put P e (merged es) all.0 (all-merged P es all
 first_merged : (e : Event) (es : List Event) → AllByRecursion (λ x. is_earlier e x ≡ true) es → merged (e ∷ es) ≡ e ∷ merged es
 first_merged e es all = put_first e (merged es) (all-merged (λ x. is_earlier e x ≡ true) es all)
 
+-- Events of one processor are in order already.
+pub already_merged : (cpu : ℕ) (es : List Event) → AreRising cpu es → merged es ≡ es
+already_merged cpu [] rise = refl
+already_merged cpu (e ∷ es) rise =
+    first_merged e es (all-map (λ (x : Event). e.stamp < x.stamp) (λ (x : Event). is_earlier e x ≡ true) (earlier_by_stamp e) es rise.1.0)
+    ∙ ap (λ es. e ∷ es) (already_merged cpu es rise.1.1)
+
 -- The first of the merged events stays so where no event that is put before the others is earlier.
 stays_first : (e : Event) (es xs ys : List Event) → AllByRecursion (λ x. is_earlier x e ≡ false) es → merged xs ≡ e ∷ merged ys →
     merged (es ++ xs) ≡ e ∷ merged (es ++ ys)

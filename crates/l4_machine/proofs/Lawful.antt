@@ -1,5 +1,5 @@
 -- The entries that name what happened in a core run are entries of its machine.
-use Rattle.std.proofs.Common.{◌≡◌, ℕ, ◌+◌, ◌<◌, ◌≤◌, Bool, true, false, ◌&&◌, Option, Some, None, List, [], ◌∷◌, ◌++◌, map, length, refl, ap, sym, ◌∙◌, subst, arith}
+use Rattle.std.proofs.Common.{◌≡◌, ℕ, ◌+◌, ◌<◌, ◌≤◌, Bool, true, false, Option, Some, None, List, [], ◌∷◌, map, length, refl, ap, ◌∙◌, subst, arith}
 use Rattle.std.specs.Prelude.{slice_get, filter, nat_lt, ◌==◌, if◌then◌else◌}
 use Rattle.std.specs.List.{AllByRecursion}
 use Rattle.std.specs.Option.{option_map}
@@ -18,7 +18,7 @@ use Rattle.l4_core_model.specs.Mail.{handle}
 use Rattle.l4_core_model.specs.Turns.{turn, advance}
 use Rattle.l4_core_model.specs.Runs.{Posted, System, is_between, letters, without_first, posted, taken, Action, Handles, Turns, Ticks, Happened, done, happens, Run, core_run, then_event, opening_run}
 use Rattle.l4_choices.specs.Entries.{entry_of}
-use Rattle.l4_merge.proofs.Lists.{all-append, all-of_map}
+use Rattle.l4_merge.proofs.Lists.{all-append}
 use Rattle.l4_machine.specs.Entries.{first_stranger, fault_of, is_entry}
 
 -- A system of the machine's processors, in which each letter under way was posted by one of them.

@@ -1,34 +1,35 @@
 -- What several logs have told, event by event, as entries of a schedule.
-use Rattle.std.proofs.Common.{◌≡◌, ℕ, zero, suc, ◌+◌, ◌-◌, ◌<◌, ◌≤◌, Option, Some, None, List, [], ◌∷◌, ◌++◌, map, set, refl, drop, get_or, length, ap, ap₂, sym, ◌∙◌, subst, arith}
-use Rattle.std.specs.Prelude.{slice_get, slice_index_or}
+use Rattle.std.proofs.Common.{◌≡◌, true, ℕ, zero, suc, ◌+◌, ◌<◌, ◌≤◌, Option, Some, None, List, [], ◌∷◌, map, set, refl, drop, get_or, length, ap, ap₂, sym, ◌∙◌, subst, arith}
+use Rattle.std.specs.Prelude.{is_some, slice_get, slice_index_or}
 use Rattle.std.specs.Option.{option_map}
 use Rattle.std.specs.List.{AllByRecursion, range_with_len}
-use Rattle.std.proofs.lemmas.List.{map-set, length-map}
-use Rattle.std.proofs.lemmas.Option.{slice_get-map, slice_get-get_or, slice_get_within, get_or_from_slice_get}
+use Rattle.std.proofs.lemmas.List.{append-nil, map-set, length-map}
+use Rattle.std.proofs.lemmas.Option.{slice_get-get_or, slice_get_within, get_or_from_slice_get}
 use Rattle.l4_model.specs.Machine.{Machine}
-use Rattle.l4_model.specs.World.{changed}
 use Rattle.l4_model.proofs.Chains.{get-map, set_changed, some_is}
-use Rattle.l4_core_model.specs.Runs.{Event, Action, Run, merged, opening_run, processors}
+use Rattle.l4_core_model.specs.Runs.{Event, Action, merged, opening_run, processors}
 use Rattle.l4_choices.specs.Entries.{Entry, entry_of, replay_entries}
 use Rattle.l4_choices.proofs.Replayed.{replayed}
 use Rattle.l4_merge.specs.LocalTraces.{LocalTrace, all_events}
 use Rattle.l4_merge.proofs.Sorted.{length-merged}
 use Rattle.l4_merge.specs.Recorded.{then_others, actions_in, recorded}
-use Rattle.l4_proc.specs.Logs.{actions}
+use Rattle.l4_proc.specs.Logs.{actions, events}
+use Rattle.l4_proc.specs.Working.{past}
 use Rattle.l4_proc.specs.declared.log.Log.{Log}
 use Rattle.l4_proc.specs.declared.processor.Processor.{Processor}
+use Rattle.l4_proc.proofs.Ends.{as_many}
 use Rattle.l4_machine.specs.Entries.{entries_fault, most_events}
 use Rattle.l4_machine.specs.Teams.{count_events, AreInOrder}
 use Rattle.l4_machine.proofs.Lawful.{no_strangers}
 use Rattle.l4_machine.proofs.Members.{pasts_are}
-use Rattle.l4_machine.specs.EventsLeft.{all_left, least_place, left, HasTakenFirst, IsUnmerged}
+use Rattle.l4_machine.specs.EventsLeft.{all_left, least_place, left, IsUnmerged}
 use Rattle.l4_machine.specs.Gathered.{IsGathered}
 use Rattle.l4_machine.specs.Gathers.{events_of, past_of, pasts_of, with_number}
 use Rattle.l4_machine.specs.Outcomes.{Findings, IsOutcomeOf}
 use Rattle.l4_machine.specs.Recorded.{entries_left, happened_left, actions_of, recorded_entries, HasTakenEntry}
-use Rattle.l4_machine.specs.Rising.{RiseFrom}
+use Rattle.l4_machine.specs.Rising.{AreRising, HaveRisingLogs, RiseFrom}
 use Rattle.l4_machine.specs.declared.unmerged.Unmerged.{Unmerged}
-use Rattle.l4_machine.proofs.EventsLeft.{all_joined, all_left_are, at_place, chosen, joined, taken}
+use Rattle.l4_machine.proofs.EventsLeft.{all_joined, all_left_are, already_merged, at_place, chosen, joined, taken}
 
 -- An event of logs that rise is of the processor at whose place its log stands.
 own_place : (cpu : ℕ) (ls : List (List Event)) (place : ℕ) (e : Event) (es : List Event) → RiseFrom cpu ls → slice_get ls place ≡ Some (e ∷ es) →
@@ -131,3 +132,39 @@ are_lawful m ps entries o all few are g =
     let many : length g.run.events ≡ count_events ps =
     ap length g.whole.events ∙ length-merged (all_events (pasts_of m ps)) ∙ ap (λ pasts. length (all_events pasts)) (pasts_are m ps all) in
     ap (entries_fault m) are ∙ no_strangers m (recorded (pasts_of m ps)) g.run most_events g.whole.recorded (omega (arith, many, few))
+
+-- The log of a processor that is alone
+
+-- What happened in its events is what happened to it.
+its_own : (cpu : ℕ) (es : List Event) (hs : List Action) → cpu ≡ 0 → AreRising cpu es → length es ≡ length hs → actions_in (map (λ (e : Event). e.cpu) es) (hs ∷ []) ≡ hs
+its_own cpu [] [] zeroth rise many = refl
+its_own cpu [] (h ∷ hs) zeroth rise many = cc
+its_own cpu (e ∷ es) [] zeroth rise many = cc
+its_own cpu (e ∷ es) (h ∷ hs) zeroth rise many =
+    ap (λ n. actions_in (n ∷ map (λ (e : Event). e.cpu) es) ((h ∷ hs) ∷ [])) (rise.0 ∙ zeroth)
+    ∙ ap (λ hs. h ∷ hs) (its_own cpu es hs zeroth rise.1.1 (omega (arith, many)))
+
+pub as_many_actions : (log : Log) → length (actions log) ≡ length (events log)
+as_many_actions log = length-map log.ends.items _ ∙ sym (as_many log.cpu 0 log.ends.items _)
+
+pub found_within : (ps : List Processor) (i : ℕ) → is_some (slice_get ps i) ≡ true → i < length ps
+found_within ps i some = by (slice_get ps i) refl some
+  where
+    by : (o : Option Processor) → slice_get ps i ≡ o → is_some o ≡ true → i < length ps
+    by None is e = absurd cc
+    by (Some p) is e = slice_get_within ps i p is
+
+pub recorded_is_own : (m : Machine) (ps : List Processor) (p : Processor) → m.cpus ≡ 1 → with_number 0 ps ≡ Some p → HaveRisingLogs m ps →
+    map entry_of (actions p.worker.log) ≡ recorded_entries m ps
+recorded_is_own m ps p one here rise =
+    let log : Log = p.worker.log in
+    let pasts : pasts_of m ps ≡ past p ∷ [] =
+    ap (λ n. map (λ cpu. past_of m cpu (with_number cpu ps)) (range_with_len 0 n)) one ∙ ap (λ o. past_of m 0 o ∷ []) here in
+    let rises : AreRising 0 (events log) =
+    (subst (λ (o : Option Processor). RiseFrom 0 (events_of o ∷ [])) here
+    (subst (λ n. RiseFrom 0 (map (λ cpu. events_of (with_number cpu ps)) (range_with_len 0 n))) one rise)).0 in
+    ap (map entry_of)
+    (sym (ap recorded pasts
+    ∙ ap (λ es. actions_in (map (λ (e : Event). e.cpu) (merged es)) (actions log ∷ [])) (append-nil (events log))
+    ∙ ap (λ es. actions_in (map (λ (e : Event). e.cpu) es) (actions log ∷ [])) (already_merged 0 (events log) rises)
+    ∙ its_own 0 (events log) (actions log) refl rises (sym (as_many_actions log))))

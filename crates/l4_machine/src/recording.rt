@@ -3,6 +3,7 @@ ghost use Rattle.std.specs.Prelude.{◌≡◌, IfOk, is_some, map, true};
 ghost use Rattle.std.specs.List.{AllByRecursion};
 ghost use Rattle.l4_choices.specs.Entries.{entry_of};
 ghost use Rattle.l4_proc.specs.Choices.{action_of};
+ghost use Rattle.l4_proc.specs.Logs.{actions};
 ghost use Rattle.l4_machine.specs.Entries.{entry_from};
 ghost use Rattle.l4_machine.specs.EventsLeft.{left, IsUnmerged};
 ghost use Rattle.l4_machine.specs.Gathers.{HaveNumbers};
@@ -10,7 +11,7 @@ ghost use Rattle.l4_machine.specs.Recorded.{entries_left, recorded_entries, HasT
 ghost use Rattle.l4_machine.specs.Rising.{HaveRisingLogs, RiseFrom};
 
 use crate::entries::Entry;
-use crate::merging::unmerged_logs;
+use crate::merging::{place_of, unmerged_logs};
 use crate::unmerged::{Unmerged, first_place, stamp_of};
 use l4_proc::choice::Choice;
 use l4_proc::processor::Processor;
@@ -29,8 +30,26 @@ pub(crate) fn recorded(
     ensures { IfOk result (λ entries.
         map entry_from entries.items ≡ recorded_entries machine.now processors.now) }
 {
-    let mut logs = unmerged_logs(alloc, processors, machine.cpus())?;
+    let cpus = machine.cpus();
+    if cpus == 1 {
+        let processor = &processors[place_of(processors, 0)];
+        return recorded_alone(alloc, processor);
+    }
+    let mut logs = unmerged_logs(alloc, processors, cpus)?;
     take_all(alloc, processors, logs.as_mut_slice())
+}
+
+// What a processor did. There is no other log to merge its own with.
+fn recorded_alone(alloc: Global, processor: &Processor<'_>) -> Result<Vec<Entry>, NoMemory>
+    ensures { IfOk result (λ entries.
+        map entry_from entries.items ≡ map entry_of (actions processor.now.worker.log)) }
+{
+    let log = processor.log();
+    let mut entries = Vec::with_capacity(alloc, log.len())?;
+    for i in 0..log.len() {
+        entries.push(entry(processor.cpu(), log.choice(i)))?;
+    }
+    Ok(entries)
 }
 
 // Takes all that is left of logs that stand in order of their processors.

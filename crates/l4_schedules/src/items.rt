@@ -7,7 +7,8 @@ ghost use Rattle.l4_model.specs.Machine.{most_processors};
 ghost use Rattle.l4_choices.specs.Entries.{Entry as ModelEntry};
 ghost use Rattle.l4_machine.specs.declared.outcome.RunFault.TheVariants.{NoMemory as OutOfMemory};
 ghost use Rattle.l4_machine.specs.Entries.{entries_fault, entry_from, is_entry_of, most_events};
-ghost use Rattle.l4_schedules.specs.Items.{items_of, clock_of, processor_of, entry_of, item_of};
+ghost use Rattle.l4_schedules.specs.Items.{items_of, items_left, clock_of, processor_of};
+ghost use Rattle.l4_schedules.specs.Items.{entry_of, item_of};
 ghost use Rattle.l4_schedules.specs.Items.{letter_between, machine_entry, read_items, schedule_of};
 ghost use Rattle.l4_schedules.specs.Items.{schedule_within, tick_between, tick_of, turn_of};
 
@@ -51,10 +52,11 @@ pub(crate) fn schedule_within(
     ensures err { IfErr result (λ fault. (fault ≡ OutOfMemory) ⊎
         (schedule_within most machine.now list.now ≡ Err fault)) }
 {
-    if item_count(list) > most {
+    let items = item_count(list);
+    if items > most {
         return Err(RunFault::Turns);
     }
-    entries_of(alloc, machine, list)
+    entries_of(alloc, machine, items, list)
 }
 
 // The number of items of a list.
@@ -69,11 +71,16 @@ pub(crate) fn item_count(list: &[u8]) -> usize
     }
 }
 
+// A loop that adds, since the compiler counts several bytes at once in it.
 fn comma_count(list: &[u8]) -> usize
     ensures value { result ≡ count_by (λ byte. byte == 44) list.now }
     ensures limit { result ≤ length list.now }
 {
-    list.iter().filter(|byte| **byte == b',').count()
+    let mut count = 0;
+    for byte in list {
+        count += usize::from(*byte == b',');
+    }
+    count
 }
 
 /// The items of a list that are still to be read.
@@ -109,7 +116,7 @@ impl<'a> Items<'a> {
             (λ item. self.old ≡ item.now ∷ self.new) }
     {
         let list = self.rest?;
-        match split_once(b',', list) {
+        match split_item(list) {
             Some((item, rest)) => {
                 self.rest = Some(rest);
                 Some(item)
@@ -122,8 +129,26 @@ impl<'a> Items<'a> {
     }
 }
 
-// The entries of a list that is not too long.
-fn entries_of(alloc: Global, machine: &Machine, list: &[u8]) -> Result<Vec<Entry>, RunFault>
+// The first item of a list, and what follows its comma. None where there is no comma. Mostly an
+// item is one byte.
+#[inline(always)]
+fn split_item(list: &[u8]) -> Option<(&[u8], &[u8])>
+    ensures { MatchOption result (items_left (Some list.now) ≡ list.now ∷ [])
+        (λ split. items_left (Some list.now) ≡ split.0.now ∷ items_left (Some split.1.now)) }
+{
+    match list {
+        [byte, b',', rest @ ..] if *byte != b',' => Some((&list[..1], rest)),
+        _ => split_once(b',', list),
+    }
+}
+
+// The entries of a list that is not too long, kept where there is room for so many at first.
+fn entries_of(
+    alloc: Global,
+    machine: &Machine,
+    room: usize,
+    list: &[u8],
+) -> Result<Vec<Entry>, RunFault>
     requires { length (items_of list.now) ≤ most_events }
     ensures ok { IfOk result (λ entries.
         read_items machine.now [] (items_of list.now) ≡ Ok (map entry_from entries.items)) }
@@ -131,7 +156,7 @@ fn entries_of(alloc: Global, machine: &Machine, list: &[u8]) -> Result<Vec<Entry
         (read_items machine.now [] (items_of list.now) ≡ Err fault)) }
 {
     let mut items = Items::of(list);
-    let mut entries = Vec::new(alloc);
+    let mut entries = room_for(alloc, room)?;
     while let Some(item) = items.next() {
         match machine_entry(machine, item) {
             Some(entry) => push(&mut entries, entry)?,
@@ -141,6 +166,13 @@ fn entries_of(alloc: Global, machine: &Machine, list: &[u8]) -> Result<Vec<Entry
     Ok(entries)
 }
 
+// An empty list with room for so many entries.
+fn room_for(alloc: Global, count: usize) -> Result<Vec<Entry>, NoMemory>
+    ensures { IfOk result (λ entries. entries.items ≡ []) }
+{
+    Ok(Vec::with_capacity(alloc, count)?)
+}
+
 fn push(entries: &mut Vec<Entry>, entry: Entry) -> Result<(), NoMemory>
     ensures { OnOk result (entries.new.items ≡ entries.old.items ++ entry ∷ []) }
 {
@@ -148,10 +180,14 @@ fn push(entries: &mut Vec<Entry>, entry: Entry) -> Result<(), NoMemory>
     Ok(())
 }
 
-// The entry that an item spells, where it is one of the machine.
+// The entry that an item spells, where it is one of the machine. Most items are one digit.
 fn machine_entry(machine: &Machine, item: &[u8]) -> Option<Entry>
     ensures { option_map entry_from result ≡ machine_entry machine.now item.now }
 {
+    if let [digit @ b'0'..=b'9'] = item {
+        let cpu = digit - b'0';
+        return (cpu < machine.cpus()).then_some(Entry::Turn(cpu));
+    }
     entry_of(item).filter(|entry| entry.is_of(machine))
 }
 

@@ -9,8 +9,8 @@ ghost use Rattle.l4_core_model.specs.Local.{declared, held, thread};
 ghost use Rattle.l4_core_model.specs.Acts.{zero_refusable};
 ghost use Rattle.l4_core.specs.Choosing.{duty_of, IsFound};
 ghost use Rattle.l4_core.specs.Covered.{deleted_duty, duty_at, first_refusable, first_zero};
-ghost use Rattle.l4_core.specs.Covered.{living_duty, names_nobody, receive_duty, untold_of, Covers};
-ghost use Rattle.l4_core.specs.Covered.{CoversZeros};
+ghost use Rattle.l4_core.specs.Covered.{living_duty, names_nobody, receive_duty, runs_or_sends};
+ghost use Rattle.l4_core.specs.Covered.{untold_of, Covers, CoversZeros};
 ghost use Rattle.l4_core.specs.Turning.{IsOwnOf};
 
 use crate::known::ProcessorState;
@@ -245,10 +245,21 @@ impl ProcessorState<'_> {
         if may_have_zero {
             return true;
         }
-        if self.tcb(place).is_ready() {
+        if self.runs_or_sends(place) {
             return self.keeps_owed(place);
         }
         self.duty_at(place, false).is_some()
+    }
+
+    // Whether a thread is ready, or in a send phase that is not cancelled: its duty is a retarget
+    // or none then.
+    #[inline(always)]
+    fn runs_or_sends(&self, place: usize) -> bool
+        requires { place < length self.now.machine.threads }
+        ensures { result ≡ runs_or_sends (thread self.now.local place) }
+    {
+        let tcb = self.tcb(place);
+        tcb.is_ready() || (tcb.is_sending() && !tcb.is_send_cancelled())
     }
 }
 

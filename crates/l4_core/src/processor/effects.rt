@@ -223,6 +223,19 @@ impl Core<'_> {
         self.known.ask(place, what);
     }
 
+    /// Forgets that a thread may have a duty, if it has none any more: the next turn need not look
+    /// at it.
+    pub(super) fn forget_duty(&mut self, place: usize)
+        requires { IsOwnOf self.old place }
+        ensures { self.new ≡ self.old }
+    {
+        self.known.facts();
+        if self.known.may_have_duty(place, self.zeros.contains(place)) {
+            return;
+        }
+        self.duties.remove(place);
+    }
+
     /// Keeps an owed retarget beside a thread. It is a duty of that thread.
     pub(super) fn keep_owed(&mut self, place: usize, owed: Owed)
         requires own { IsOwnOf self.old place }

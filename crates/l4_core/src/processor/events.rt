@@ -31,7 +31,10 @@ impl Core<'_> {
             (choice_of self.old.local.owed choice.now)) self.old self.new buffer.old buffer.new }
     {
         match choice {
-            Choice::ByDuty(place, duty) => self.do_duty(*place, *duty, buffer),
+            Choice::ByDuty(place, duty) => {
+                self.do_duty(*place, *duty, buffer);
+                self.forget_duty(*place);
+            }
             Choice::ByDue(place) => self.do_due(*place, buffer),
             Choice::ByReady(place) => self.do_ready(*place, buffer),
         }

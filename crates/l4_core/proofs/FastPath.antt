@@ -9,7 +9,7 @@ use Rattle.l4_model.specs.Words.{GlobalId, Id, NilThread, AnyThread, AnyLocalThr
 use Rattle.l4_model.specs.Machine as model
 use Rattle.l4_model.specs.Machine.{Machine, is_place}
 use Rattle.l4_model.specs.World.{Context, Message, Name, Receive, Send, Owed, Phase, Ready, Sending, Receiving, Ordering, Ended, Deleted, Thread, changed, opening_thread, is_alive, is_deleted, receive_now}
-use Rattle.l4_model.specs.Rules.{Sends, accepts, act, destination, ipc_act, is_cross, message_of, originator, owed_by, permitted, receive_phase, received_tag, register, request, takes}
+use Rattle.l4_model.specs.Rules.{Sends, accepts, act, destination, ipc_act, is_cross, message_of, owed_by, permitted, receive_phase, received_tag, register, request, takes}
 use Rattle.l4_model.specs.Conditions.{Found, act_of, instruction, is_zero, may_still_accept}
 use Rattle.l4_model.specs.Effects.{begins, decided, goes_on, receives}
 use Rattle.l4_model.specs.Steps.{Begin, Deliver, Queue}
@@ -17,7 +17,7 @@ use Rattle.l4_core_model.specs.Plain as plain
 use Rattle.l4_core_model.specs.Plain.{Plain, Waiting}
 use Rattle.l4_core_model.specs.Letters.{Delivered, DoneLetter, Nobody, TimedOut}
 use Rattle.l4_core_model.specs.Local.{Local, declared, is_own, last_name, thread, held, changes, comes_to, destination_place, entered, relists, armed_for, armed_period, period_of_send, readied, after_decision}
-use Rattle.l4_core_model.specs.Acts.{Work, ◌▷◌, acts, arrives, delivers, delivers_if_first, delivers_message, delivers_send, decides_send, does, entry, first_acceptable, first_of_list, owes_for, posts, posts_send, queues_send, refuses, send_goes_to, tells, tells_send, zero_refusable}
+use Rattle.l4_core_model.specs.Acts.{Work, ◌▷◌, acts, arrives, delivers, delivers_send, decides_send, does, entry, first_acceptable, first_of_list, owes_for, posts, posts_send, queues_send, refuses, send_goes_to, tells, tells_send, zero_refusable}
 use Rattle.l4_model.proofs.Chains.{bind_then, guard_then, some_is}
 use Rattle.l4_core_model.proofs.Changed.{get-changed, same_nat}
 use Rattle.l4_core_model.proofs.Fit.{get_other}

@@ -1,5 +1,5 @@
 -- A letter does what was found that it asks for.
-use Rattle.std.proofs.Common.{◌≡◌, ℕ, Bool, true, false, cond, is_some, is_none, Option, Some, None, ◌||◌, length, List, [], ◌∷◌, zero, suc, ◌<◌, refl, ap, sym, ◌∙◌, subst, arith}
+use Rattle.std.proofs.Common.{◌≡◌, ℕ, Bool, true, false, cond, is_some, is_none, Option, Some, None, ◌||◌, List, [], ◌∷◌, zero, suc, refl, ap, sym, ◌∙◌, subst, arith}
 use Rattle.std.specs.Prelude.{◌==◌, slice_index_or}
 use Rattle.std.specs.Option.{option_map}
 use Rattle.l4_model.specs.Words.{GlobalId, same_id}
@@ -7,7 +7,6 @@ use Rattle.l4_model.specs.Machine.{Machine, is_declared}
 use Rattle.l4_model.specs.World.{Message, Phase, Ready, Sending, Receiving, Ordering, Ended, Deleted, Thread, changed, is_deleted, opening_thread}
 use Rattle.l4_model.specs.Effects.{obeyed}
 use Rattle.l4_model.specs.Conditions.{◌>>=◌, ◌>>◌}
-use Rattle.l4_core.specs.PhaseLists.{enters_lists}
 use Rattle.l4_core_model.specs.Local.{Local, changes, comes_to, entered, stand_in, stands_in, thread}
 use Rattle.l4_core_model.specs.Plain.{is_queued}
 use Rattle.l4_core_model.specs.Acts.{Work, refuses, split_place, split_receiver}
@@ -35,7 +34,6 @@ use Rattle.l4_core.specs.Changing.{forgets_order, IsFitting}
 use Rattle.l4_core.specs.Parts.{AreCore}
 use Rattle.l4_core.specs.Settled.{MaySend}
 use Rattle.l4_core.proofs.Fitting.{no_send_unqueued, sends_not_ready, unqueued, unready}
-use Rattle.l4_core.proofs.Settling.{comes}
 
 -- Letters
 
@@ -247,10 +245,8 @@ changed-as f g (t ∷ ts) (suc i) e = ap (λ us. t ∷ us) (changed-as f g ts i 
 dead_obeys : (t : Thread) → is_deleted t.phase ≡ true → forgets_order t ≡ obeyed t
 dead_obeys t e = rw e
 
-pub deleted_obeys : (p q r : Processor) (i : ℕ) → AreCore p → i < length p.machine.threads → is_deleted (thread p.local i).phase ≡ true → q ≡ with_local p (changes i forgets_order p.local) → r ≡ with_local q (enters_lists i q.local) →
-    r ≡ with_local p (comes_to i obeyed p.local)
-deleted_obeys p q r i core lt dead first then_is =
-    then_is ∙ ap (λ (x : Processor). with_local x (enters_lists i x.local)) first
-    ∙ ap (with_local p) (comes i forgets_order p.local (omega (arith, lt, core.settled.threads)))
+pub deleted_obeys : (p r : Processor) (i : ℕ) → is_deleted (thread p.local i).phase ≡ true → r ≡ with_local p (comes_to i forgets_order p.local) → r ≡ with_local p (comes_to i obeyed p.local)
+deleted_obeys p r i dead is =
+    is
     ∙ ap (λ ts. with_local p (record (comes_to i forgets_order p.local) { threads = ts })) (changed-as forgets_order obeyed p.local.threads i (dead_obeys (thread p.local i) dead))
     ∙ ap (λ (t : Thread). with_local p (record (comes_to i obeyed p.local) { lists = entered t p.local.clock i p.local.lists })) (dead_obeys (thread p.local i) dead)

@@ -25,6 +25,7 @@ mod Queueing
 mod Sending
 mod Settling
 mod Starting
+mod Telling
 mod Turned
 mod Turning
 mod Writing

@@ -5,7 +5,7 @@ use Rattle.std.proofs.lemmas.Bool.{cases_eq, eq-eqb}
 use Rattle.l4_model.specs.Machine.{Machine, OrderKind, CancelSend, CancelReceive, CancelBoth, Delete}
 use Rattle.l4_model.specs.World.{Thread, Owed, is_deleted, opening_thread}
 use Rattle.l4_core_model.specs.Plain as plain
-use Rattle.l4_core_model.specs.Local.{Local, is_own, thread, changes, comes_to, keeps_beside, relists}
+use Rattle.l4_core_model.specs.Local.{is_own, thread, changes, comes_to, keeps_beside, relists}
 use Rattle.l4_model.specs.Rules.{Act, RunsAlone, Sends, Receives, Orders}
 use Rattle.l4_model.specs.Effects.{asked, begins, turns, waits}
 use Rattle.l4_core_model.specs.Local.{opening_local}
@@ -17,7 +17,7 @@ use Rattle.l4_core.proofs.Fitting.{unqueued, ready_not_sends}
 use Rattle.l4_core.proofs.Opening.{get-map, none_queued}
 use Rattle.l4_core.specs.Places.{has}
 use Rattle.l4_core.specs.Processor.{Processor, with_local}
-use Rattle.l4_core.specs.Covered.{CoversBut, CoversOthers, CoversZeros, IsCovered, duty_at, first_zero, is_zero_send}
+use Rattle.l4_core.specs.Covered.{CoversBut, CoversZeros, IsCovered, IsCoveredBut, duty_at, first_zero, is_zero_send}
 use Rattle.l4_core.specs.Settled.{IsOwn}
 use Rattle.l4_core.proofs.Covering.{others-comes, covers-filled, covers-put, covers-relisted, covers-changed, covers-kept, but-queued, covers-stamped, covers-told, covers-turned, covers-unqueued}
 use Rattle.l4_core.proofs.Zeros.{zeros-relisted, zeros-changed, zeros-comes, zeros-kept, zeros-queued, zeros-stamped, zeros-told, zeros-turned, zeros-unqueued}
@@ -40,19 +40,6 @@ covered-put d e z p i c own puts = record { covers = covers-put d e p.machine p.
 pub covered-relisted : (d z : List ℕ) (p q : Processor) (k : plain.Plain) → IsCovered d z p → k.waiting ≡ p.local.lists.waiting → q ≡ with_local p (record p.local { lists = k }) → IsCovered d z q
 covered-relisted d z p q k c e is = subst (IsCovered d z) (sym is) (record { covers = covers-relisted d p.machine p.cpu p.local k e c.covers; waiting = zeros-relisted z p.local k e c.waiting })
 
--- A thread comes to its next phase: the other places stay covered.
-pub others_after : (d z : List ℕ) (p q : Processor) (i : ℕ) (f : Thread → Thread) → IsCovered d z p → i < length p.local.threads → is_deleted (f (thread p.local i)).phase ≡ is_deleted (thread p.local i).phase → plain.is_queued p.local.lists i ≡ false →
-    q ≡ with_local p (comes_to i f p.local) → CoversOthers i d q.machine q.cpu q.local
-others_after d z p q i f c lt dead free is =
-    subst (λ (x : Processor). CoversOthers i d x.machine x.cpu x.local) (sym is) (others-comes d p.machine p.cpu p.local i f c.covers lt dead (inl free))
-
-pub zeros_after : (d z : List ℕ) (p q : Processor) (i : ℕ) (f : Thread → Thread) → IsCovered d z p → i < length p.local.threads → plain.is_queued p.local.lists i ≡ false →
-    q ≡ with_local p (comes_to i f p.local) → CoversZeros z q.local
-zeros_after d z p q i f c lt free is = subst (λ (x : Processor). CoversZeros z x.local) (sym is) (zeros-comes z p.local i f c.waiting lt (inl free))
-
-pub own_after : (p q : Processor) (i : ℕ) (l : Local) → IsOwn p.machine p.cpu i → q ≡ with_local p l → IsOwn q.machine q.cpu i
-own_after p q i l own is = subst (λ (x : Processor). IsOwn x.machine x.cpu i) (sym is) own
-
 pub covered-changed : (d z : List ℕ) (p q : Processor) (i : ℕ) (f : Thread → Thread) → IsCovered d z p → i < length p.local.threads → (is_own p.machine p.cpu i ≡ true → has d i ≡ true) → is_deleted (f (thread p.local i)).phase ≡ is_deleted (thread p.local i).phase →
     (plain.is_queued p.local.lists i ≡ false) ⊎ ((f (thread p.local i)).send ≡ (thread p.local i).send) → q ≡ with_local p (changes i f p.local) → IsCovered d z q
 covered-changed d z p q i f c lt there dead kept is = subst (IsCovered d z) (sym is) (record {
@@ -74,33 +61,32 @@ zeros_queued z p q r w c there is = subst (λ (x : Processor). CoversZeros z x.l
 pub hand_free : (p : Processor) (i : ℕ) → AreCore p → IsAtHand p i → plain.is_queued p.local.lists i ≡ false
 hand_free p i core hand = unqueued p.machine p.cpu p.local i core.settled hand.own.own (ready_not_sends _ hand.ready)
 
-pub hand_within : (p : Processor) (i : ℕ) → AreCore p → IsAtHand p i → i < length p.local.threads
-hand_within p i core hand = omega (arith, hand.own.within, core.settled.threads)
+-- A thread of this processor comes to its next phase, and only it may have a duty that is not noted.
+pub but-come : (d z : List ℕ) (p q : Processor) (i : ℕ) (f : Thread → Thread) → IsCovered d z p → AreCore p → IsOwn p.machine p.cpu i → is_deleted (f (thread p.local i)).phase ≡ is_deleted (thread p.local i).phase → plain.is_queued p.local.lists i ≡ false →
+    q ≡ with_local p (comes_to i f p.local) → IsCoveredBut i d z q
+but-come d z p q i f c core own dead free is =
+    let lt : i < length p.local.threads = omega (arith, own.within, core.settled.threads) in
+    subst (IsCoveredBut i d z) (sym is) (record {
+      own = own;
+      others = others-comes d p.machine p.cpu p.local i f c.covers lt dead (inl free);
+      waiting = zeros-comes z p.local i f c.waiting lt (inl free);
+    })
 
 -- What an ipc begins is begun by a thread that was ready.
-pub others_begun : (d z : List ℕ) (p q : Processor) (i : ℕ) (a : Act) → IsCovered d z p → AreCore p → IsAtHand p i → q ≡ with_local p (begun_by a i p.local) → CoversOthers i d q.machine q.cpu q.local
-others_begun d z p q i a c core hand is = by a is
+pub but-begun : (d z : List ℕ) (p q : Processor) (i : ℕ) (a : Act) → IsCovered d z p → AreCore p → IsAtHand p i → q ≡ with_local p (begun_by a i p.local) → IsCoveredBut i d z q
+but-begun d z p q i a c core hand is = by a is
   where
-    alive : is_deleted (thread p.local i).phase ≡ false
-    alive = ap is_deleted hand.ready
+    begins_here : (f : Thread → Thread) → is_deleted (f (thread p.local i)).phase ≡ false → q ≡ with_local p (comes_to i f p.local) → IsCoveredBut i d z q
+    begins_here f alive e = but-come d z p q i f c core hand.own (alive ∙ sym (ap is_deleted hand.ready)) (hand_free p i core hand) e
 
-    same : q ≡ p → CoversOthers i d q.machine q.cpu q.local
-    same e = subst (λ (x : Processor). CoversOthers i d x.machine x.cpu x.local) (sym e) (record { within = c.covers.within; others = λ o own ne h. c.covers.others o own h })
+    same : q ≡ p → IsCoveredBut i d z q
+    same e = subst (IsCoveredBut i d z) (sym e) (record { own = hand.own; others = record { within = c.covers.within; others = λ o own ne h. c.covers.others o own h }; waiting = c.waiting })
 
-    by : (a : Act) → q ≡ with_local p (begun_by a i p.local) → CoversOthers i d q.machine q.cpu q.local
-    by (Sends send) e = others_after d z p q i (begins send) c (hand_within p i core hand) (sym alive) (hand_free p i core hand) e
-    by (Receives receive) e = others_after d z p q i (waits receive p.local.clock) c (hand_within p i core hand) (sym alive) (hand_free p i core hand) e
+    by : (a : Act) → q ≡ with_local p (begun_by a i p.local) → IsCoveredBut i d z q
+    by (Sends send) e = begins_here (begins send) refl e
+    by (Receives receive) e = begins_here (waits receive p.local.clock) refl e
     by RunsAlone e = same e
     by (Orders order) e = same e
-
-pub zeros_begun : (d z : List ℕ) (p q : Processor) (i : ℕ) (a : Act) → IsCovered d z p → AreCore p → IsAtHand p i → q ≡ with_local p (begun_by a i p.local) → CoversZeros z q.local
-zeros_begun d z p q i a c core hand is = by a is
-  where
-    by : (a : Act) → q ≡ with_local p (begun_by a i p.local) → CoversZeros z q.local
-    by (Sends send) e = zeros_after d z p q i (begins send) c (hand_within p i core hand) (hand_free p i core hand) e
-    by (Receives receive) e = zeros_after d z p q i (waits receive p.local.clock) c (hand_within p i core hand) (hand_free p i core hand) e
-    by RunsAlone e = subst (λ (x : Processor). CoversZeros z x.local) (sym e) c.waiting
-    by (Orders order) e = subst (λ (x : Processor). CoversZeros z x.local) (sym e) c.waiting
 
 -- Nothing has a duty at the beginning, and nothing waits.
 pub covered-opening : (d z : List ℕ) (m : Machine) (cpu : ℕ) (p : Processor) → ((o : ℕ) → has d o ≡ false) → p ≡ record { machine = m; cpu = cpu; local = opening_local m cpu } → IsCovered d z p

@@ -1,16 +1,20 @@
 -- A message goes from block to block.
-use Rattle.std.proofs.Common.{◌≡◌, ℕ, zero, suc, ◌<◌, Option, List, [], ◌∷◌, ◌++◌, length, get_or, set, refl, ap, sym, ◌∙◌, arith, length-append}
+use Rattle.std.proofs.Common.{◌≡◌, ℕ, zero, suc, ◌<◌, List, [], ◌∷◌, ◌++◌, length, get_or, set, refl, ap, sym, ◌∙◌, subst, arith, length-append}
+use Rattle.std.proofs.lemmas.List.{length-set}
 use Rattle.std.proofs.Math.Seq.{set-append_left}
-use Rattle.l4_model.specs.Machine.{Machine}
-use Rattle.l4_model.specs.World.{Message, Owed, opening_thread}
+use Rattle.l4_model.specs.World.{Message, Thread, opening_thread}
 use Rattle.l4_model.specs.Effects.{receives}
-use Rattle.l4_core_model.specs.Local.{declared, thread}
-use Rattle.l4_core_model.specs.Plain.{Plain}
+use Rattle.l4_core_model.specs.Local.{comes_to, declared, thread}
 use Rattle.l4_thread.specs.Messages.{outgoing}
 use Rattle.l4_thread.specs.Parts.{Block}
-use Rattle.l4_core.specs.Parts.{local_of, passed, IsKept}
+use Rattle.l4_core.specs.Parts.{passed}
+use Rattle.l4_core.specs.PhaseLists.{enters_lists}
+use Rattle.l4_core.specs.Processor.{Processor, with_local}
+use Rattle.l4_core.specs.Turning.{IsReceiver}
+use Rattle.l4_core.specs.declared.known.ProcessorState.TheInside.{Inside}
+use Rattle.l4_core.proofs.Fitting.{fits-keeps, keeps-receives, unqueued, unready, waits_alive, waits_not_ready, waits_not_sends}
 use Rattle.l4_core.proofs.Starting.{block_id}
-use Rattle.l4_core.proofs.Writing.{block_thread, length-threads}
+use Rattle.l4_core.proofs.Writing.{Kept, KeptWith, block_thread, come-written, kept-changed, length-threads, of_parts, state, with_blocks}
 
 at_front : (xs ys : List Block) (i : ℕ) (x d : Block) → i < length xs → x ≡ get_or xs i x → x ≡ get_or (xs ++ ys) i d
 at_front [] ys i x d lt at = absurd (omega arith)
@@ -57,18 +61,39 @@ pub record IsPassed (bs news : List Block) (r : ℕ) (message : Message) (tag : 
   pub at : old ≡ get_or bs r old
   pub is : news ≡ set bs r (record { id = old.id; thread = receives message tag old.thread })
 
-pub passed_is : (m : Machine) (cpu : ℕ) (bs : List Block) (s : Plain) (told : List ℕ) (owed : List (Option Owed)) (clock stamp r i tag : ℕ) (was news : List Block) → IsKept m cpu bs s told owed clock stamp → r < length m.threads → i < length m.threads →
-    was ≡ bs → ((d : Block) → news ≡ set was r (passed tag (get_or was i d) (get_or was r d))) → IsPassed bs news r (outgoing (declared m i).id (thread (local_of bs s told owed clock stamp) i)) tag
-passed_is m cpu bs s told owed clock stamp r i tag was news k receiver sender blocks is =
-    let d : Block = record { id = (declared m r).id; thread = opening_thread } in
-    let size : length bs ≡ length m.threads = sym (length-threads bs) ∙ k.core.settled.threads in
-    let at : get_or bs i d ≡ get_or bs i (get_or bs i d) = there_is bs i d (omega (arith, size, sender)) in
-    let same : outgoing (get_or bs i d).id (get_or bs i d).thread ≡ outgoing (declared m i).id (thread (local_of bs s told owed clock stamp) i) =
-    ap (λ g. outgoing g (get_or bs i d).thread) (block_id m cpu bs s told owed clock stamp i (get_or bs i d) k sender at)
-    ∙ ap (outgoing (declared m i).id) (block_thread m cpu bs s told owed clock stamp i (get_or bs i d) k sender at) in
+pub passed_is : (s : Inside) (r i tag : ℕ) (was news : List Block) → Kept s → r < length s.machine.now.threads → i < length s.machine.now.threads →
+    was ≡ s.threads.items → ((d : Block) → news ≡ set was r (passed tag (get_or was i d) (get_or was r d))) → IsPassed s.threads.items news r (outgoing (declared s.machine.now i).id (thread (state s) i)) tag
+passed_is s r i tag was news k receiver sender blocks is =
+    let d : Block = record { id = (declared s.machine.now r).id; thread = opening_thread } in
+    let size : length s.threads.items ≡ length s.machine.now.threads = sym (length-threads s.threads.items) ∙ k.core.settled.threads in
+    let at : get_or s.threads.items i d ≡ get_or s.threads.items i (get_or s.threads.items i d) = there_is s.threads.items i d (omega (arith, size, sender)) in
+    let same : outgoing (get_or s.threads.items i d).id (get_or s.threads.items i d).thread ≡ outgoing (declared s.machine.now i).id (thread (state s) i) =
+    ap (λ g. outgoing g (get_or s.threads.items i d).thread) (block_id s i (get_or s.threads.items i d) k sender at)
+    ∙ ap (outgoing (declared s.machine.now i).id) (block_thread s i (get_or s.threads.items i d) k sender at) in
     record {
-      old = get_or bs r d;
-      at = there_is bs r d (omega (arith, size, receiver));
+      old = get_or s.threads.items r d;
+      at = there_is s.threads.items r d (omega (arith, size, receiver));
       is = is d ∙ ap (λ zs. set zs r (passed tag (get_or zs i d) (get_or zs r d))) blocks
-          ∙ ap (λ message. set bs r (record { id = (get_or bs r d).id; thread = receives message tag (get_or bs r d).thread })) same;
+          ∙ ap (λ message. set s.threads.items r (record { id = (get_or s.threads.items r d).id; thread = receives message tag (get_or s.threads.items r d).thread })) same;
     }
+
+pub passed_size : (s : Inside) (r i tag : ℕ) (news : List Block) → IsPassed s.threads.items news r (outgoing (declared s.machine.now i).id (thread (state s) i)) tag → length news ≡ length s.threads.items
+passed_size s r i tag news x = ap length x.is ∙ length-set s.threads.items r _
+
+pub kept-passed : (s : Inside) (r i tag : ℕ) (news : List Block) → Kept s → IsReceiver (of_parts s (state s)) r → IsPassed s.threads.items news r (outgoing (declared s.machine.now i).id (thread (state s) i)) tag → KeptWith s news
+kept-passed s r i tag news k w x =
+    let settled = k.core.settled in
+    let message : Message = outgoing (declared s.machine.now i).id (thread (state s) i) in
+    let takes : Thread → Thread = receives message tag in
+    let ends = waits_not_sends _ w.waits in
+    subst (KeptWith s) (sym x.is)
+    (kept-changed s r takes x.old _ k x.at refl
+    (fits-keeps s.machine.now s.cpu (state s) r _ settled w.own (unready s.machine.now s.cpu (state s) r settled (waits_not_ready _ w.waits)) (unqueued s.machine.now s.cpu (state s) r settled w.own.own ends)
+    (λ e. absurd (ends (settled.sending r w.own.own e))) (λ e. cc) (keeps-receives message tag _ (waits_alive _ w.waits))))
+
+pub passed-written : (s : Inside) (r i tag : ℕ) (news : List Block) (p q : Processor) → Kept s → r < length s.machine.now.threads → IsPassed s.threads.items news r (outgoing (declared s.machine.now i).id (thread (state s) i)) tag → of_parts s (state s) ≡ p →
+    q ≡ with_local (of_parts s (with_blocks s news)) (enters_lists r (with_blocks s news)) → q ≡ with_local p (comes_to r (receives (outgoing (declared p.machine i).id (thread p.local i)) tag) p.local)
+passed-written s r i tag news p q k lt x view settled =
+    come-written s r (receives (outgoing (declared s.machine.now i).id (thread (state s) i)) tag) x.old _ p q k lt x.at refl view
+    (subst (λ (bs : List Block). q ≡ with_local (of_parts s (with_blocks s bs)) (enters_lists r (with_blocks s bs))) x.is settled)
+    ∙ ap (λ (o : Processor). with_local p (comes_to r (receives (outgoing (declared o.machine i).id (thread o.local i)) tag) p.local)) view

@@ -1,6 +1,6 @@
 -- A settled local state stays settled.
 use Rattle.std.proofs.Common.{◌≡◌, ℕ, zero, suc, ◌+◌, ◌<◌, ◌≤◌, ◌^◌, Bool, true, false, cond, Option, Some, None, is_some, List, [], ◌∷◌, ◌++◌, map, filter, drop, length, refl, ap, sym, ◌∙◌, subst, inl, inr, ⊎_elim, ◌⊎◌, arith}
-use Rattle.std.specs.Prelude.{slice_get, slice_index_or, ◌==◌, not, ◌||◌, nat_le, IfSome}
+use Rattle.std.specs.Prelude.{slice_get, slice_index_or, ◌==◌, not, ◌||◌, nat_le, IfSome, IsSome}
 use Rattle.std.specs.Option.{option_map}
 use Rattle.std.specs.List.{list_any}
 use Rattle.std.proofs.lemmas.Bool.{eqb-true}
@@ -433,16 +433,10 @@ ready_is Ended e = cc
 ready_is Deleted e = cc
 
 -- The first armed one goes, where it is due.
-pub without_due_waiting : (now : ℕ) (s : plain.Plain) → (without_due now s).waiting ≡ s.waiting
-without_due_waiting now s = by (is_some (plain.due_block now s.armed))
+-- A deadline that is due is disarmed.
+pub due-popped : (now : ℕ) (s : plain.Plain) → IsSome (plain.due_block now s.armed) → without_due now s ≡ plain.popped_due s
+due-popped now s due = by (plain.due_block now s.armed) due
   where
-    by : (b : Bool) → (cond b (plain.popped_due s) s).waiting ≡ s.waiting
-    by true = refl
-    by false = refl
-
-pub settled-without_due : (m : Machine) (cpu : ℕ) (l : Local) → IsSettled m cpu l → IsSettled m cpu (relists (without_due l.clock) l)
-settled-without_due m cpu l s = by (is_some (plain.due_block l.clock l.lists.armed))
-  where
-    by : (b : Bool) → IsSettled m cpu (record l { lists = cond b (plain.popped_due l.lists) l.lists })
-    by true = settled-popped_due m cpu l s
-    by false = s
+    by : (o : Option ℕ) → IsSome o → cond (is_some o) (plain.popped_due s) s ≡ plain.popped_due s
+    by (Some block) h = refl
+    by None h = cc

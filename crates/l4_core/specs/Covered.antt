@@ -63,6 +63,12 @@ pub record IsCovered (duties zeros : List ℕ) (p : Processor) : Type 0 where
   pub covers : Covers duties p.machine p.cpu p.local
   pub waiting : CoversZeros zeros p.local
 
+-- The two sets leave no place out, but that this place of this processor may have a duty.
+pub record IsCoveredBut (place : ℕ) (duties zeros : List ℕ) (p : Processor) : Type 0 where
+  pub own : IsOwn p.machine p.cpu place
+  pub others : CoversOthers place duties p.machine p.cpu p.local
+  pub waiting : CoversZeros zeros p.local
+
 -- The parts of a duty
 
 abbrev pub names_nobody : Machine → Local → Id → Bool

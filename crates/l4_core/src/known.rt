@@ -2,16 +2,13 @@
 //! foreign threads.
 ghost use Rattle.std.specs.Prelude.{◌≡◌, ◌<◌, ◌≤◌, ◌+◌, None, Some, length, false, is_some, map};
 ghost use Rattle.std.specs.Prelude.{replicate, unwrap_or, IfOk, IfSome, IsSome, slice_get};
-ghost use Rattle.std.specs.Prelude.{slice_index_or};
 ghost use Rattle.std.specs.Option.{option_copied, option_map};
 ghost use Rattle.l4_model.specs.Machine.{End, place_of, is_place, same_space, most_processors};
 ghost use Rattle.l4_model.specs.Machine.{most_threads, most_instructions};
 ghost use Rattle.l4_model.specs.World.{Send, is_deleted, opening_thread, receive_now};
 ghost use Rattle.l4_model.specs.Conditions.{instruction};
-ghost use Rattle.l4_model.specs.History.{report_of};
-ghost use Rattle.l4_model.specs.Rules.{accepts, ask_act};
-ghost use Rattle.l4_model.specs.Words.{clock_limit, period_limit};
-ghost use Rattle.l4_types.specs.ReportView.{report_of_view};
+ghost use Rattle.l4_model.specs.Rules.{accepts, ask_act, originator};
+ghost use Rattle.l4_model.specs.Words.{period_limit};
 ghost use Rattle.l4_types.specs.StepView.{order_kind_of};
 ghost use Rattle.l4_script.specs.Scripts.{instr_of};
 ghost use Rattle.l4_core.specs.Asking.{admitted_act};
@@ -20,7 +17,6 @@ ghost use Rattle.l4_core_model.specs.Local.{declared, held, is_own, last_name, o
 ghost use Rattle.l4_core_model.specs.Local.{thread};
 ghost use Rattle.l4_core_model.specs.Acts.{entry, first_acceptable, split_place};
 ghost use Rattle.l4_core_model.specs.Runs.{IsMachine};
-ghost use Rattle.l4_core_model.specs.Turns.{can_stamp};
 ghost use Rattle.l4_core.specs.Covered.{is_zero_send};
 ghost use Rattle.l4_core.specs.Opening.{lists_below, opening_lists};
 ghost use Rattle.l4_core.specs.Parts.{kept_of, threads_of, ids_of, AreCore};
@@ -34,15 +30,13 @@ use l4_types::errors::NoMemory;
 use l4_types::ids::{GlobalId, ThreadId};
 use l4_types::message_ref::MessageRef;
 use l4_types::owed::Owed;
-use l4_types::reports::ThreadView;
-use l4_types::steps::{CLOCKS, Name, OrderKind};
+use l4_types::steps::{Name, OrderKind};
 use l4_types::times::Period;
 use std::alloc::Global;
 use std::marker::Model;
 use tcb_arena::{Arena, Waiting};
 
 pub(crate) mod duties;
-mod effects;
 mod fast_path;
 mod phase_lists;
 mod retargets;
@@ -53,16 +47,16 @@ pub(crate) mod tasks;
 /// and a send of it that waits here.
 #[derive(Drop)]
 pub(crate) struct ProcessorState<'m> {
-    machine: &'m Machine,
-    cpu: u8,
-    threads: Vec<Tcb>,
-    lists: Arena,
-    // For each thread: all processors below this number have been notified of its deletion.
-    notified: Vec<u8>,
-    // For each thread the retarget that is owed since it received a message. Empty in profile 1.
-    owed: Vec<Option<Owed>>,
-    clock: u64,
-    stamp: u64,
+    pub(crate) machine: &'m Machine,
+    pub(crate) cpu: u8,
+    pub(crate) threads: Vec<Tcb>,
+    pub(crate) lists: Arena,
+    /// For each thread: all processors below this number have been notified of its deletion.
+    pub(crate) notified: Vec<u8>,
+    /// For each thread the retarget that is owed since it received a message. Empty in profile 1.
+    pub(crate) owed: Vec<Option<Owed>>,
+    pub(crate) clock: u64,
+    pub(crate) stamp: u64,
 }
 
 impl<'m> Model for ProcessorState<'m> {
@@ -121,21 +115,6 @@ impl<'m> ProcessorState<'m> {
         let _ = &self.machine;
     }
 
-    /// The clock, in ticks.
-    pub(crate) fn clock(&self) -> u64
-        ensures value { result ≡ self.now.local.clock }
-        ensures fits { result < clock_limit }
-    {
-        self.clock
-    }
-
-    /// The last stamp.
-    pub(crate) fn stamp(&self) -> u64
-        ensures { result ≡ self.now.local.stamp }
-    {
-        self.stamp
-    }
-
     /// The number of this processor.
     pub(crate) fn cpu(&self) -> u8
         ensures value { result ≡ self.now.cpu }
@@ -145,13 +124,6 @@ impl<'m> ProcessorState<'m> {
         let cpus = self.machine.cpus();
         prove!(self.cpu < cpus);
         self.cpu
-    }
-
-    /// Whether the stamp of the next event stays below 2^62.
-    pub(crate) fn can_stamp(&self, letter_stamp: u64) -> bool
-        ensures { result ≡ can_stamp self.now.local letter_stamp }
-    {
-        self.stamp.max(letter_stamp) < CLOCKS - 1
     }
 
     /// The least deadline that a thread is armed for, in ticks, below the clock plus 2^42.
@@ -244,30 +216,6 @@ impl<'m> ProcessorState<'m> {
         ensures id { result.now.id ≡ (declared self.now.machine place).id }
     {
         &self.threads[place]
-    }
-
-    /// The lists of the threads.
-    pub(crate) fn lists(&self) -> &Arena
-        ensures { result.now ≡ self.now.local.lists }
-    {
-        &self.lists
-    }
-
-    /// The first processor that may not yet know of a thread's deletion.
-    pub(crate) fn notified_up_to(&self, place: usize) -> u8
-        requires { place < length self.now.machine.threads }
-        ensures { result ≡ slice_index_or self.now.local.told place 0 }
-    {
-        self.notified[place]
-    }
-
-    /// The report of a thread, as far as it is known here.
-    pub(crate) fn view(&self, place: usize) -> ThreadView
-        requires { place < length self.now.machine.threads }
-        ensures { report_of_view result ≡
-            report_of (declared self.now.machine place).id (thread self.now.local place) }
-    {
-        self.tcb(place).view()
     }
 
     /// How many sends a thread began.
@@ -424,6 +372,17 @@ impl<'m> ProcessorState<'m> {
         let target = target.as_global()?;
         let is_admitted = self.machine.admits(self.id(place), target, what);
         is_admitted.then_some(target)
+    }
+
+    /// Whether a send of a thread shows the originator that its VirtualSender names. The rights are
+    /// looked up only if the thread asks for propagation.
+    pub(crate) fn shows_originator(&self, place: usize) -> bool
+        requires { place < length self.now.machine.threads }
+        ensures { result ≡ is_some (originator self.now.machine (declared self.now.machine place).id
+            (thread self.now.local place).context) }
+    {
+        let thread = self.tcb(place).thread();
+        thread.propagates() && self.machine.may_show(self.id(place), thread.regs().actual)
     }
 
     /// The instruction that a thread is at. None past the end of its script, which is an `end`.

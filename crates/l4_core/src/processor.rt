@@ -14,7 +14,8 @@ ghost use Rattle.l4_types.specs.ReportView.{report_of_view};
 ghost use Rattle.l4_core.specs.Choosing.{choice_of, IsFound, IsPossible};
 ghost use Rattle.l4_core.specs.Processor.{with_local};
 ghost use Rattle.l4_core.specs.EventBuffers.{IsOpen};
-ghost use Rattle.l4_core.specs.Covered.{Covers, CoversBut, CoversOthers, CoversZeros, is_zero_send};
+ghost use Rattle.l4_core.specs.Covered.{Covers, CoversBut, CoversOthers, CoversZeros, IsCovered};
+ghost use Rattle.l4_core.specs.Covered.{IsCoveredBut, is_zero_send};
 ghost use Rattle.l4_core.specs.Parts.{AreCore};
 ghost use Rattle.l4_core.specs.Places.{has};
 ghost use Rattle.l4_core.specs.Turning.{IsOwnOf, IsTurn};
@@ -30,6 +31,7 @@ use l4_types::errors::NoMemory;
 use l4_types::ids::ThreadId;
 use l4_types::owed::Owed;
 use l4_types::reports::ThreadView;
+use l4_types::steps::CLOCKS;
 use std::alloc::Global;
 use std::marker::Model;
 use tcb_arena::Arena;
@@ -38,6 +40,7 @@ mod clock;
 mod effects;
 mod events;
 mod fast_path;
+mod foreign;
 mod handling;
 mod instructions;
 mod retargets;
@@ -160,7 +163,7 @@ impl<'m> Core<'m> {
     pub fn can_stamp(&self, letter_stamp: u64) -> bool
         ensures { result ≡ can_stamp self.now.local letter_stamp }
     {
-        self.known.can_stamp(letter_stamp)
+        self.stamp().max(letter_stamp) < CLOCKS - 1
     }
 
     /// The clock, in ticks, below 2^62.
@@ -168,7 +171,7 @@ impl<'m> Core<'m> {
         ensures value { result ≡ self.now.local.clock }
         ensures fits { result < clock_limit }
     {
-        self.known.clock()
+        self.known.clock
     }
 
     /// The least deadline that a thread is armed for, in ticks, below the clock plus 2^42.
@@ -198,7 +201,7 @@ impl<'m> Core<'m> {
         ensures { report_of_view result ≡
             report_of (declared self.now.machine place).id (thread self.now.local place) }
     {
-        self.known.view(place)
+        self.block(place).view()
     }
 
     /// How many sends the thread at this place began, as far as it is known here.
@@ -222,7 +225,7 @@ impl<'m> Core<'m> {
     pub fn stamp(&self) -> u64
         ensures { result ≡ self.now.local.stamp }
     {
-        self.known.stamp()
+        self.known.stamp
     }
 
     /// All that is known of the thread at this place.
@@ -239,7 +242,7 @@ impl<'m> Core<'m> {
     pub fn lists(&self) -> &Arena
         ensures { result.now ≡ self.now.local.lists }
     {
-        self.known.lists()
+        &self.known.lists
     }
 
     /// The first processor that may not yet know of the deletion of the thread at this place. All
@@ -248,7 +251,7 @@ impl<'m> Core<'m> {
         requires { place < length self.now.machine.threads }
         ensures { result ≡ slice_index_or self.now.local.told place 0 }
     {
-        self.known.notified_up_to(place)
+        self.known.notified[place]
     }
 
     /// The retarget that is kept beside the thread at this place. At a machine of profile 1 there
@@ -257,7 +260,12 @@ impl<'m> Core<'m> {
         requires { place < length self.now.machine.threads }
         ensures { option_map owed_of result ≡ owed_beside self.now.local place }
     {
-        self.known.owed(place)
+        let known = &self.known;
+        if known.machine.retargets() {
+            known.owed[place]
+        } else {
+            None
+        }
     }
 
     // Begins an event, and returns its stamp. `letter_stamp` is the stamp of the letter that it
@@ -269,8 +277,9 @@ impl<'m> Core<'m> {
             (record self.old.local { stamp = next_stamp letter_stamp self.old.local }) }
         ensures stamp { result ≡ next_stamp letter_stamp self.old.local }
     {
-        let stamp = self.known.stamp().max(letter_stamp) + 1;
-        self.known.set_stamp(stamp);
+        let known = &mut self.known;
+        let stamp = known.stamp.max(letter_stamp) + 1;
+        known.stamp = stamp;
         stamp
     }
 
@@ -299,12 +308,14 @@ impl<'m> Core<'m> {
         first_duty(&self.known, &mut self.duties, &mut self.zeros)
     }
 
-    // The first thread whose deadline is due.
+    // The first thread whose deadline is due. Constant time while the least deadline that the last
+    // search left is not due.
     fn first_due(&mut self) -> Option<usize>
         ensures due { result ≡ due_block self.old.local.clock self.old.local.lists.armed }
         ensures same { self.new ≡ self.old }
     {
-        self.known.first_due()
+        let known = &mut self.known;
+        known.lists.first_due(known.clock)
     }
 }
 
@@ -335,11 +346,8 @@ fn insert_place(known: &ProcessorState, duties: &mut Places, place: usize)
 // the set already.
 #[inline(always)]
 fn note_duty(known: &ProcessorState, duties: &mut Places, zeros: &Places, place: usize)
-    requires own { IsOwnOf known.now place }
-    requires others { CoversOthers place duties.old known.now.machine known.now.cpu
-        known.now.local }
-    requires zeros { CoversZeros zeros.now known.now.local }
-    ensures { Covers duties.new known.now.machine known.now.cpu known.now.local }
+    requires { IsCoveredBut place duties.old zeros.now known.now }
+    ensures { IsCovered duties.new zeros.now known.now }
 {
     known.facts();
     if known.may_have_duty(place, zeros.contains(place)) {
@@ -381,7 +389,7 @@ fn note_queued(
     requires others { CoversBut receiver sender duties.old known.now.machine known.now.cpu
         known.now.local }
     requires zeros { CoversZeros zeros.now known.now.local }
-    ensures { Covers duties.new known.now.machine known.now.cpu known.now.local }
+    ensures { IsCovered duties.new zeros.now known.now }
 {
     note_duty_beside(known, duties, zeros, receiver, sender);
     if known.is_own(sender) {

@@ -1,19 +1,22 @@
 //! The history of a machine.
-ghost use Rattle.std.specs.Prelude.{◌≡◌, ◌<◌, ◌≤◌, ◌-◌, ◌^◌, [], ◌∷◌, ◌++◌, ◌↔◌, All, OnOk, OnErr, IfOk, IfSome, Some, None, IsTrue, length, map, take, drop, slice_get};
+ghost use Rattle.std.specs.Prelude.{◌≡◌, ◌<◌, ◌≤◌, ◌-◌, ◌^◌, [], ◌∷◌, ◌++◌, ◌↔◌, All, OnOk, OnErr, IfOk, IfNone, IfSome, Some, None, IsTrue, length, map, take, drop, slice_get};
 ghost use Rattle.std.specs.Prelude.{◌+◌, vec_len};
 ghost use Rattle.std.specs.Vec.{vec_capacity};
 ghost use Rattle.l4_model.specs.History.{begun_name};
 ghost use Rattle.l4_types.specs.StepView.{delivered, delivery_in, seen, step_of};
-ghost use Rattle.l4_history.specs.Rows.{HasMore, IsHead, IsHeadOf, delivery_at, step_at};
+ghost use Rattle.l4_history.specs.Rows.{HasMore, HasRoom, IsHead, IsHeadOf, IsRecord, IsWide, ShowsSender, delivery_at, delivery_by, step_at, wide_at};
+ghost use Rattle.l4_history.specs.declared.records.WideHead.{WideHead};
+ghost use Rattle.l4_types.specs.declared.steps.Step.TheVariants.{Deliver};
 
-use crate::records::{Head, Record};
+use crate::records::{Head, Record, WideHead};
 use crate::sink::tell;
 use crate::steps::Steps;
 use l4_types::errors::NoMemory;
+use l4_types::ids::GlobalId;
 use l4_types::message_ref::MessageRef;
 use l4_types::messages::MOST_WORDS;
 use l4_types::step_ref::{DeliveryRef, StepRef};
-use l4_types::steps::{Name, Step};
+use l4_types::steps::{Name, Step, Tick};
 use std::alloc::Global;
 use std::marker::Model;
 
@@ -23,12 +26,17 @@ pub const EVENT_STEPS: usize = 3;
 // Room is reserved for this many steps at once: to ask each time costs more than a push.
 const CHUNK_STEPS: usize = 64;
 
+// Indexes of rows are below this. A history that would need more of them finds no memory.
+const INDEXES: usize = 1 << 32;
+
 /// The steps of a machine in order, in compact form, and room for more of them. The words of all
 /// deliveries lie in one row.
 #[derive(Drop)]
 pub struct History {
     records: Vec<Record>,
     heads: Vec<Head>,
+    // The steps that no record fits.
+    wide: Vec<Step<WideHead>>,
     words: Vec<u64>,
     room: usize,
 }
@@ -37,19 +45,21 @@ impl Model for History {
     ghost use Rattle.std.specs.Prelude.{◌+◌, ◌*◌, ◌≤◌, vec_len};
     ghost use Rattle.std.specs.Vec.{vec_capacity};
     ghost use Rattle.l4_types.specs.declared.messages.TheConstants.{MOST_WORDS};
-    ghost use Rattle.l4_history.specs.Rows.{Told, AreRows, told};
+    ghost use Rattle.l4_history.specs.Rows.{Told, AreRows, HasRoom, told};
 
     ghost Value = { Told };
 
     ghost view = { λ h. record {
-      steps = told h.records.items h.heads.items h.words.items;
+      steps = told h.records.items h.heads.items h.wide.items h.words.items;
       room = h.room;
     } };
 
-    ghost invariant = { λ h. AreRows h.records.items h.heads.items h.words.items ×
+    ghost invariant = { λ h.
+        AreRows h.records.items h.heads.items h.wide.items h.words.items ×
         (vec_len h.records + h.room ≤ vec_capacity h.records) ×
-        (vec_len h.heads + h.room ≤ vec_capacity h.heads) ×
-        (vec_len h.words + MOST_WORDS * h.room ≤ vec_capacity h.words) };
+        HasRoom (vec_len h.heads) (vec_capacity h.heads) h.room ×
+        HasRoom (vec_len h.wide) (vec_capacity h.wide) h.room ×
+        HasRoom (vec_len h.words) (vec_capacity h.words) (MOST_WORDS * h.room) };
 }
 
 impl History {
@@ -60,6 +70,7 @@ impl History {
         History {
             records: Vec::new(alloc),
             heads: Vec::new(alloc),
+            wide: Vec::new(alloc),
             words: Vec::new(alloc),
             room: 0,
         }
@@ -125,8 +136,9 @@ impl History {
         ensures err { OnErr result (self.new ≡ self.old) }
     {
         self.records.reserve(CHUNK_STEPS)?;
-        self.heads.reserve(CHUNK_STEPS)?;
-        self.words.reserve(CHUNK_STEPS * MOST_WORDS)?;
+        reserve(&mut self.heads, CHUNK_STEPS)?;
+        reserve(&mut self.wide, CHUNK_STEPS)?;
+        reserve(&mut self.words, CHUNK_STEPS * MOST_WORDS)?;
         self.room = CHUNK_STEPS;
         Ok(())
     }
@@ -141,24 +153,58 @@ impl History {
           room = self.old.room - 1;
         } }
     {
-        match step.as_delivery() {
-            Ok(delivery) => self.push_delivery(delivery),
-            Err(whole) => self.push_whole(whole),
+        match &step {
+            Step::Deliver(delivery) => self.push_delivery(delivery),
+            other => self.push_other(other),
         }
     }
 
     // Appends a step that is no delivery.
     #[inline(always)]
-    fn push_whole(&mut self, whole: Record)
+    fn push_other(&mut self, step: &StepRef<'_>)
         requires room { 0 < self.old.room }
-        requires no_delivery { delivery_in whole ≡ None }
+        requires no_delivery { delivery_in step.now ≡ None }
         ensures { self.new ≡ record {
-          steps = self.old.steps ++ step_at [] [] whole ∷ [];
+          steps = self.old.steps ++ seen step.now ∷ [];
           room = self.old.room - 1;
         } }
     {
-        self.records.push_reserved(whole);
+        match Record::new(step) {
+            Some(stored) => self.push_record(stored),
+            None => self.push_wide(step),
+        }
+    }
+
+    // Appends a step that its record tells alone.
+    #[inline(always)]
+    fn push_record(&mut self, stored: Record)
+        requires room { 0 < self.old.room }
+        requires alone { IsRecord 0 0 stored }
+        ensures { self.new ≡ record {
+          steps = self.old.steps ++ step_at [] [] [] stored ∷ [];
+          room = self.old.room - 1;
+        } }
+    {
+        self.records.push_reserved(stored);
         self.room -= 1;
+    }
+
+    // Appends a step that no record fits, and that is no delivery.
+    #[inline(always)]
+    fn push_wide(&mut self, step: &StepRef<'_>)
+        requires room { 0 < self.old.room }
+        requires no_delivery { delivery_in step.now ≡ None }
+        ensures { self.new ≡ record {
+          steps = self.old.steps ++ seen step.now ∷ [];
+          room = self.old.room - 1;
+        } }
+    {
+        if let Err(whole) = step.as_delivery() {
+            self.records
+                .push_reserved(Record::Wide(self.wide.len() as u32));
+            self.wide.push_reserved(whole);
+            self.room -= 1;
+        }
     }
 
     /// Appends a delivery. Its words are copied once, straight into the row, and no `Message` is
@@ -171,14 +217,49 @@ impl History {
           room = self.old.room - 1;
         } }
     {
+        if shows_sender(delivery) {
+            self.push_plain(delivery);
+        } else {
+            self.push_propagated(delivery);
+        }
+    }
+
+    // Appends a delivery that shows the thread that sends.
+    #[inline(always)]
+    fn push_plain(&mut self, delivery: &DeliveryRef<'_>)
+        requires room { 0 < self.old.room }
+        requires plain { ShowsSender delivery.now }
+        ensures { self.new ≡ record {
+          steps = self.old.steps ++ delivered delivery.now ∷ [];
+          room = self.old.room - 1;
+        } }
+    {
         self.records
-            .push_reserved(Record::Deliver(self.heads.len()));
-        self.heads.push_reserved(head(delivery, self.words.len()));
+            .push_reserved(Record::Deliver(self.heads.len() as u32));
+        self.heads
+            .push_reserved(head(delivery, self.words.len() as u32));
         append(&mut self.words, delivery.message.words());
         self.room -= 1;
     }
 
-    // Appends the step at a place of another history, as it is stored there.
+    // Appends a delivery that may show other ids.
+    #[inline(always)]
+    fn push_propagated(&mut self, delivery: &DeliveryRef<'_>)
+        requires { 0 < self.old.room }
+        ensures { self.new ≡ record {
+          steps = self.old.steps ++ delivered delivery.now ∷ [];
+          room = self.old.room - 1;
+        } }
+    {
+        self.records
+            .push_reserved(Record::Wide(self.wide.len() as u32));
+        self.wide
+            .push_reserved(wide(delivery, self.words.len() as u32));
+        append(&mut self.words, delivery.message.words());
+        self.room -= 1;
+    }
+
+    // Appends the step at a place of another history.
     fn push_stored(&mut self, other: &History, place: usize)
         requires room { 0 < self.old.room }
         requires within { place < length other.now.steps }
@@ -187,10 +268,7 @@ impl History {
           room = self.old.room - 1;
         }) }
     {
-        match other.records[place].as_delivery() {
-            Ok(at) => self.push_delivery(&delivery(&other.heads, &other.words, *at)),
-            Err(whole) => self.push_whole(whole),
-        }
+        self.push(other.step(place));
     }
 
     // Appends the steps from one place of another history up to another, counted from 0.
@@ -241,7 +319,11 @@ impl History {
         ensures { IfSome (slice_get self.now.steps i) (λ step. result ≡ begun_name step) }
     {
         match self.records[i] {
-            Record::Begin(name) => Some(name),
+            Record::Begin(name) => Some(name.name()),
+            Record::Wide(at) => match self.wide[at as usize] {
+                Step::Begin(name) => Some(name),
+                _ => None,
+            },
             _ => None,
         }
     }
@@ -252,11 +334,38 @@ impl History {
         requires { i < length self.now.steps }
         ensures { slice_get self.now.steps i ≡ Some (seen result) }
     {
-        match self.records[i].as_delivery() {
-            Ok(at) => Step::Deliver(delivery(&self.heads, &self.words, *at)),
-            Err(step) => step,
+        match self.records[i] {
+            Record::Local(thread) => Step::Local(thread),
+            Record::Begin(name) => Step::Begin(name.name()),
+            Record::Queue(name) => Step::Queue(name.name()),
+            Record::Deliver(at) => Step::Deliver(delivery(&self.heads, &self.words, at as usize)),
+            Record::Wait(thread) => Step::Wait(thread),
+            Record::SendTimeout(name) => Step::SendTimeout(name.name()),
+            Record::ReceiveTimeout(thread) => Step::ReceiveTimeout(thread),
+            Record::SendNobody(name) => Step::SendNobody(name.name()),
+            Record::ReceiveNobody(thread) => Step::ReceiveNobody(thread),
+            Record::SendCancel(name) => Step::SendCancel(name.name()),
+            Record::ReceiveCancel(thread) => Step::ReceiveCancel(thread),
+            Record::Drop(name) => Step::Drop(name.name()),
+            Record::Obey(caller) => Step::Obey(caller),
+            Record::Tick { cpu, clock } => Step::Tick(Tick::new(cpu, clock).unwrap()),
+            Record::Retarget(name) => Step::Retarget(name.name()),
+            Record::Wide(at) => wide_step(&self.wide, &self.words, at as usize),
         }
     }
+}
+
+// Makes room for more elements, and sees to it that an index of 32 bits names each of them.
+fn reserve<T>(row: &mut Vec<T>, more: usize) -> Result<(), NoMemory>
+    ensures items { row.new.items ≡ row.old.items }
+    ensures grown { vec_capacity row.old ≤ vec_capacity row.new }
+    ensures ok { OnOk result (HasRoom (vec_len row.new) (vec_capacity row.new) more) }
+{
+    if row.len() >= INDEXES || more > INDEXES - row.len() {
+        return Err(NoMemory);
+    }
+    row.reserve(more)?;
+    Ok(())
 }
 
 // Appends words, for which there is room. Mostly a message has none.
@@ -271,16 +380,24 @@ fn append(words: &mut Vec<u64>, more: &[u64])
     }
 }
 
+// Whether a delivery shows the thread that sends.
+#[inline(always)]
+fn shows_sender(delivery: &DeliveryRef<'_>) -> bool
+    ensures { IsTrue result → ShowsSender delivery.now }
+{
+    let sender = delivery.name.thread();
+    delivery.message.shown() == sender && delivery.message.actual() == sender
+}
+
 // The head of a delivery whose words begin at a place of the row.
-fn head(delivery: &DeliveryRef<'_>, start: usize) -> Head
+#[inline(always)]
+fn head(delivery: &DeliveryRef<'_>, start: u32) -> Head
     ensures { IsHeadOf delivery.now start result }
 {
     let message = &delivery.message;
     Head {
         name: delivery.name,
         receiver: delivery.receiver,
-        shown: message.shown(),
-        actual: message.actual(),
         label: message.label(),
         start,
         count: message.words().len() as u8,
@@ -289,23 +406,71 @@ fn head(delivery: &DeliveryRef<'_>, start: usize) -> Head
     }
 }
 
+// The same as a step, with the ids that it shows.
+#[inline(always)]
+fn wide(delivery: &DeliveryRef<'_>, start: u32) -> Step<WideHead>
+    ensures { (w : WideHead) × (result ≡ Deliver w) × IsHeadOf delivery.now start w.head ×
+        (w.shown ≡ delivery.now.message.shown) × (w.actual ≡ delivery.now.message.actual) }
+{
+    Step::Deliver(WideHead {
+        head: head(delivery, start),
+        shown: delivery.message.shown(),
+        actual: delivery.message.actual(),
+    })
+}
+
 // The delivery of the head at a place.
+#[inline(always)]
 fn delivery<'a>(heads: &[Head], words: &'a [u64], at: usize) -> DeliveryRef<'a>
     requires known { at < length heads.now }
     requires within { All (IsHead (length words.now)) heads.now }
     ensures { delivery_at words.now (slice_get heads.now at) ≡ delivered result }
 {
     let head = &heads[at];
+    let sender = head.name.thread();
+    delivery_by(head, words, sender, sender)
+}
+
+// The delivery of a head that shows these ids.
+#[inline(always)]
+fn delivery_by<'a>(
+    head: &Head,
+    words: &'a [u64],
+    shown: GlobalId,
+    actual: GlobalId,
+) -> DeliveryRef<'a>
+    requires { IsHead (length words.now) head.now }
+    ensures { delivery_by words.now shown actual head.now ≡ delivered result }
+{
+    let start = head.start as usize;
     DeliveryRef {
         name: head.name,
         receiver: head.receiver,
         message: MessageRef::new(
             head.label,
             head.propagated,
-            &words[head.start..head.start + usize::from(head.count)],
-            head.shown,
-            head.actual,
+            &words[start..start + usize::from(head.count)],
+            shown,
+            actual,
         ),
         cross: head.cross,
+    }
+}
+
+// The step that no record fits at a place. It is rare, so it is not inlined.
+#[inline(never)]
+fn wide_step<'a>(wide: &[Step<WideHead>], words: &'a [u64], at: usize) -> StepRef<'a>
+    requires known { at < length wide.now }
+    requires within { All (IsWide (length words.now)) wide.now }
+    ensures { wide_at words.now (slice_get wide.now at) ≡ seen result }
+{
+    match wide[at].as_delivery() {
+        Ok(delivery) => Step::Deliver(delivery_by(
+            &delivery.head,
+            words,
+            delivery.shown,
+            delivery.actual,
+        )),
+        Err(step) => step,
     }
 }

@@ -4,7 +4,7 @@
 //! Each returns an `Outcome`: the history, the undecided sends, the report of each thread, whether
 //! anything was left to do, and how many turns were taken. Contracts say that it is the outcome of
 //! a core run, so `law_core_run` holds of it: its history is one of the model, with all laws.
-//! `run_compact` and `replay_compact` keep the history in 24 bytes a step.
+//! `run_compact` and `replay_compact` keep the history in 16 bytes a step.
 //!
 //! Which of its histories a run of several processors takes is up to the host; a replay has one.
 //! Each history that a run may have is that of some entries of a replay (`l4_choices`), and

@@ -40,7 +40,7 @@ pub struct Outcome {
     pub turns: u64,
 }
 
-/// An outcome with its history in compact form, 24 bytes for a step, or in the logs of several
+/// An outcome with its history in compact form, 16 bytes for a step, or in the logs of several
 /// processors, which are merged only on demand.
 #[derive(Drop)]
 pub struct CompactOutcome<'m> {

@@ -86,6 +86,7 @@ fn take_first(processors: &[Processor<'_>], log: &mut Unmerged) -> Entry
 }
 
 // The entry that names what a processor did.
+#[inline(always)]
 fn entry(cpu: u8, choice: Choice) -> Entry
     ensures { entry_from result ≡ entry_of (action_of cpu choice) }
 {

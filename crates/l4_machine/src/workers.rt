@@ -1,6 +1,5 @@
 //! Turns of a worker that no letter stops.
-ghost use Rattle.std.specs.Prelude.{◌≡◌, ◌<◌, None, length, vec_len};
-ghost use Rattle.std.specs.Vec.{vec_capacity};
+ghost use Rattle.std.specs.Prelude.{◌≡◌, ◌<◌, None, length};
 ghost use Rattle.l4_core.specs.EventBuffers.{IsOpen};
 ghost use Rattle.l4_types.specs.LetterView.{letter_of};
 ghost use Rattle.l4_proc.specs.Working.{with_in_hand, HasTakenTurn};
@@ -17,7 +16,7 @@ use l4_types::letters::Letter;
 /// do.
 pub(crate) fn take_turn(worker: &mut Worker<'_>) -> bool
     requires open { IsOpen worker.old.log.buffer }
-    requires room { vec_len worker.old.log.ends < vec_capacity worker.old.log.ends }
+    requires room { 0 < worker.old.log.ends.room }
     requires can { CanTurn worker.old }
     ensures { HasTriedTurn result worker.old worker.new }
 {
@@ -33,7 +32,7 @@ pub(crate) fn take_turn(worker: &mut Worker<'_>) -> bool
 pub(crate) fn handle_first(inbox: &mut Inbox, worker: &mut Worker<'_>, from: u8) -> bool
     requires within { from < length (letters_in inbox.old) }
     requires open { IsOpen worker.old.log.buffer }
-    requires room { vec_len worker.old.log.ends < vec_capacity worker.old.log.ends }
+    requires room { 0 < worker.old.log.ends.room }
     requires empty { worker.old.hand ≡ None }
     requires can { CanHandleFirst from worker.old.core (letters_in inbox.old) }
     ensures { HandlesFirst from result inbox.old inbox.new worker.old worker.new }
@@ -49,7 +48,7 @@ pub(crate) fn handle_first(inbox: &mut Inbox, worker: &mut Worker<'_>, from: u8)
 // Handles this letter, which came from processor `from`, as the event that has begun.
 fn handle(worker: &mut Worker<'_>, from: u8, letter: &Letter)
     requires open { IsOpen worker.old.log.buffer }
-    requires room { vec_len worker.old.log.ends < vec_capacity worker.old.log.ends }
+    requires room { 0 < worker.old.log.ends.room }
     requires empty { worker.old.hand ≡ None }
     requires can { CanHandle worker.old.core (letter_of letter.now) }
     ensures { HasTakenTurn (with_in_hand from letter.now worker.old) worker.new }

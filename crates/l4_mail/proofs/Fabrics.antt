@@ -1,5 +1,5 @@
 -- Ports of one fabric, of which the way between two comes to rest.
-use Rattle.std.proofs.Common.{◌≡◌, ◌≢◌, ℕ, zero, suc, ◌<◌, ◌≤◌, List, [], ◌∷◌, ◌++◌, length, map, set, get_or, subst, refl, sym, ap, ap₂, ◌∙◌, ⊎_elim, arith, Option, Some, slice_get}
+use Rattle.std.proofs.Common.{◌≡◌, ◌≢◌, true, false, ℕ, zero, suc, ◌<◌, ◌≤◌, List, [], ◌∷◌, ◌++◌, length, map, set, get_or, subst, refl, sym, ap, ap₂, ◌∙◌, ⊎_elim, arith, Option, Some, slice_get}
 use Rattle.std.specs.Prelude.{Result, Ok, Err, OnOk}
 use Rattle.std.specs.Vec.{with_item}
 use Rattle.std.specs.Option.{option_map}
@@ -161,11 +161,15 @@ pub on_ok : {T X : Type 0} (r : Result T X) (P Q : Type 0) → (P → Q) → OnO
 on_ok (Ok x) P Q f h = f h
 on_ok (Err x) P Q f h = h
 
+-- What a port has carried does not depend on whether it says that it is linked.
+pub vacuous : {A : Type 0} → true ≡ false → A
+vacuous e = absurd cc
+
 abbrev pub with_outlet : Port → ℕ → Option Outlet → Port
-with_outlet p i o = record { cpu = p.cpu; outlets = with_item p.outlets i o; inlets = p.inlets; few = p.few }
+with_outlet p i o = record { cpu = p.cpu; linked = true; outlets = with_item p.outlets i o; inlets = p.inlets; few = p.few; ways = λ e. vacuous e }
 
 abbrev pub with_inlet : Port → ℕ → Option Inlet → Port
-with_inlet p i n = record { cpu = p.cpu; outlets = p.outlets; inlets = with_item p.inlets i n; few = p.few }
+with_inlet p i n = record { cpu = p.cpu; linked = true; outlets = p.outlets; inlets = with_item p.inlets i n; few = p.few; ways = λ e. vacuous e }
 
 pub out_rested : (p : Port) (i : ℕ) (o y : Option Outlet) → o ≡ get_or p.outlets.items i o → ring_out y ≡ ring_out o → posted y ≡ posted o → carried (with_outlet p i y) ≡ carried p
 out_rested p i o y is r q =

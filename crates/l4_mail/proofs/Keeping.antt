@@ -1,5 +1,5 @@
 -- Whether anything is put by at the inlets of a port: as a test, and place by place.
-use Rattle.std.proofs.Common.{◌≡◌, ◌↔◌, ◌∙◌, ◌||◌, ℕ, zero, suc, List, [], ◌∷◌, Option, Bool, true, false, not, refl, ap}
+use Rattle.std.proofs.Common.{◌≡◌, ◌↔◌, ◌∙◌, ◌||◌, zero, suc, List, [], ◌∷◌, Option, Bool, true, false, not, refl, ap}
 use Rattle.std.specs.List.{list_any}
 use Rattle.l4_core_model.specs.Runs.{is_empty}
 use Rattle.l4_types.specs.declared.letters.Letter.{Letter}

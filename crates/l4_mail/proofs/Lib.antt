@@ -1,4 +1,5 @@
 pub mod Taken
+pub mod Unlinked
 pub mod Rows
 pub mod Whole
 pub mod Keeping

@@ -1,5 +1,5 @@
 -- What the two ends of a way have carried: the outlet of the poster, and the inlet of the receiver.
-use Rattle.std.specs.Prelude.{ℕ, ◌-◌, List, [], ◌++◌, Bool, not, Option, Some, None}
+use Rattle.std.specs.Prelude.{◌≡◌, ℕ, ◌-◌, List, [], ◌++◌, Bool, not, Option, Some, None, slice_index_or}
 use Rattle.std.specs.VecDeque.{deque_len, deque_capacity}
 use Rattle.std.specs.declared.alloc.Global.{Global}
 use denote.RawPtr.{Ptr}
@@ -107,3 +107,8 @@ here (Some i) = inlet_here i
 -- Whether a letter is kept here.
 abbrev pub keeps : Option Inlet → Bool
 keeps end = not (is_empty (kept end))
+
+-- There is no ring to or from any processor.
+pub record HasNoWay (outs ins : List (Option RingId)) : Type 0 where
+  pub out : (to : ℕ) → slice_index_or outs to None ≡ None
+  pub in_ : (from : ℕ) → slice_index_or ins from None ≡ None

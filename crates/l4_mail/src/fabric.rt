@@ -33,6 +33,7 @@ fn join(alloc: Global, ports: &mut [Port], cpu: u8, room: usize) -> Result<Port,
 {
     let mut next = Port {
         cpu,
+        linked: false,
         outlets: Vec::new(alloc),
         inlets: Vec::new(alloc),
     };
@@ -54,6 +55,8 @@ fn lay(alloc: Global, room: usize, from: &mut Port, to: &mut Port) -> Result<(),
         GainsOutlet from.old from.new (Some ring) × GainsInlet to.old to.new (Some ring)) }
 {
     let (outlet, inlet) = ways::open(alloc, room)?;
+    from.linked = true;
+    to.linked = true;
     from.outlets.push(Some(outlet))?;
     to.inlets.push(Some(inlet))?;
     Ok(())

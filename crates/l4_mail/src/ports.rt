@@ -1,6 +1,7 @@
 //! A processor's port.
-ghost use Rattle.std.specs.Prelude.{◌≤◌, vec_len};
+ghost use Rattle.std.specs.Prelude.{◌≡◌, ◌≤◌, false, map, vec_len};
 ghost use Rattle.l4_model.specs.Machine.{most_processors};
+ghost use Rattle.l4_mail.specs.Ends.{HasNoWay, ring_in, ring_out};
 
 use crate::inlets::Inlet;
 use crate::outlets::Outlet;
@@ -13,11 +14,16 @@ use l4_types::letters::Letter;
 #[derive(Drop)]
 pub struct Port {
     pub(crate) cpu: u8,
+    // Whether there is a way to another processor. In a fabric of one there is none, and a turn need
+    // not look for it.
+    pub(crate) linked: bool,
     // By the processor that the letters go to, none for its own.
     pub(crate) outlets: Vec<Option<Outlet>>,
     // By the processor that the letters come from, none for its own.
     pub(crate) inlets: Vec<Option<Inlet>>,
     pub ghost few: { (vec_len outlets ≤ most_processors) × (vec_len inlets ≤ most_processors) },
+    pub ghost ways: { linked ≡ false → HasNoWay (map ring_out outlets.items)
+        (map ring_in inlets.items) },
 }
 
 impl Port {
@@ -59,6 +65,9 @@ impl Port {
         ensures moved { OnOk result
             ((to : ℕ) → (waiting_to self.new to ≡ []) ⊎ (free_to self.new to ≡ 0)) }
     {
+        if !self.linked {
+            return Ok(());
+        }
         for end in self.outlets.iter_mut() {
             ends::make_ready(end, 2)?;
         }
@@ -105,11 +114,15 @@ impl Port {
 
     /// Whether there is a letter to take. Where there is none, none is kept, and no ring had one
     /// when it was last looked at.
+    #[inline(always)]
     pub fn has_mail(&mut self) -> bool
         ensures same { IsAsBefore self.old self.new }
         ensures none { result ≡ false → (from : ℕ) → kept_from self.old from ≡ [] }
         ensures here { (result ≡ false) ↔ ((from : ℕ) → here_from self.new from ≡ []) }
     {
+        if !self.linked {
+            return false;
+        }
         takes::has_mail(&mut self.inlets)
     }
 

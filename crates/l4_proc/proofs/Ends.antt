@@ -1,11 +1,11 @@
 -- The ends of events, and the events between them.
-use Rattle.std.proofs.Common.{◌≡◌, ℕ, ◌<◌, ◌≤◌, true, zero, suc, List, [], ◌∷◌, ◌++◌, length, get_or, take, drop, refl, ap, sym, ◌∙◌, arith}
+use Rattle.std.proofs.Common.{◌≡◌, ℕ, ◌<◌, ◌≤◌, true, zero, suc, List, [], ◌∷◌, ◌++◌, length, take, drop, refl, ap, sym, ◌∙◌, arith}
 use Rattle.std.specs.Prelude.{nat_le, slice_get, Option, Some}
 use Rattle.std.proofs.lemmas.Bool.{and_parts, and_from, eqb-true, eq-eqb, leb-true, le-leb}
 use Rattle.std.proofs.lemmas.List.{drop_all, take-append-le}
 use Rattle.l4_model.specs.Steps.{Step}
 use Rattle.l4_core_model.specs.Runs.{Event, told}
-use Rattle.l4_proc.specs.declared.log.End.{End}
+use Rattle.l4_proc.specs.declared.end_rows.End.{End}
 use Rattle.l4_proc.specs.Ends.{are_ends, events_between, start_of}
 
 pub as_many : (cpu first : ℕ) (ends : List End) (steps : List Step) → length (events_between cpu first ends steps) ≡ length ends
@@ -29,10 +29,10 @@ each_within (e ∷ ends) first last (suc i) end are is =
     each_within ends e.place last i end (and_parts (nat_le first e.place) (are_ends e.place ends last) are).1 is
 
 -- An event begins where the one before it ends.
-pub start_is : (ends : List End) (first before : ℕ) (d : End) → before < length ends → (get_or ends before d).place ≡ start_of first ends (suc before)
-start_is [] first before d within = absurd (omega arith)
-start_is (e ∷ ends) first zero d within = refl
-start_is (e ∷ ends) first (suc before) d within = start_is ends e.place before d (omega arith)
+pub start_at : (ends : List End) (first before : ℕ) (end : End) → slice_get ends before ≡ Some end → end.place ≡ start_of first ends (suc before)
+start_at [] first before end is = absurd cc
+start_at (e ∷ ends) first zero end is = let same : end ≡ e = cc in ap (λ (x : End). x.place) same
+start_at (e ∷ ends) first (suc before) end is = start_at ends e.place before end is
 
 pub event_at : (cpu first : ℕ) (ends : List End) (steps : List Step) (i : ℕ) (end : End) → slice_get ends i ≡ Some end →
     slice_get (events_between cpu first ends steps) i ≡ Some (record { cpu = cpu; stamp = end.stamp; steps = drop (start_of first ends i) (take end.place steps) })

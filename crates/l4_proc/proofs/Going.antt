@@ -23,7 +23,7 @@ use Rattle.l4_proc.specs.Whole.{past_with, handled_from, IsFreshPort, IsPortOf, 
 use Rattle.l4_proc.specs.Working.{past, BeginWithMail, HasGoneOn, HasStayed, HasTaken, HasTakenUpTo, HasTicked, HasTickedTo, IsIdle, IsSameWorker, IsStopped, IsTicking}
 use Rattle.l4_proc.specs.declared.stops.Stop.{Stop}
 use Rattle.l4_proc.specs.declared.stops.Stop.TheVariants as stop
-use Rattle.l4_proc.specs.declared.log.End.{End}
+use Rattle.l4_proc.specs.declared.end_rows.End.{End}
 use Rattle.l4_proc.specs.declared.log.Log.{Log}
 use Rattle.l4_proc.specs.declared.processor.Processor.{Processor}
 use Rattle.l4_proc.specs.declared.worker.Worker.{Worker}

@@ -1,4 +1,5 @@
 pub mod Assembling
+pub mod EndRows
 pub mod Ends
 pub mod Going
 pub mod Handled

@@ -4,7 +4,7 @@ use Rattle.std.proofs.lemmas.List.{append-nil, map-append, take_all, length-appe
 use Rattle.std.proofs.Math.Seq.{drop-append_seam}
 use Rattle.l4_model.specs.Steps.{Step}
 use Rattle.l4_core_model.specs.Runs.{Event}
-use Rattle.l4_proc.specs.declared.log.End.{End}
+use Rattle.l4_proc.specs.declared.end_rows.End.{End}
 use Rattle.l4_proc.specs.declared.log.Log.{Log}
 use Rattle.l4_proc.specs.Choices.{action_in}
 use Rattle.l4_proc.specs.Ends.{are_ends, events_between}

@@ -239,7 +239,7 @@ mail_first old ready d event r = record {
 }
 
 pub turn_taken : (old ready posted new : Processor) (middle : Worker) (log : Log) (stamp choice : ℕ) → IsWhole old.port old.worker →
-    IsWhole ready.port ready.worker → old.worker.log.ticks ≤ vec_len old.worker.log.ends →
+    IsWhole ready.port ready.worker → old.worker.log.ticks ≤ length old.worker.log.ends.items →
     IsReady old ready → HasDone ready.worker middle stamp → ((cpu : ℕ) → action_in cpu choice ≡ action_of cpu (event_in_hand ready.worker.hand)) →
     HasEnded middle.log log stamp choice middle.log.ticks → HasPostedAll ready.port posted.port log.buffer.letters → posted.worker.core ≡ middle.core → posted.worker.hand ≡ middle.hand → HasLetters log posted.worker.log →
     IsAsBefore posted.port new.port → new.worker ≡ posted.worker → HasTaken 1 old new
@@ -283,7 +283,7 @@ turn_taken old ready posted new middle log stamp choice was is few r d what e p 
         worked = turned.worked;
       };
       turned = turned;
-      turns = one_more _ _ _ _ (ap length ends ∙ length-append w.log.ends.items _) ticks (omega (arith, few, w.log.ends.ok.0));
+      turns = one_more _ _ _ _ (ap length ends ∙ length-append w.log.ends.items _) ticks few;
       ticks = ticks;
       many = ap length one;
       first = subst (BeginWithMail old) (sym one) (mail_first old ready transition refl r);

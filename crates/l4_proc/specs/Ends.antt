@@ -2,7 +2,7 @@
 use Rattle.std.specs.Prelude.{ℕ, zero, suc, ◌==◌, ◌&&◌, Bool, nat_le, List, [], ◌∷◌, take, drop}
 use Rattle.l4_model.specs.Steps.{Step}
 use Rattle.l4_core_model.specs.Runs.{Event}
-use Rattle.l4_proc.specs.declared.log.End.{End}
+use Rattle.l4_proc.specs.declared.end_rows.End.{End}
 
 -- The events that end at these places. The first begins at `start`.
 abbrev pub events_between : (cpu start : ℕ) → List End → List Step → List Event

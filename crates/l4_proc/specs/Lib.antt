@@ -1,5 +1,6 @@
 pub mod Assembled
 pub mod Choices
+pub mod EndRows
 pub mod Ends
 pub mod Events
 pub mod Logs

@@ -1,6 +1,5 @@
 -- The log of one processor: its events in order, and the steps and letters of the one under way.
-use Rattle.std.specs.Prelude.{◌≡◌, ℕ, ◌++◌, ◌<◌, true, List, [], ◌∷◌, length, map, vec_len}
-use Rattle.std.specs.Vec.{vec_capacity}
+use Rattle.std.specs.Prelude.{◌≡◌, ℕ, ◌++◌, ◌<◌, true, List, [], ◌∷◌, length, map}
 use Rattle.l4_model.specs.Steps.{Step}
 use Rattle.l4_core_model.specs.Runs.{Event, Action}
 use Rattle.l4_core.specs.EventBuffers.{EventBuffer, IsBegun}
@@ -33,7 +32,7 @@ pub record HasBegun (old new : Log) : Type 0 where
   pub ends : new.ends.items ≡ old.ends.items
   pub ticks : new.ticks ≡ old.ticks
   pub buffer : IsBegun old.buffer new.buffer
-  pub room : vec_len new.ends < vec_capacity new.ends
+  pub room : 0 < new.ends.room
 
 -- No step or letter came, and no event has begun or ended.
 pub record IsSameLog (old new : Log) : Type 0 where

@@ -36,10 +36,11 @@ pub(crate) fn tick_number(clock: u64) -> u64
 pub(crate) fn choice_of(number: u64) -> Choice
     ensures { (cpu : ℕ) → action_of cpu result ≡ action_in cpu number }
 {
+    if number == CORE {
+        return Choice::Core;
+    }
     if number < CORE {
         Choice::Letter(number as u8)
-    } else if number == CORE {
-        Choice::Core
     } else {
         Choice::TickTo(number - CORE - 1)
     }

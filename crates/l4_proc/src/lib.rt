@@ -18,6 +18,7 @@
 
 pub mod assembly;
 pub mod choice;
+mod end_rows;
 pub mod gate;
 pub mod log;
 pub mod processor;

@@ -1,11 +1,11 @@
 //! The log of one processor.
 ghost use Rattle.std.specs.Prelude.{◌≡◌, ◌<◌, ◌≤◌, ◌+◌, ◌-◌, ◌++◌, ◌^◌, [], ◌↔◌, false, IfNone};
 ghost use Rattle.std.specs.Prelude.{IfSome, OnOk, OnErr, IsTrue, Some, drop, length, slice_get};
-ghost use Rattle.std.specs.Prelude.{take, vec_len};
-ghost use Rattle.std.specs.Vec.{vec_capacity};
+ghost use Rattle.std.specs.Prelude.{take};
 ghost use Rattle.l4_proc.specs.Ends.{start_of};
 
 use crate::choice::{Choice, choice_of};
+use crate::end_rows::{End, Ends};
 use l4_core::event_buffer::EventBuffer;
 use l4_history::history::History;
 use l4_history::steps::Steps;
@@ -13,28 +13,16 @@ use l4_types::errors::NoMemory;
 use l4_types::letters::Letter;
 use std::alloc::Global;
 
-// Room is reserved for this many ends at once: to ask each time costs more than a push.
-const CHUNK_ENDS: usize = 64;
-
-/// The end of an event. Its steps lie between the end of the event before and this index.
-#[derive(Clone, Copy)]
-pub(crate) struct End {
-    stamp: u64,
-    place: usize,
-    // What the processor did, as a number (`choice`).
-    choice: u64,
-}
-
 /// The events of one processor in order.
 #[derive(Drop)]
 pub struct Log {
     cpu: u8,
     // The steps of all events, and after them those of the current event.
     pub(crate) buffer: EventBuffer<History>,
-    ends: Vec<End>,
+    ends: Ends,
     // How many of the events were ticks.
     ticks: usize,
-    ghost few: { ticks ≤ vec_len ends },
+    ghost few: { ticks ≤ length ends.items },
 }
 
 /// A borrowed event.
@@ -66,7 +54,7 @@ impl Log {
         Log {
             cpu,
             buffer: EventBuffer::new(History::new(alloc)),
-            ends: Vec::new(alloc),
+            ends: Ends::new(alloc),
             ticks: 0,
         }
     }
@@ -101,12 +89,12 @@ impl Log {
         requires closed { IsClosed self.now }
         ensures { slice_get (events self.now) i ≡ Some (event_of result) }
     {
-        let ends = self.ends.as_slice();
-        let end = ends[i];
+        let end = self.ends.get(i);
+        let start = start(&self.ends, i);
         EventRef {
             cpu: self.cpu,
             stamp: end.stamp,
-            steps: self.buffer.sink().steps_between(start(ends, i), end.place),
+            steps: self.buffer.sink().steps_between(start, end.place),
         }
     }
 
@@ -116,8 +104,7 @@ impl Log {
         requires { i < length (events self.now) }
         ensures { option_map (λ e. e.stamp) (slice_get (events self.now) i) ≡ Some result }
     {
-        let ends = self.ends.as_slice();
-        ends[i].stamp
+        self.ends.get(i).stamp
     }
 
     /// What the processor did in the i-th event, counted from 0.
@@ -126,8 +113,7 @@ impl Log {
         requires { i < length (events self.now) }
         ensures { slice_get (actions self.now) i ≡ Some (action_of self.now.cpu result) }
     {
-        let ends = self.ends.as_slice();
-        choice_of(ends[i].choice)
+        choice_of(self.ends.get(i).choice)
     }
 
     /// Where the steps of the i-th event, counted from 0, stand in the history: the place of the
@@ -140,8 +126,7 @@ impl Log {
             (λ e. e.steps ≡ drop result.0 (take result.1 (told (events self.now)))) }
         ensures within { result.1 ≤ length (told (events self.now)) }
     {
-        let ends = self.ends.as_slice();
-        (start(ends, i), ends[i].place)
+        (start(&self.ends, i), self.ends.get(i).place)
     }
 
     /// The steps of all events, in order.
@@ -166,19 +151,17 @@ impl Log {
         ensures ok { OnOk result (HasBegun self.old self.new) }
         ensures err { OnErr result (IsSameLog self.old self.new) }
     {
-        if self.ends.len() == self.ends.capacity() {
-            grow(&mut self.ends)?;
-        }
+        self.ends.reserve()?;
         self.buffer.begin()
     }
 
     // Ends the current event, a turn of which this is the number.
     pub(crate) fn end_turn(&mut self, stamp: u64, choice: u64)
-        requires { vec_len self.old.ends < vec_capacity self.old.ends }
+        requires { 0 < self.old.ends.room }
         ensures { HasEnded self.old self.new stamp choice self.old.ticks }
     {
         let place = self.buffer.sink().len();
-        self.ends.push_reserved(End {
+        self.ends.push(End {
             stamp,
             place,
             choice,
@@ -187,9 +170,10 @@ impl Log {
 
     // Ends the current event, a tick of which this is the number.
     pub(crate) fn end_tick(&mut self, stamp: u64, choice: u64)
-        requires { vec_len self.old.ends < vec_capacity self.old.ends }
+        requires { 0 < self.old.ends.room }
         ensures { HasEnded self.old self.new stamp choice (self.old.ticks + 1) }
     {
+        self.ends.facts();
         self.end_turn(stamp, choice);
         self.ticks += 1;
     }
@@ -212,20 +196,10 @@ impl Log {
     }
 }
 
-// Makes room for more ends.
-#[inline(never)]
-fn grow(ends: &mut Vec<End>) -> Result<(), NoMemory>
-    ensures items { ends.new.items ≡ ends.old.items }
-    ensures ok { OnOk result (vec_len ends.new < vec_capacity ends.new) }
-{
-    ends.reserve(CHUNK_ENDS)?;
-    Ok(())
-}
-
 // The place where the i-th of the events that have these ends begins.
-fn start(ends: &[End], i: usize) -> usize
-    requires { i ≤ length ends.now }
-    ensures { result ≡ start_of 0 ends.now i }
+fn start(ends: &Ends, i: usize) -> usize
+    requires { i ≤ length ends.now.items }
+    ensures { result ≡ start_of 0 ends.now.items i }
 {
-    if i == 0 { 0 } else { ends[i - 1].place }
+    if i == 0 { 0 } else { ends.get(i - 1).place }
 }

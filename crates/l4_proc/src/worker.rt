@@ -82,9 +82,7 @@ fn turn(core: &mut Core<'_>, buffer: &mut EventBuffer<History>) -> Result<u64, S
 impl<'m> Worker<'m> {
     ghost use Rattle.std.specs.Prelude.{ℕ, ◌≡◌, ◌↔◌, ◌++◌, ◌<◌, [], false, true, IfErr, IfNone};
     ghost use Rattle.std.specs.Prelude.{IfOk, IsErrOf, IsSome, None, OnErr, OnOk, Some, is_some};
-    ghost use Rattle.std.specs.Prelude.{vec_len};
     ghost use Rattle.std.specs.Option.{option_map, option_to_list};
-    ghost use Rattle.std.specs.Vec.{vec_capacity};
     ghost use Rattle.l4_core_model.specs.Runs.{IsMachine};
     ghost use Rattle.l4_core_model.specs.Turns.{advance, can_stamp};
     ghost use Rattle.l4_core.specs.EventBuffers.{posted_of, IsOpen};
@@ -151,7 +149,7 @@ impl<'m> Worker<'m> {
     /// turn. If the turn is not taken, core and letter stay.
     pub fn take_turn(&mut self) -> Result<(), Stop>
         requires open { IsOpen self.old.log.buffer }
-        requires room { vec_len self.old.log.ends < vec_capacity self.old.log.ends }
+        requires room { 0 < self.old.log.ends.room }
         ensures ok { OnOk result (HasTakenTurn self.old self.new) }
         ensures err { OnErr result (IsSameWorker self.old self.new) }
         ensures why { IfErr result (λ stop. IsRefused self.old.core self.old.hand stop) }
@@ -168,7 +166,7 @@ impl<'m> Worker<'m> {
     /// It is left where it lies, since a letter is large. If it is not handled, nothing is changed.
     pub fn handle(&mut self, from: u8, letter: &Letter) -> Result<(), Stop>
         requires open { IsOpen self.old.log.buffer }
-        requires room { vec_len self.old.log.ends < vec_capacity self.old.log.ends }
+        requires room { 0 < self.old.log.ends.room }
         requires empty { self.old.hand ≡ None }
         ensures ok { OnOk result (HasTakenTurn (with_in_hand from letter.now self.old) self.new) }
         ensures err { OnErr result (IsSameWorker self.old self.new) }

@@ -142,7 +142,7 @@ fn split_item(list: &[u8]) -> Option<(&[u8], &[u8])>
     }
 }
 
-// The entries of a list that is not too long, kept where there is room for so many at first.
+// The entries of a list that is not too long. Room is made for `room` of them at once.
 fn entries_of(
     alloc: Global,
     machine: &Machine,

@@ -75,12 +75,19 @@ fn push_behind(text: &mut Vec<u8>, before: usize, entry: &Entry) -> Result<(), N
 {
     text.reserve(SHORT_BYTES)?;
     push_separator(text, before);
-    match *entry {
-        Entry::Core(cpu) if cpu < 10 => push_core(text, cpu),
-        Entry::Letter { cpu, from } if cpu < 10 && from < 10 => push_letter(text, cpu, from),
-        _ => return push_long(text, entry),
+    if let Entry::Core(cpu @ 0..=9) = *entry {
+        push_core(text, cpu);
+        return Ok(());
     }
-    Ok(())
+    if let Entry::Letter {
+        cpu: cpu @ 0..=9,
+        from: from @ 0..=9,
+    } = *entry
+    {
+        push_letter(text, cpu, from);
+        return Ok(());
+    }
+    push_long(text, entry)
 }
 
 // Appends the item of an entry that may be long. A call of its own: so no short one is copied.

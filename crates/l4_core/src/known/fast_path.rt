@@ -1,15 +1,12 @@
 //! The fast path: a send that its receiver takes at once.
-ghost use Rattle.std.specs.Prelude.{◌≡◌, ◌<◌, ◌+◌, ◌^◌, IfSome, false, length};
+ghost use Rattle.std.specs.Prelude.{◌≡◌, ◌<◌, ◌+◌, IfSome, false, length};
 ghost use Rattle.l4_model.specs.World.{receive_now};
-ghost use Rattle.l4_model.specs.Rules.{destination, receive_phase};
-ghost use Rattle.l4_types.specs.PeriodView.{period_of};
+ghost use Rattle.l4_model.specs.Rules.{destination};
 ghost use Rattle.l4_script.specs.Scripts.{to_of};
-ghost use Rattle.l4_core_model.specs.Local.{comes_to, declared, destination_place, thread};
-ghost use Rattle.l4_thread.specs.Ipcs.{passes};
+ghost use Rattle.l4_core_model.specs.Local.{declared, destination_place, thread};
 ghost use Rattle.l4_thread.specs.Messages.{outgoing};
 ghost use Rattle.l4_core.specs.FastPath.{fast_receiver, next_name, takes_at_once};
-ghost use Rattle.l4_core.specs.Processor.{with_local};
-ghost use Rattle.l4_core.specs.Turning.{IsAtHand, IsOwnOf};
+ghost use Rattle.l4_core.specs.Turning.{IsOwnOf};
 
 use crate::known::ProcessorState;
 use l4_script::instructions::Ipc;
@@ -79,7 +76,7 @@ impl ProcessorState<'_> {
         requires count { (thread self.now.local place).context.begun < self.now.local.stamp }
         ensures { result ≡ next_name self.now.machine self.now.local place }
     {
-        let _stamp = self.stamp();
+        let _stamp = self.stamp;
         Name::new(self.id(place), self.begun(place) + 1).unwrap()
     }
 
@@ -91,18 +88,5 @@ impl ProcessorState<'_> {
             (thread self.now.local sender) }
     {
         self.tcb(sender).outgoing()
-    }
-
-    /// Puts a thread into its next phase, after the send of its Ipc was taken at once.
-    pub(crate) fn pass(&mut self, place: usize, ipc: &Ipc)
-        requires hand { IsAtHand self.old place }
-        requires room { (thread self.old.local place).context.place + 1 < 2 ^ 64 }
-        requires count { (thread self.old.local place).context.begun < self.old.local.stamp }
-        ensures { self.new ≡ with_local self.old (comes_to place
-            (passes (receive_phase ipc.now.from
-            (period_of ipc.now.receive_period)) self.old.local.clock) self.old.local) }
-    {
-        self.threads[place].pass(ipc, self.clock);
-        self.enter_lists(place);
     }
 }

@@ -3,11 +3,9 @@ ghost use Rattle.std.specs.Prelude.{◌≡◌, ◌<◌, None, Some, is_some, len
 ghost use Rattle.std.specs.Option.{option_map};
 ghost use Rattle.l4_model.specs.World.{Send};
 ghost use Rattle.l4_model.specs.Rules.{owed_by};
-ghost use Rattle.l4_model.specs.Effects.{turns};
 ghost use Rattle.l4_types.specs.OwedView.{owed_of};
-ghost use Rattle.l4_core_model.specs.Local.{changes, declared, keeps_beside, last_name};
+ghost use Rattle.l4_core_model.specs.Local.{declared, last_name};
 ghost use Rattle.l4_core_model.specs.Local.{owed_beside, thread};
-ghost use Rattle.l4_core.specs.Processor.{with_local};
 ghost use Rattle.l4_core.specs.Turning.{IsSender};
 
 use crate::known::ProcessorState;
@@ -37,56 +35,11 @@ impl ProcessorState<'_> {
         })
     }
 
-    /// The retarget that is kept beside a thread.
-    pub(crate) fn owed(&self, place: usize) -> Option<Owed>
-        requires { place < length self.now.machine.threads }
-        ensures { option_map owed_of result ≡ owed_beside self.now.local place }
-    {
-        if self.machine.retargets() {
-            self.owed[place]
-        } else {
-            None
-        }
-    }
-
     /// Whether a retarget is kept beside a thread.
     pub(crate) fn keeps_owed(&self, place: usize) -> bool
         requires { place < length self.now.machine.threads }
         ensures { result ≡ is_some (owed_beside self.now.local place) }
     {
         self.machine.retargets() && self.owed[place].is_some()
-    }
-
-    /// Keeps an owed retarget beside a thread.
-    pub(crate) fn keep_owed(&mut self, place: usize, owed: Owed)
-        requires within { place < length self.old.machine.threads }
-        requires profile { self.old.machine.retargeting ≡ true }
-        ensures { self.new ≡ with_local self.old
-            (keeps_beside place (Some (owed_of owed)) self.old.local) }
-    {
-        self.owed[place] = Some(owed);
-    }
-
-    /// Removes the retarget that is kept beside a thread.
-    pub(crate) fn take_owed(&mut self, place: usize) -> Option<Owed>
-        requires { place < length self.old.machine.threads }
-        ensures owed { option_map owed_of result ≡ owed_beside self.old.local place }
-        ensures state { self.new ≡ with_local self.old (keeps_beside place None self.old.local) }
-    {
-        if !self.machine.retargets() {
-            return None;
-        }
-        let owed = self.owed[place];
-        self.owed[place] = None;
-        owed
-    }
-
-    /// Turns an originator to the new partner, if it waits for the old one.
-    pub(crate) fn turn_to(&mut self, place: usize, owed: &Owed)
-        requires { place < length self.old.machine.threads }
-        ensures { self.new ≡ with_local self.old
-            (changes place (turns (owed_of owed.now)) self.old.local) }
-    {
-        self.threads[place].turn_to(owed.old_partner, owed.new_partner);
     }
 }

@@ -34,7 +34,7 @@ impl Core<'_> {
             (IsSome (advance self.old.machine self.old.cpu to self.old.local) ×
             (can_stamp self.old.local 0 ≡ false)) }
     {
-        if to <= self.known.clock() || to >= CLOCKS {
+        if to <= self.clock() || to >= CLOCKS {
             return Err(Fault::Clock);
         }
         if !self.can_stamp(0) {
@@ -43,7 +43,8 @@ impl Core<'_> {
         let stamp = self.open(0);
         let tick = Tick::new(self.known.cpu(), to).unwrap();
         buffer.emit(StepRef::Tick(tick));
-        self.known.set_clock(to);
+        let known = &mut self.known;
+        known.clock = to;
         Ok(stamp)
     }
 }

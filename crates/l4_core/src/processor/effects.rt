@@ -1,11 +1,12 @@
 //! What an event does to one thread and to the lists, with the places noted that may have a duty
 //! now.
 ghost use Rattle.std.specs.Prelude.{◌≡◌, ◌≢◌, ◌<◌, ◌+◌, ◌^◌, None, Some, IsSome, false, true};
-ghost use Rattle.std.specs.Prelude.{length, slice_get, is_none, ℕ};
+ghost use Rattle.std.specs.Prelude.{length, slice_get, get_or, set, ℕ};
 ghost use Rattle.std.specs.Option.{option_map};
 ghost use Rattle.l4_model.specs.Words.{word_of_tag};
+ghost use Rattle.l4_model.specs.Machine.{Delete as DeleteThread};
 ghost use Rattle.l4_model.specs.Conditions.{act_of, instruction};
-ghost use Rattle.l4_model.specs.Effects.{decided, receives, turns};
+ghost use Rattle.l4_model.specs.Effects.{receives, turns};
 ghost use Rattle.l4_model.specs.Rules.{receive_phase};
 ghost use Rattle.l4_types.specs.OwedView.{owed_of};
 ghost use Rattle.l4_types.specs.PeriodView.{period_of};
@@ -15,19 +16,17 @@ ghost use Rattle.l4_thread.specs.Changes.{change_of};
 ghost use Rattle.l4_thread.specs.Requests.{is_end};
 ghost use Rattle.l4_thread.specs.Ipcs.{began_of, passes};
 ghost use Rattle.l4_thread.specs.Messages.{outgoing};
+ghost use Rattle.l4_thread.specs.Parts.{Block};
+ghost use Rattle.l4_core.specs.Parts.{passed};
 ghost use Rattle.l4_core_model.specs.Plain.{is_queued, queued, unqueued, popped, popped_due};
 ghost use Rattle.l4_core_model.specs.Plain.{due_block};
-ghost use Rattle.l4_core.specs.PhaseLists.{enters_lists};
 ghost use Rattle.l4_core_model.specs.Local.{declared, thread, held, changes, comes_to};
-ghost use Rattle.l4_core_model.specs.Local.{keeps_beside, owed_beside, relists, is_gone_now};
-ghost use Rattle.l4_core_model.specs.Local.{is_own, stand_in, stands_in};
+ghost use Rattle.l4_core_model.specs.Local.{keeps_beside, owed_beside, relists};
 ghost use Rattle.l4_core_model.specs.Acts.{asks};
 ghost use Rattle.l4_core_model.specs.Turns.{has_told};
 ghost use Rattle.tcb_arena.specs.Blocks.{is_ready as is_ready_in};
 ghost use Rattle.l4_core.specs.Changing.{forgets_order, IsFitting};
-ghost use Rattle.l4_core.specs.Covered.{is_zero_send};
 ghost use Rattle.l4_core.specs.Processor.{with_local};
-ghost use Rattle.l4_core.specs.Tasks.{IsForeign};
 ghost use Rattle.l4_core.specs.Turning.{begun_by, IsAtHand, IsFree, IsNotSplit, IsOwnOf};
 ghost use Rattle.l4_core.specs.Turning.{IsReceiver, IsSender};
 
@@ -35,10 +34,9 @@ use crate::processor::{Core, insert_place, note_all, note_duty, note_own, note_q
 use l4_script::instructions::{Instr, Ipc};
 use l4_thread::changes::Change;
 use l4_thread::phases::Began;
-use l4_types::ids::GlobalId;
-use l4_types::message_ref::MessageRef;
+use l4_thread::tcb::Tcb;
 use l4_types::owed::Owed;
-use l4_types::steps::{Name, OrderKind};
+use l4_types::steps::OrderKind;
 use l4_types::tags::MsgTag;
 use tcb_arena::Waiting;
 
@@ -51,8 +49,9 @@ impl Core<'_> {
         ensures { self.new ≡ with_local self.old
             (comes_to place (change_of change.now self.old.local.clock) self.old.local) }
     {
-        self.known.facts();
-        self.known.apply_change(place, change);
+        let known = &mut self.known;
+        known.threads[place].change(change, known.clock);
+        known.enter_lists(place);
         note_duty(&self.known, &mut self.duties, &self.zeros, place);
     }
 
@@ -65,8 +64,9 @@ impl Core<'_> {
             (receives (outgoing (declared self.old.machine sender).id
             (thread self.old.local sender)) (word_of_tag tag)) self.old.local) }
     {
-        self.known.facts();
-        self.known.receive_from(place, sender, tag);
+        let known = &mut self.known;
+        pass_message(known.threads.as_mut_slice(), place, sender, tag);
+        known.enter_lists(place);
         note_duty(&self.known, &mut self.duties, &self.zeros, place);
     }
 
@@ -85,10 +85,16 @@ impl Core<'_> {
             (begun_by (act_of self.old.machine
             (held self.old.machine self.old.local place)) place self.old.local) }
     {
-        self.known.facts();
-        let began = self.known.begin(place, instr);
-        note_duty(&self.known, &mut self.duties, &self.zeros, place);
-        began
+        let known = &mut self.known;
+        let shows = known.shows_originator(place);
+        match known.threads[place].ipc(instr, shows, known.clock) {
+            Began::Nothing => Began::Nothing,
+            began => {
+                known.enter_lists(place);
+                note_duty(&self.known, &mut self.duties, &self.zeros, place);
+                began
+            }
+        }
     }
 
     /// Puts a thread into its next phase, after the send of its Ipc was taken at once.
@@ -100,8 +106,9 @@ impl Core<'_> {
             (passes (receive_phase ipc.now.from
             (period_of ipc.now.receive_period)) self.old.local.clock) self.old.local) }
     {
-        self.known.facts();
-        self.known.pass(place, ipc);
+        let known = &mut self.known;
+        known.threads[place].pass(ipc, known.clock);
+        known.enter_lists(place);
         note_duty(&self.known, &mut self.duties, &self.zeros, place);
     }
 
@@ -115,7 +122,8 @@ impl Core<'_> {
             (relists (queued receiver waiting) self.old.local) }
     {
         note_zero(&self.known, &mut self.zeros, receiver, waiting.block);
-        self.known.queue(receiver, waiting);
+        let known = &mut self.known;
+        known.lists.queue_send(receiver, waiting);
         note_queued(
             &self.known,
             &mut self.duties,
@@ -130,67 +138,21 @@ impl Core<'_> {
         requires { place < length self.old.machine.threads }
         ensures { self.new ≡ with_local self.old (relists (unqueued place) self.old.local) }
     {
-        self.known.unqueue(place);
+        let known = &mut self.known;
+        known.lists.unqueue_send(place);
     }
 
-    /// Notes that the send of a foreign thread is decided. It stands in no list any more.
-    pub(super) fn forget_send(&mut self, place: usize)
-        requires within { place < length self.old.machine.threads }
-        requires foreign { is_own self.old.machine self.old.cpu place ≡ false }
-        requires unqueued { is_queued self.old.local.lists place ≡ false }
-        ensures { self.new ≡ with_local self.old (changes place decided self.old.local) }
-    {
-        self.known.facts();
-        self.known.forget_send(place);
-    }
-
-    /// Makes the block of a foreign thread a stand-in for its send, which has arrived here.
-    pub(super) fn stand_in(
-        &mut self,
-        place: usize,
-        name: Name,
-        receiver: GlobalId,
-        message: MessageRef<'_>,
-        zero_timeout: bool,
-    )
-        requires sender { IsForeign self.old place }
-        requires free { is_none (thread self.old.local place).send ≡ true }
-        requires actual { message.actual ≡ (declared self.old.machine place).id }
-        ensures { self.new ≡ with_local self.old
-            (changes place (stands_in name.k
-            (stand_in receiver message.entry zero_timeout)) self.old.local) }
-    {
-        self.known.facts();
-        self.known
-            .stand_in(place, name, receiver, message, zero_timeout);
-    }
-
-    /// Clears the order of a thread of this processor.
+    /// Clears the order of a deleted thread of this processor, and puts it into the lists of its
+    /// phase: it has no deadline.
     pub(super) fn forget_order(&mut self, place: usize)
-        requires { IsOwnOf self.old place }
-        ensures { self.new ≡ with_local self.old (changes place forgets_order self.old.local) }
-    {
-        insert_place(&self.known, &mut self.duties, place);
-        self.known.forget_order(place);
-    }
-
-    /// Notes that a foreign thread was deleted. Threads whose receive phase names it have a duty
-    /// then.
-    pub(super) fn note_gone(&mut self, place: usize)
-        requires { IsForeign self.old place }
-        ensures { self.new ≡ with_local self.old (changes place is_gone_now self.old.local) }
-    {
-        note_all(&self.known, &mut self.duties);
-        self.known.note_gone(place);
-    }
-
-    /// Puts a deleted thread into the lists of its phase: it has no deadline.
-    pub(super) fn enter_lists(&mut self, place: usize)
         requires own { IsOwnOf self.old place }
         requires unready { is_ready_in self.old.local.lists place ≡ false }
-        ensures { self.new ≡ with_local self.old (enters_lists place self.old.local) }
+        ensures { self.new ≡ with_local self.old (comes_to place forgets_order self.old.local) }
     {
-        self.known.enter_lists(place);
+        insert_place(&self.known, &mut self.duties, place);
+        let known = &mut self.known;
+        known.threads[place].forget_order();
+        known.enter_lists(place);
     }
 
     /// Removes the first ready thread from the list.
@@ -199,7 +161,8 @@ impl Core<'_> {
         ensures gone { (place : ℕ) → slice_get self.old.local.lists.ready 0 ≡ Some place →
             is_ready_in self.new.local.lists place ≡ false }
     {
-        self.known.pop_ready();
+        let known = &mut self.known;
+        known.lists.pop_ready();
     }
 
     /// Disarms the first armed thread, whose deadline is due.
@@ -207,7 +170,8 @@ impl Core<'_> {
         requires { IsSome (due_block self.old.local.clock self.old.local.lists.armed) }
         ensures { self.new ≡ with_local self.old (relists popped_due self.old.local) }
     {
-        self.known.pop_due();
+        let known = &mut self.known;
+        known.lists.pop_due(known.clock);
     }
 
     /// Cancels a phase of a thread of this processor, or deletes the thread. Threads whose receive
@@ -217,10 +181,25 @@ impl Core<'_> {
         ensures { self.new ≡ with_local self.old (asks (order_kind_of what) place self.old.local) }
     {
         match what {
-            OrderKind::Delete => note_all(&self.known, &mut self.duties),
-            _ => insert_place(&self.known, &mut self.duties, place),
+            OrderKind::Delete => self.delete(place),
+            _ => {
+                insert_place(&self.known, &mut self.duties, place);
+                let known = &mut self.known;
+                known.threads[place].ask(what);
+            }
         }
-        self.known.ask(place, what);
+    }
+
+    // Deletes a thread.
+    fn delete(&mut self, place: usize)
+        requires { IsOwnOf self.old place }
+        ensures { self.new ≡ with_local self.old (asks DeleteThread place self.old.local) }
+    {
+        note_all(&self.known, &mut self.duties);
+        let known = &mut self.known;
+        known.lists.drop_ready(place);
+        known.threads[place].ask(OrderKind::Delete);
+        known.enter_lists(place);
     }
 
     /// Forgets that a thread may have a duty, if it has none any more: the next turn need not look
@@ -244,7 +223,8 @@ impl Core<'_> {
             (keeps_beside place (Some (owed_of owed)) self.old.local) }
     {
         insert_place(&self.known, &mut self.duties, place);
-        self.known.keep_owed(place, owed);
+        let known = &mut self.known;
+        known.owed[place] = Some(owed);
     }
 
     /// Removes the retarget that is kept beside a thread. The thread may have another duty.
@@ -254,7 +234,13 @@ impl Core<'_> {
         ensures state { self.new ≡ with_local self.old (keeps_beside place None self.old.local) }
     {
         insert_place(&self.known, &mut self.duties, place);
-        self.known.take_owed(place)
+        let known = &mut self.known;
+        if !known.machine.retargets() {
+            return None;
+        }
+        let owed = known.owed[place];
+        known.owed[place] = None;
+        owed
     }
 
     /// Turns an originator to the new partner, if it waits for the old one. The originator may have
@@ -264,9 +250,9 @@ impl Core<'_> {
         ensures { self.new ≡ with_local self.old
             (changes place (turns (owed_of owed.now)) self.old.local) }
     {
-        self.known.facts();
         note_own(&self.known, &mut self.duties, place);
-        self.known.turn_to(place, owed);
+        let known = &mut self.known;
+        known.threads[place].turn_to(owed.old_partner, owed.new_partner);
     }
 
     /// Notes that all processors up to `cpu` have been notified of a thread's deletion. The thread
@@ -277,6 +263,34 @@ impl Core<'_> {
         ensures { self.new ≡ with_local self.old (has_told cpu place self.old.local) }
     {
         insert_place(&self.known, &mut self.duties, place);
-        self.known.note_notified(place, cpu);
+        let known = &mut self.known;
+        let cpus = known.machine.cpus();
+        prove!(cpu < cpus);
+        known.notified[place] = cpu + 1;
     }
+}
+
+// Passes the message of one block to another, with this tag.
+fn pass_message(blocks: &mut [Tcb], receiver: usize, sender: usize, tag: MsgTag)
+    requires receiver { receiver < length blocks.old }
+    requires sender { sender < length blocks.old }
+    requires apart { receiver ≢ sender }
+    ensures { (d : Block) → blocks.new ≡
+        set blocks.old receiver
+        (passed (word_of_tag tag) (get_or blocks.old sender d) (get_or blocks.old receiver d)) }
+{
+    if receiver < sender {
+        let (front, back) = blocks.split_at_mut(sender);
+        receive_from(&mut front[receiver], &back[0], tag);
+    } else {
+        let (front, back) = blocks.split_at_mut(receiver);
+        receive_from(&mut back[0], &front[sender], tag);
+    }
+}
+
+// Gives a thread the message that another one sends, with this tag.
+fn receive_from(receiver: &mut Tcb, sender: &Tcb, tag: MsgTag)
+    ensures { receiver.new ≡ passed (word_of_tag tag) sender.now receiver.old }
+{
+    receiver.receive(&sender.outgoing(), tag);
 }

@@ -153,7 +153,6 @@ impl Core<'_> {
         self.known.facts();
         if self.known.is_deleted(place) {
             self.forget_order(place);
-            self.enter_lists(place);
         } else {
             self.apply_change(place, &Change::Obey);
         }

@@ -39,7 +39,7 @@ impl Core<'_> {
         ensures { result ≡ record { stamp = self.now.local.stamp; content = content } }
     {
         Letter {
-            stamp: self.known.stamp(),
+            stamp: self.stamp(),
             content,
         }
     }

@@ -1,4 +1,4 @@
-use Rattle.std.proofs.Common.{◌<◌, ◌≤◌, length, arith}
+use Rattle.std.proofs.Common.{◌<◌, length, arith}
 use Rattle.l4_mail.proofs.Looking.{kept_there, come_here, none_kept_set, none_taken_set, here_before, none_here_at_all}
 use Rattle.l4_mail.proofs.takes.first_come.Goals as goal
 

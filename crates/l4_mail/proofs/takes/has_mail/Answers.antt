@@ -1,4 +1,4 @@
-use Rattle.std.proofs.Common.{◌<◌, ◌∙◌, length, sym, arith, rules}
+use Rattle.std.proofs.Common.{◌<◌, ◌∙◌, length, arith, rules}
 use Rattle.std.proofs.Math.Seq.{map-set_same}
 use Rattle.l4_mail.specs.Ends.{kept}
 use Rattle.l4_mail.proofs.Looking.{none_taken_set, here_before, none_here_at_all, none_at}

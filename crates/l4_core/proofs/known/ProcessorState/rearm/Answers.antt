@@ -4,8 +4,7 @@ use Rattle.std.specs.List.{list_any}
 use Rattle.l4_core_model.specs.Plain.{Plain, disarmed}
 use Rattle.l4_core.specs.Processor.{Processor}
 use Rattle.l4_core.specs.Turning.{IsOwnOf}
-use Rattle.l4_core.specs.Parts.{kept_of, local_of}
-use Rattle.l4_core.proofs.Writing.{kept-settled}
+use Rattle.l4_core.proofs.Writing.{kept-settled, state, with_lists}
 use Rattle.l4_core.proofs.Settling.{settled-disarmed, settled-armed, none-filter}
 use Rattle.l4_core.proofs.known.ProcessorState.rearm.Goals as goal
 
@@ -20,13 +19,13 @@ invariant_of-self c =
     let own = subst (λ (p : Processor). IsOwnOf p c.args.place) (sym c.self.view_is) c.requires in
     let first = c.disarm.ensures in
     let then_is = c.arm.ensures in
-    let l = local_of s.threads.items (disarmed c.args.place s.lists) s.notified.items (kept_of s.machine.now s.owed.items) s.clock s.stamp in
+    let l = with_lists s (disarmed c.args.place s.lists) in
     let near = subst (λ o. IfSome o (λ d. d < s.clock + 2 ^ 42)) c.in-Some.is c.deadline.ensures.near in
-    let settled = settled-disarmed s.machine.now s.cpu (local_of s.threads.items s.lists s.notified.items (kept_of s.machine.now s.owed.items) s.clock s.stamp) c.args.place c.self.invariant.core.settled in
-    rw (then_is, first) (kept-settled s.machine.now s.cpu s.threads.items s.lists _ s.notified.items _ (kept_of s.machine.now s.owed.items) _ s.clock s.stamp _ _ c.self.invariant (settled-armed s.machine.now s.cpu l c.args.place c.in-Some.deadline own near settled))
+    let settled = settled-disarmed s.machine.now s.cpu (state s) c.args.place c.self.invariant.core.settled in
+    rw (then_is, first) (kept-settled s _ _ _ _ _ c.self.invariant (settled-armed s.machine.now s.cpu l c.args.place c.in-Some.deadline own near settled))
 
 pub invariant_of-self-in_default : goal.invariant_of-self-in_default
 invariant_of-self-in_default c =
     let s = c.self.inside in
     let lists = c.disarm.ensures in
-    rw lists (kept-settled s.machine.now s.cpu s.threads.items s.lists _ s.notified.items _ (kept_of s.machine.now s.owed.items) _ s.clock s.stamp _ _ c.self.invariant (settled-disarmed s.machine.now s.cpu (local_of s.threads.items s.lists s.notified.items (kept_of s.machine.now s.owed.items) s.clock s.stamp) c.args.place c.self.invariant.core.settled))
+    rw lists (kept-settled s _ _ _ _ _ c.self.invariant (settled-disarmed s.machine.now s.cpu (state s) c.args.place c.self.invariant.core.settled))

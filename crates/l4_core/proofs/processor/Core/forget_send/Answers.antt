@@ -1,15 +1,34 @@
 use Rattle.std.proofs.Common.{◌≡◌, ◌<◌, true, false, length, refl, sym, ◌∙◌, subst, inl, arith}
 use Rattle.l4_model.specs.Effects.{decided}
 use Rattle.l4_core_model.specs.Plain.{is_queued}
-use Rattle.l4_core_model.specs.Local.{is_own}
+use Rattle.l4_core.specs.Covered.{IsCovered}
+use Rattle.l4_core.specs.Parts.{AreCore}
 use Rattle.l4_core.specs.Processor.{Processor}
+use Rattle.l4_core.proofs.Fitting.{fits-forgotten}
 use Rattle.l4_core.proofs.Noting.{covered-changed}
+use Rattle.l4_core.proofs.Writing.{change-written, kept-changed, state}
 use Rattle.l4_core.proofs.processor.Core.forget_send.Goals as goal
+
+pub invariant_of-known : goal.invariant_of-known
+invariant_of-known c =
+    let s = c.known.inside in
+    let v = sym (c.known.view_is ∙ c.self.view_is) in
+    let within = subst (λ (p : Processor). c.args.place < length p.machine.threads) v c.requires.within in
+    let free = subst (λ (p : Processor). is_queued p.local.lists c.args.place ≡ false) v c.requires.unqueued in
+    kept-changed s c.args.place decided _ _ c.known.invariant c.index_mut.ensures.value c.decide.ensures (fits-forgotten s.machine.now s.cpu (state s) c.args.place c.known.invariant.core.settled within free)
 
 pub invariant_of-self : goal.invariant_of-self
 invariant_of-self c =
-    let s = c.self.inside in
-    let within = subst (λ (p : Processor). c.args.place < length p.machine.threads) (sym c.self.view_is) c.requires.within in
-    let away = subst (λ (p : Processor). is_own p.machine p.cpu c.args.place ≡ false) (sym c.self.view_is) c.requires.foreign in
-    let free = subst (λ (p : Processor). is_queued p.local.lists c.args.place ≡ false) (sym c.self.view_is) c.requires.unqueued in
-    covered-changed s.duties s.zeros s.known c.forget_send.new.self c.args.place decided c.self.invariant (omega (arith, within, c.facts.ensures.core.settled.threads)) (λ own. let wrong : true ≡ false = sym own ∙ away in cc) refl (inl free) c.forget_send.ensures
+    let sets = c.self.inside in
+    let v = c.known.view_is ∙ c.self.view_is in
+    let within = subst (λ (p : Processor). c.args.place < length p.machine.threads) (sym v) c.requires.within in
+    let core = subst AreCore v c.known.invariant.core in
+    covered-changed sets.duties sets.zeros c.args.self.now _ c.args.place decided (subst (IsCovered sets.duties sets.zeros) c.self.view_is c.self.invariant) (omega (arith, c.requires.within, core.settled.threads))
+    (λ own. let away = c.requires.foreign in let wrong : true ≡ false = sym own ∙ away in cc) refl (inl c.requires.unqueued)
+    (change-written c.known.inside c.args.place decided _ _ _ c.known.invariant within c.index_mut.ensures.value c.decide.ensures v)
+
+pub returns : goal.returns
+returns c =
+    let v = c.known.view_is ∙ c.self.view_is in
+    let within = subst (λ (p : Processor). c.args.place < length p.machine.threads) (sym v) c.requires.within in
+    change-written c.known.inside c.args.place decided _ _ _ c.known.invariant within c.index_mut.ensures.value c.decide.ensures v

@@ -1,6 +1,7 @@
-use Rattle.std.proofs.Common.{◌<◌, ◌≤◌, length, refl, arith}
+use Rattle.std.proofs.Common.{◌<◌, ◌≤◌, length, inl, refl, arith}
 use Rattle.l4_mail.proofs.Rows.{set_as_before, room_before}
 use Rattle.l4_mail.proofs.Whole.{outlets_changed, rooms_reserved, moved_before, all_moved}
+use Rattle.l4_mail.proofs.Unlinked.{none_waiting}
 use Rattle.l4_mail.proofs.ports.Port.make_ready.Goals as goal
 
 pub returns-in_err-make_ready-clause-same : goal.returns-in_err-make_ready-clause-same
@@ -27,3 +28,6 @@ pub returns-clause-moved : goal.returns-clause-moved
 returns-clause-moved c =
     let le : length c.loop-end.end-items ≤ c.loop-end.end-index = (let t = c.loop-end-test.false in let e = c.loop-end.auto.end-items in omega arith) in
     all_moved c.args.self.now _ _ c.loop-end.invariant.same c.loop-end.invariant.moved le
+
+pub returns-then-not-self-clause-moved : goal.returns-then-not-self-clause-moved
+returns-then-not-self-clause-moved c = λ to. inl (none_waiting c.args.self.now.outlets.items (c.args.self.now.ways c.if-not-self.true).out to)

@@ -1,6 +1,7 @@
 use Rattle.std.proofs.Common.{◌<◌, ◌≤◌, length, refl, arith}
 use Rattle.l4_mail.proofs.Rows.{set_as_before, room_before}
 use Rattle.l4_mail.proofs.Whole.{outlets_changed, rooms_reserved}
+use Rattle.l4_mail.proofs.Unlinked.{ways_before}
 use Rattle.l4_mail.proofs.ports.Port.reserve.Goals as goal
 
 pub returns-in_err-reserve-clause-same : goal.returns-in_err-reserve-clause-same
@@ -21,3 +22,10 @@ pub returns-clause-room : goal.returns-clause-room
 returns-clause-room c =
     let le : length c.loop-end.end-items ≤ c.loop-end.end-index = (let t = c.loop-end-test.false in let e = c.loop-end.auto.end-items in omega arith) in
     rooms_reserved c.args.self.now _ 2 _ c.loop-end.invariant.same c.loop-end.invariant.room_so_far le
+
+pub invariant_of-self-in-Break-1 : goal.invariant_of-self-in-Break-1
+invariant_of-self-in-Break-1 c = record {
+  few = c.args.self.now.few;
+  ways = ways_before c.args.self.now _
+      (set_as_before _ _ _ _ c.end-item.result c.reserve.ensures.ring c.reserve.ensures.posted c.reserve.ensures.grown c.loop-end.invariant.same);
+}

@@ -91,7 +91,9 @@ def function_at(text, at):
 
 
 def is_of(path, function):
-    """Whether this is the path of the function. A type's trait is told in one word with it."""
+    """Whether this is the path of the function, or of a closure in it. A type's trait is told in one word with it."""
+    outer, _, closure = path.partition("::fn::")
+    path = "::".join([outer, *closure.split("::")[:1]]).removesuffix("::")
     *types, name = function.split("::")
     *above, last = path.split("::")
     return last == name and all(above and above[-1].startswith(one) for one in types)

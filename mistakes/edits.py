@@ -99,23 +99,24 @@ def is_of(path, function):
     return last == name and all(above and above[-1].startswith(one) for one in types)
 
 
-def is_of_trait(rows):
-    """Whether the last of these rows stands in the implementation of a trait."""
-    head = next((line for line in reversed(rows) if line.startswith(("impl", "}"))), "")
-    return " for " in head
+def head_of(rows):
+    """The line that begins what the last of these rows stands in: an `impl` or a trait. Else another, or nothing."""
+    return next((line for line in reversed(rows) if line.startswith(("impl", "pub trait", "trait", "}"))), "")
 
 
 def paths_of(home):
-    """The functions of a crate: the path of each, and by which path the prover is asked for it. One of a trait is asked for by its module."""
+    """The functions of a crate with a body of their own: the path of each, and by which path the prover is asked for it. One that a trait asks for is
+    asked for by its module."""
     found = []
     for file in sorted((home / "src").rglob("*.rt")):
         text, module = file.read_text(), "::".join(file.relative_to(home / "src").with_suffix("").parts)
         rows = text.split("\n")
         for row, end in enumerate(itertools.accumulate(len(row) + 1 for row in rows)):
-            if FUNCTION.match(rows[row]):
+            head = head_of(rows[: row + 1])
+            if FUNCTION.match(rows[row]) and "trait" not in head:
                 name = function_at(text, end - 2)
                 path = f"{module}::{name}".removeprefix("lib::")
-                found.append((path, module if is_of_trait(rows[: row + 1]) else name if "::" in name else path))
+                found.append((path, module if " for " in head else name if "::" in name else path))
     return found
 
 

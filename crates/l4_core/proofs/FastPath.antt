@@ -1,6 +1,6 @@
 -- A send that its receiver takes at once is, on the fast path, what the definitions make of it: a list in which it was queued and out of which it
 -- was taken is the list, and a block that was settled twice is settled.
-use Rattle.std.proofs.Common.{◌≡◌, ℕ, zero, suc, ◌+◌, ◌<◌, Bool, true, false, cond, ◌&&◌, ◌||◌, not, Option, Some, None, List, [], ◌∷◌, ◌++◌, map, filter, length, refl, sym, ap, ◌∙◌, subst, arith}
+use Rattle.std.proofs.Common.{◌≡◌, ℕ, zero, suc, ◌+◌, ◌<◌, Bool, true, false, cond, ◌&&◌, ◌||◌, not, Option, Some, None, List, [], ◌∷◌, ◌++◌, ◌-◌, map, filter, length, refl, sym, ap, ap₂, append_assoc, ◌∙◌, subst, arith}
 use Rattle.std.specs.Prelude.{◌==◌, ◌/◌, ◌%◌, ◌^◌, find, is_none, is_some, nat_le, slice_index_or, unwrap_or, take, drop}
 use Rattle.std.specs.Option.{option_map}
 use Rattle.std.specs.List.{list_any}
@@ -12,7 +12,7 @@ use Rattle.l4_model.specs.World.{Context, Message, Name, Receive, Send, Owed, Ph
 use Rattle.l4_model.specs.Rules.{Sends, accepts, act, destination, ipc_act, is_cross, message_of, owed_by, permitted, receive_phase, received_tag, register, request, takes}
 use Rattle.l4_model.specs.Conditions.{Found, act_of, instruction, is_zero, may_still_accept}
 use Rattle.l4_model.specs.Effects.{begins, decided, goes_on, receives}
-use Rattle.l4_model.specs.Steps.{Begin, Deliver, Queue}
+use Rattle.l4_model.specs.Steps.{Begin, Deliver, Queue, Step}
 use Rattle.l4_core_model.specs.Plain as plain
 use Rattle.l4_core_model.specs.Plain.{Plain, Waiting}
 use Rattle.l4_core_model.specs.Letters.{Delivered, DoneLetter, Nobody, TimedOut}
@@ -30,7 +30,7 @@ use Rattle.tcb_arena.specs.Blocks.{is_ready as is_ready_in}
 use Rattle.l4_core.specs.FastPath.{fast_receiver, next_name, passes_fast, takes_at_once}
 use Rattle.l4_core.specs.Parts.{AreCore}
 use Rattle.l4_core.specs.Processor.{Processor, with_local}
-use Rattle.l4_core.specs.EventBuffers.{EventBuffer, with_step}
+use Rattle.l4_core.specs.EventBuffers.{EventBuffer, with_sent, with_step}
 use Rattle.l4_core.specs.Turning.{work, Does, IsAtHand, IsOwnOf, IsReceiver}
 use Rattle.l4_core.proofs.Crossing.{crosses}
 use Rattle.l4_core.proofs.Fitting.{unqueued, ready_not_sends, waits_not_ready}
@@ -389,14 +389,22 @@ sends_there m sender now c AnyLocalThread period receive r e = cc
 sends_there m sender now c (LocalThread word) period receive r e = cc
 sends_there m sender now c (GlobalThread t) period receive r e = refl
 
-pub fast_does : (p q u : Processor) (r i : ℕ) (before first second after : EventBuffer) (d : DeliveryRef) (tag : ℕ) (to : model.To) (from : Id) (send_period receive_period : Period) →
+-- What is told in one call are three steps.
+sent_steps : (d : DeliveryRef) (t : EventBuffer) → with_sent d t ≡ with_step (seen.delivered d) (with_step (Queue d.name) (with_step (Begin d.name) t))
+sent_steps d t =
+    let less : t.room - 3 ≡ t.room - 1 - 1 - 1 = omega arith in
+    ap₂ {C = EventBuffer} (λ (ss : List Step) (room : ℕ). record t { steps = ss; room = room })
+    (sym (ap (λ (ss : List Step). ss ++ seen.delivered d ∷ []) (append_assoc t.steps (Begin d.name ∷ []) (Queue d.name ∷ []))
+    ∙ append_assoc t.steps (Begin d.name ∷ Queue d.name ∷ []) (seen.delivered d ∷ []))) less
+
+pub fast_does : (p q u : Processor) (r i : ℕ) (before after : EventBuffer) (d : DeliveryRef) (tag : ℕ) (to : model.To) (from : Id) (send_period receive_period : Period) →
     AreCore p → IsOwnOf p r → IsAtHand p i → model.Ipc to from send_period receive_period ≡ instruction (held p.machine p.local i) → fast_receiver p.machine p.cpu p.local i (destination (thread p.local i).context to) ≡ Some r →
     d.name ≡ next_name p.machine p.local i → d.receiver ≡ (declared p.machine r).id → d.message ≡ outgoing (declared p.machine i).id (thread p.local i) → d.cross ≡ false → tag ≡ received_tag d.cross d.message →
-    first ≡ with_step (Begin d.name) before → second ≡ with_step (Queue d.name) first → after ≡ with_step (seen.delivered d) second →
+    after ≡ with_sent d before →
     q ≡ with_local p (comes_to r (receives (outgoing (declared p.machine i).id (thread p.local i)) tag) p.local) →
     u ≡ with_local q (comes_to i (passes (receive_phase from receive_period) q.local.clock) q.local) →
     Does (acts p.machine p.cpu i (act_of p.machine (held p.machine p.local i))) p u before after
-fast_does p q u r i before first second after d tag to from send_period receive_period core own hand instr fast named goes carries crossing tagged tells_begin tells_queue tells_delivery passed went =
+fast_does p q u r i before after d tag to from send_period receive_period core own hand instr fast named goes carries crossing tagged tells passed went =
     let m : Machine = p.machine in
     let l : Local = p.local in
     let c : Context = (thread l i).context in
@@ -434,9 +442,8 @@ fast_does p q u r i before first second after d tag to from send_period receive_
     ∙ ap (λ (n : Message). Deliver name (declared m r).id n.shown n.actual (received_tag d.cross n) n.words) carried
     ∙ ap (λ b. Deliver name (declared m r).id message.shown message.actual (received_tag b message) message.words) crossed in
     let told : after ≡ with_step (Deliver name (declared m r).id message.shown message.actual whole message.words) (with_step (Queue name) (with_step (Begin name) before)) =
-    tells_delivery ∙ ap (λ s. with_step s second) step
-    ∙ ap (with_step (Deliver name (declared m r).id message.shown message.actual whole message.words))
-    (tells_queue ∙ ap (λ n. with_step (Queue n) first) named ∙ ap (with_step (Queue name)) (tells_begin ∙ ap (λ n. with_step (Begin n) before) named)) in
+    tells ∙ sent_steps d before ∙ ap (λ s. with_step s (with_step (Queue d.name) (with_step (Begin d.name) before))) step
+    ∙ ap (λ n. with_step (Deliver name (declared m r).id message.shown message.actual whole message.words) (with_step (Queue n) (with_step (Begin n) before))) named in
     let arrived : q ≡ with_local p (comes_to r (receives message whole) l) =
     passed ∙ ap (λ n. with_local p (comes_to r (receives n tag) l)) sent ∙ ap (λ t. with_local p (comes_to r (receives message t) l)) tag_is in
     let gone : u ≡ with_local p (comes_to i (passes receive l.clock) (comes_to r (receives message whole) l)) =

@@ -3,7 +3,9 @@ use Rattle.std.specs.Prelude.{◌≡◌, ℕ, ◌≤◌, List, [], ◌∷◌, �
 use Rattle.l4_model.specs.Steps.{Step}
 use Rattle.l4_core_model.specs.Letters as letters
 use Rattle.l4_types.specs.declared.letters.Letter.{Letter}
+use Rattle.l4_types.specs.declared.step_ref.DeliveryRef.{DeliveryRef}
 use Rattle.l4_types.specs.LetterView.{letter_of}
+use Rattle.l4_history.specs.Sent.{sent}
 
 -- The steps told before the event under way; the steps of this event, and the letters that it
 -- posted, each with the processor that it goes to; how many more of both have room.
@@ -32,6 +34,10 @@ pub record IsBegun (old new : EventBuffer) : Type 0 where
 
 abbrev pub with_step : Step → EventBuffer → EventBuffer
 with_step step t = record t { steps = t.steps ++ step ∷ []; room = t.room - 1 }
+
+-- A send was told that its receiver took at once.
+abbrev pub with_sent : DeliveryRef → EventBuffer → EventBuffer
+with_sent delivery t = record t { steps = t.steps ++ sent delivery; room = t.room - 3 }
 
 abbrev pub with_letter : ℕ → letters.Letter → EventBuffer → EventBuffer
 with_letter cpu letter t = record t {

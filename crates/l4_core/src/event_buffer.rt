@@ -1,16 +1,16 @@
 //! The steps and letters of an event.
-ghost use Rattle.std.specs.Prelude.{◌≡◌, ◌<◌, [], ◌++◌, IfNone, OnOk, OnErr, length, map};
+ghost use Rattle.std.specs.Prelude.{◌≡◌, ◌<◌, ◌≤◌, [], ◌++◌, IfNone, OnOk, OnErr, length, map};
 ghost use Rattle.std.specs.Option.{option_map, option_to_list};
 ghost use Rattle.l4_types.specs.LetterView.{letter_of};
 ghost use Rattle.l4_types.specs.StepView.{seen, step_of};
-ghost use Rattle.l4_core.specs.EventBuffers.{IsBegun, posted_of, with_step, with_letter};
+ghost use Rattle.l4_core.specs.EventBuffers.{IsBegun, posted_of, with_sent, with_step, with_letter};
 
 use arrayvec::ArrayVec;
 use l4_history::history::EVENT_STEPS;
 use l4_history::sink::Sink;
 use l4_types::errors::NoMemory;
 use l4_types::letters::Letter;
-use l4_types::step_ref::StepRef;
+use l4_types::step_ref::{DeliveryRef, StepRef};
 use l4_types::steps::{Event, Step};
 use std::marker::Model;
 
@@ -89,6 +89,15 @@ impl<S: Sink> EventBuffer<S> {
         ensures { self.new ≡ with_step (seen step.entry) self.old }
     {
         self.sink.push(step);
+    }
+
+    /// Appends the three steps of a send that its receiver takes at once.
+    #[inline(always)]
+    pub(crate) fn emit_sent(&mut self, delivery: DeliveryRef<'_>)
+        requires { 3 ≤ self.old.room }
+        ensures { self.new ≡ with_sent delivery.entry self.old }
+    {
+        self.sink.push_sent(delivery);
     }
 
     /// Posts a letter to a processor.

@@ -1,22 +1,23 @@
 //! The history of a machine.
-ghost use Rattle.std.specs.Prelude.{◌≡◌, ◌<◌, ◌≤◌, ◌-◌, ◌^◌, [], ◌∷◌, ◌++◌, ◌↔◌, All, OnOk, OnErr, IfOk, IfNone, IfSome, Some, None, IsTrue, length, map, take, drop, slice_get};
-ghost use Rattle.std.specs.Prelude.{◌+◌, vec_len};
-ghost use Rattle.std.specs.Vec.{vec_capacity};
+ghost use Rattle.std.specs.Prelude.{◌≡◌, ◌<◌, ◌≤◌, ◌-◌, ◌^◌, [], ◌∷◌, ◌++◌, ◌↔◌, OnOk, OnErr, IfOk};
+ghost use Rattle.std.specs.Prelude.{IfSome, Some, None, IsTrue, length, map, take, drop, slice_get};
 ghost use Rattle.l4_model.specs.History.{begun_name};
-ghost use Rattle.l4_types.specs.StepView.{delivered, delivery_in, seen, step_of};
-ghost use Rattle.l4_history.specs.Rows.{HasMore, HasRoom, IsHead, IsHeadOf, IsRecord, IsWide, ShowsSender, delivery_at, delivery_by, step_at, wide_at};
-ghost use Rattle.l4_history.specs.declared.records.WideHead.{WideHead};
-ghost use Rattle.l4_types.specs.declared.steps.Step.TheVariants.{Deliver};
+ghost use Rattle.l4_model.specs.Steps.{Order, Tick as TickOf};
+ghost use Rattle.l4_types.specs.StepView.{delivered, delivery_in, order_kind_of, seen, step_of};
+ghost use Rattle.l4_history.specs.Rows.{HasMore, plain_step, send_step, thread_step};
+ghost use Rattle.l4_history.specs.Sent.{sent};
 
-use crate::records::{Head, Record, WideHead};
+use crate::deliveries::{delivery, head, wide_head, wide_step};
+use crate::records::{Head, Kind, OfSend, OfThread, Record, SHORT, WideHead};
+use crate::rows::{append, reserve_indexes, reserve_more};
 use crate::sink::tell;
 use crate::steps::Steps;
+use crate::threads::Threads;
 use l4_types::errors::NoMemory;
 use l4_types::ids::GlobalId;
-use l4_types::message_ref::MessageRef;
 use l4_types::messages::MOST_WORDS;
 use l4_types::step_ref::{DeliveryRef, StepRef};
-use l4_types::steps::{Name, Step, Tick};
+use l4_types::steps::{Name, OrderKind, Step, Tick};
 use std::alloc::Global;
 use std::marker::Model;
 
@@ -26,13 +27,11 @@ pub const EVENT_STEPS: usize = 3;
 // Room is reserved for this many steps at once: to ask each time costs more than a push.
 const CHUNK_STEPS: usize = 64;
 
-// Indexes of rows are below this. A history that would need more of them finds no memory.
-const INDEXES: usize = 1 << 32;
-
 /// The steps of a machine in order, in compact form, and room for more of them. The words of all
 /// deliveries lie in one row.
 #[derive(Drop)]
 pub struct History {
+    threads: Threads,
     records: Vec<Record>,
     heads: Vec<Head>,
     // The steps that no record fits.
@@ -42,20 +41,22 @@ pub struct History {
 }
 
 impl Model for History {
-    ghost use Rattle.std.specs.Prelude.{◌+◌, ◌*◌, ◌≤◌, vec_len};
+    ghost use Rattle.std.specs.Prelude.{◌+◌, ◌*◌, ◌<◌, ◌≤◌, length, vec_len};
     ghost use Rattle.std.specs.Vec.{vec_capacity};
     ghost use Rattle.l4_types.specs.declared.messages.TheConstants.{MOST_WORDS};
     ghost use Rattle.l4_history.specs.Rows.{Told, AreRows, HasRoom, told};
+    ghost use Rattle.l4_history.specs.Slots.{slot_count};
 
     ghost Value = { Told };
 
     ghost view = { λ h. record {
-      steps = told h.records.items h.heads.items h.wide.items h.words.items;
+      steps = told h.threads.slots.items h.records.items h.heads.items h.wide.items h.words.items;
       room = h.room;
     } };
 
     ghost invariant = { λ h.
-        AreRows h.records.items h.heads.items h.wide.items h.words.items ×
+        AreRows h.threads.slots.items h.records.items h.heads.items h.wide.items h.words.items ×
+        (0 < h.room → slot_count ≤ length h.threads.slots.items) ×
         (vec_len h.records + h.room ≤ vec_capacity h.records) ×
         HasRoom (vec_len h.heads) (vec_capacity h.heads) h.room ×
         HasRoom (vec_len h.wide) (vec_capacity h.wide) h.room ×
@@ -68,6 +69,7 @@ impl History {
         ensures { result ≡ record { steps = []; room = 0 } }
     {
         History {
+            threads: Threads::new(alloc),
             records: Vec::new(alloc),
             heads: Vec::new(alloc),
             wide: Vec::new(alloc),
@@ -112,7 +114,7 @@ impl History {
     }
 
     /// Makes room for the steps of an event, each of which may be a delivery of 63 words. Where
-    /// memory is refused, nothing is changed.
+    /// memory is refused, or a row would have more than 2^32 elements, nothing is changed.
     #[inline(always)]
     pub fn reserve(&mut self) -> Result<(), NoMemory>
         ensures steps { self.new.steps ≡ self.old.steps }
@@ -135,10 +137,11 @@ impl History {
         ensures ok { OnOk result (self.new.room ≡ CHUNK_STEPS) }
         ensures err { OnErr result (self.new ≡ self.old) }
     {
-        self.records.reserve(CHUNK_STEPS)?;
-        reserve(&mut self.heads, CHUNK_STEPS)?;
-        reserve(&mut self.wide, CHUNK_STEPS)?;
-        reserve(&mut self.words, CHUNK_STEPS * MOST_WORDS)?;
+        reserve_more(&mut self.records, CHUNK_STEPS)?;
+        reserve_indexes(&mut self.heads, CHUNK_STEPS)?;
+        reserve_indexes(&mut self.wide, CHUNK_STEPS)?;
+        reserve_indexes(&mut self.words, CHUNK_STEPS * MOST_WORDS)?;
+        self.threads.open()?;
         self.room = CHUNK_STEPS;
         Ok(())
     }
@@ -169,42 +172,152 @@ impl History {
           room = self.old.room - 1;
         } }
     {
-        match Record::new(step) {
-            Some(stored) => self.push_record(stored),
-            None => self.push_wide(step),
+        match step {
+            Step::Local(thread) => self.push_of_thread(OfThread::Local, *thread),
+            Step::Begin(name) => self.push_of_send(OfSend::Begin, *name),
+            Step::Queue(name) => self.push_of_send(OfSend::Queue, *name),
+            Step::Wait(thread) => self.push_of_thread(OfThread::Wait, *thread),
+            Step::SendTimeout(name) => self.push_of_send(OfSend::Timeout, *name),
+            Step::ReceiveTimeout(thread) => self.push_of_thread(OfThread::ReceiveTimeout, *thread),
+            Step::SendNobody(name) => self.push_of_send(OfSend::Nobody, *name),
+            Step::ReceiveNobody(thread) => self.push_of_thread(OfThread::ReceiveNobody, *thread),
+            Step::SendCancel(name) => self.push_of_send(OfSend::Cancel, *name),
+            Step::ReceiveCancel(thread) => self.push_of_thread(OfThread::ReceiveCancel, *thread),
+            Step::Drop(name) => self.push_of_send(OfSend::Drop, *name),
+            Step::Order {
+                caller,
+                target,
+                what,
+            } => self.push_order(*caller, *target, *what),
+            Step::Obey(caller) => self.push_of_thread(OfThread::Obey, *caller),
+            Step::Tick(tick) => self.push_tick(*tick),
+            Step::Retarget(name) => self.push_of_send(OfSend::Retarget, *name),
+            Step::Deliver(_) => {}
         }
     }
 
-    // Appends a step that its record tells alone.
+    // Appends a step of a thread.
     #[inline(always)]
-    fn push_record(&mut self, stored: Record)
-        requires room { 0 < self.old.room }
-        requires alone { IsRecord 0 0 stored }
+    fn push_of_thread(&mut self, kind: OfThread, thread: GlobalId)
+        requires { 0 < self.old.room }
         ensures { self.new ≡ record {
-          steps = self.old.steps ++ step_at [] [] [] stored ∷ [];
+          steps = self.old.steps ++ thread_step kind thread ∷ [];
           room = self.old.room - 1;
         } }
     {
-        self.records.push_reserved(stored);
+        match self.threads.slot_of(thread) {
+            Some(slot) => {
+                self.records.push_reserved(Record {
+                    kind: Kind::Thread(kind),
+                    slot,
+                    number: 0,
+                });
+                self.room -= 1;
+            }
+            None => self.push_rare_of_thread(kind, thread),
+        }
+    }
+
+    // Appends a step of a thread whose slot another one has. It is rare, so it is a call, and takes
+    // what fits registers: what is lent to a call is written out even where it is not made.
+    #[inline(never)]
+    fn push_rare_of_thread(&mut self, kind: OfThread, thread: GlobalId)
+        requires { 0 < self.old.room }
+        ensures { self.new ≡ record {
+          steps = self.old.steps ++ thread_step kind thread ∷ [];
+          room = self.old.room - 1;
+        } }
+    {
+        self.push_wide(kind.step(thread));
+    }
+
+    // Appends a step of a send.
+    #[inline(always)]
+    fn push_of_send(&mut self, kind: OfSend, name: Name)
+        requires { 0 < self.old.room }
+        ensures { self.new ≡ record {
+          steps = self.old.steps ++ send_step kind name ∷ [];
+          room = self.old.room - 1;
+        } }
+    {
+        let (thread, k) = (name.thread(), name.k());
+        if k > SHORT {
+            return self.push_rare_of_send(kind, thread, k);
+        }
+        match self.threads.slot_of(thread) {
+            Some(slot) => {
+                self.records.push_reserved(Record {
+                    kind: Kind::Send(kind),
+                    slot,
+                    number: k as u32,
+                });
+                self.room -= 1;
+            }
+            None => self.push_rare_of_send(kind, thread, k),
+        }
+    }
+
+    // Appends a step of the k-th send of a thread, which is rare.
+    #[inline(never)]
+    fn push_rare_of_send(&mut self, kind: OfSend, thread: GlobalId, k: u64)
+        requires room { 0 < self.old.room }
+        requires some { 0 < k }
+        ensures { self.new ≡ record {
+          steps = self.old.steps ++ send_step kind (record { thread = thread; k = k }) ∷ [];
+          room = self.old.room - 1;
+        } }
+    {
+        self.push_wide(kind.step(Name::new(thread, k).unwrap()));
+    }
+
+    // Appends an order.
+    #[inline(never)]
+    fn push_order(&mut self, caller: GlobalId, target: GlobalId, what: OrderKind)
+        requires { 0 < self.old.room }
+        ensures { self.new ≡ record {
+          steps = self.old.steps ++ Order caller target (order_kind_of what) ∷ [];
+          room = self.old.room - 1;
+        } }
+    {
+        self.push_wide(Step::Order {
+            caller,
+            target,
+            what,
+        });
+    }
+
+    // Appends a tick.
+    fn push_tick(&mut self, tick: Tick)
+        requires { 0 < self.old.room }
+        ensures { self.new ≡ record {
+          steps = self.old.steps ++ TickOf tick.cpu tick.clock ∷ [];
+          room = self.old.room - 1;
+        } }
+    {
+        if tick.clock() > SHORT {
+            return self.push_wide(Step::Tick(tick));
+        }
+        self.records.push_reserved(Record {
+            kind: Kind::Tick,
+            slot: u16::from(tick.cpu()),
+            number: tick.clock() as u32,
+        });
         self.room -= 1;
     }
 
     // Appends a step that no record fits, and that is no delivery.
-    #[inline(always)]
-    fn push_wide(&mut self, step: &StepRef<'_>)
+    fn push_wide(&mut self, step: Step<WideHead>)
         requires room { 0 < self.old.room }
-        requires no_delivery { delivery_in step.now ≡ None }
+        requires no_delivery { delivery_in step ≡ None }
         ensures { self.new ≡ record {
-          steps = self.old.steps ++ seen step.now ∷ [];
+          steps = self.old.steps ++ plain_step step ∷ [];
           room = self.old.room - 1;
         } }
     {
-        if let Err(whole) = step.as_delivery() {
-            self.records
-                .push_reserved(Record::Wide(self.wide.len() as u32));
-            self.wide.push_reserved(whole);
-            self.room -= 1;
-        }
+        self.records
+            .push_reserved(Record::at(Kind::Wide, self.wide.len()));
+        self.wide.push_reserved(step);
+        self.room -= 1;
     }
 
     /// Appends a delivery. Its words are copied once, straight into the row, and no `Message` is
@@ -217,34 +330,21 @@ impl History {
           room = self.old.room - 1;
         } }
     {
-        if shows_sender(delivery) {
-            self.push_plain(delivery);
-        } else {
-            self.push_propagated(delivery);
+        match head(delivery, &mut self.threads, self.words.len() as u32) {
+            Some(head) => {
+                self.records
+                    .push_reserved(Record::at(Kind::Deliver, self.heads.len()));
+                self.heads.push_reserved(head);
+                append(&mut self.words, delivery.message.words());
+                self.room -= 1;
+            }
+            None => self.push_wide_delivery(delivery),
         }
     }
 
-    // Appends a delivery that shows the thread that sends.
+    // Appends a delivery that no head fits.
     #[inline(always)]
-    fn push_plain(&mut self, delivery: &DeliveryRef<'_>)
-        requires room { 0 < self.old.room }
-        requires plain { ShowsSender delivery.now }
-        ensures { self.new ≡ record {
-          steps = self.old.steps ++ delivered delivery.now ∷ [];
-          room = self.old.room - 1;
-        } }
-    {
-        self.records
-            .push_reserved(Record::Deliver(self.heads.len() as u32));
-        self.heads
-            .push_reserved(head(delivery, self.words.len() as u32));
-        append(&mut self.words, delivery.message.words());
-        self.room -= 1;
-    }
-
-    // Appends a delivery that may show other ids.
-    #[inline(always)]
-    fn push_propagated(&mut self, delivery: &DeliveryRef<'_>)
+    fn push_wide_delivery(&mut self, delivery: &DeliveryRef<'_>)
         requires { 0 < self.old.room }
         ensures { self.new ≡ record {
           steps = self.old.steps ++ delivered delivery.now ∷ [];
@@ -252,11 +352,49 @@ impl History {
         } }
     {
         self.records
-            .push_reserved(Record::Wide(self.wide.len() as u32));
+            .push_reserved(Record::at(Kind::Wide, self.wide.len()));
         self.wide
-            .push_reserved(wide(delivery, self.words.len() as u32));
+            .push_reserved(wide_head(delivery, self.words.len() as u32));
         append(&mut self.words, delivery.message.words());
         self.room -= 1;
+    }
+
+    /// Appends the three steps of a send that its receiver takes at once: it begins, it is queued,
+    /// and it is delivered.
+    #[inline(always)]
+    pub fn push_sent(&mut self, delivery: &DeliveryRef<'_>)
+        requires { 3 ≤ self.old.room }
+        ensures { self.new ≡ record {
+          steps = self.old.steps ++ sent delivery.now;
+          room = self.old.room - 3;
+        } }
+    {
+        match head(delivery, &mut self.threads, self.words.len() as u32) {
+            Some(head) => {
+                let (slot, number) = (head.sender, head.k);
+                self.records.push_reserved(Record {
+                    kind: Kind::Send(OfSend::Begin),
+                    slot,
+                    number,
+                });
+                self.records.push_reserved(Record {
+                    kind: Kind::Send(OfSend::Queue),
+                    slot,
+                    number,
+                });
+                self.records
+                    .push_reserved(Record::at(Kind::Deliver, self.heads.len()));
+                self.heads.push_reserved(head);
+                append(&mut self.words, delivery.message.words());
+                self.room -= 3;
+            }
+            None => {
+                let (thread, k) = (delivery.name.thread(), delivery.name.k());
+                self.push_rare_of_send(OfSend::Begin, thread, k);
+                self.push_rare_of_send(OfSend::Queue, thread, k);
+                self.push_wide_delivery(delivery);
+            }
+        }
     }
 
     // Appends the step at a place of another history.
@@ -318,9 +456,10 @@ impl History {
         requires { i < length self.now.steps }
         ensures { IfSome (slice_get self.now.steps i) (λ step. result ≡ begun_name step) }
     {
-        match self.records[i] {
-            Record::Begin(name) => Some(name.name()),
-            Record::Wide(at) => match self.wide[at as usize] {
+        let record = self.records[i];
+        match record.kind {
+            Kind::Send(OfSend::Begin) => Some(record.send(&self.threads)),
+            Kind::Wide => match self.wide[record.number as usize] {
                 Step::Begin(name) => Some(name),
                 _ => None,
             },
@@ -334,143 +473,27 @@ impl History {
         requires { i < length self.now.steps }
         ensures { slice_get self.now.steps i ≡ Some (seen result) }
     {
-        match self.records[i] {
-            Record::Local(thread) => Step::Local(thread),
-            Record::Begin(name) => Step::Begin(name.name()),
-            Record::Queue(name) => Step::Queue(name.name()),
-            Record::Deliver(at) => Step::Deliver(delivery(&self.heads, &self.words, at as usize)),
-            Record::Wait(thread) => Step::Wait(thread),
-            Record::SendTimeout(name) => Step::SendTimeout(name.name()),
-            Record::ReceiveTimeout(thread) => Step::ReceiveTimeout(thread),
-            Record::SendNobody(name) => Step::SendNobody(name.name()),
-            Record::ReceiveNobody(thread) => Step::ReceiveNobody(thread),
-            Record::SendCancel(name) => Step::SendCancel(name.name()),
-            Record::ReceiveCancel(thread) => Step::ReceiveCancel(thread),
-            Record::Drop(name) => Step::Drop(name.name()),
-            Record::Obey(caller) => Step::Obey(caller),
-            Record::Tick { cpu, clock } => Step::Tick(Tick::new(cpu, clock).unwrap()),
-            Record::Retarget(name) => Step::Retarget(name.name()),
-            Record::Wide(at) => wide_step(&self.wide, &self.words, at as usize),
+        let (record, threads) = (self.records[i], &self.threads);
+        let index = record.number as usize;
+        match record.kind {
+            Kind::Thread(OfThread::Local) => Step::Local(record.thread(threads)),
+            Kind::Thread(OfThread::Wait) => Step::Wait(record.thread(threads)),
+            Kind::Thread(OfThread::ReceiveTimeout) => Step::ReceiveTimeout(record.thread(threads)),
+            Kind::Thread(OfThread::ReceiveNobody) => Step::ReceiveNobody(record.thread(threads)),
+            Kind::Thread(OfThread::ReceiveCancel) => Step::ReceiveCancel(record.thread(threads)),
+            Kind::Thread(OfThread::Obey) => Step::Obey(record.thread(threads)),
+            Kind::Send(OfSend::Begin) => Step::Begin(record.send(threads)),
+            Kind::Send(OfSend::Queue) => Step::Queue(record.send(threads)),
+            Kind::Send(OfSend::Timeout) => Step::SendTimeout(record.send(threads)),
+            Kind::Send(OfSend::Nobody) => Step::SendNobody(record.send(threads)),
+            Kind::Send(OfSend::Cancel) => Step::SendCancel(record.send(threads)),
+            Kind::Send(OfSend::Drop) => Step::Drop(record.send(threads)),
+            Kind::Send(OfSend::Retarget) => Step::Retarget(record.send(threads)),
+            Kind::Tick => {
+                Step::Tick(Tick::new(record.slot as u8, u64::from(record.number)).unwrap())
+            }
+            Kind::Deliver => Step::Deliver(delivery(threads, &self.heads, &self.words, index)),
+            Kind::Wide => wide_step(&self.wide, &self.words, index),
         }
-    }
-}
-
-// Makes room for more elements, and sees to it that an index of 32 bits names each of them.
-fn reserve<T>(row: &mut Vec<T>, more: usize) -> Result<(), NoMemory>
-    ensures items { row.new.items ≡ row.old.items }
-    ensures grown { vec_capacity row.old ≤ vec_capacity row.new }
-    ensures ok { OnOk result (HasRoom (vec_len row.new) (vec_capacity row.new) more) }
-{
-    if row.len() >= INDEXES || more > INDEXES - row.len() {
-        return Err(NoMemory);
-    }
-    row.reserve(more)?;
-    Ok(())
-}
-
-// Appends words, for which there is room. Mostly a message has none.
-#[inline(always)]
-fn append(words: &mut Vec<u64>, more: &[u64])
-    requires { vec_len words.old + length more.now ≤ vec_capacity words.old }
-    ensures items { words.new.items ≡ words.old.items ++ more.now }
-    ensures capacity { vec_capacity words.old ≤ vec_capacity words.new }
-{
-    if !more.is_empty() {
-        words.extend_from_slice(more).unwrap();
-    }
-}
-
-// Whether a delivery shows the thread that sends.
-#[inline(always)]
-fn shows_sender(delivery: &DeliveryRef<'_>) -> bool
-    ensures { IsTrue result → ShowsSender delivery.now }
-{
-    let sender = delivery.name.thread();
-    delivery.message.shown() == sender && delivery.message.actual() == sender
-}
-
-// The head of a delivery whose words begin at a place of the row.
-#[inline(always)]
-fn head(delivery: &DeliveryRef<'_>, start: u32) -> Head
-    ensures { IsHeadOf delivery.now start result }
-{
-    let message = &delivery.message;
-    Head {
-        name: delivery.name,
-        receiver: delivery.receiver,
-        label: message.label(),
-        start,
-        count: message.words().len() as u8,
-        propagated: message.propagated(),
-        cross: delivery.cross,
-    }
-}
-
-// The same as a step, with the ids that it shows.
-#[inline(always)]
-fn wide(delivery: &DeliveryRef<'_>, start: u32) -> Step<WideHead>
-    ensures { (w : WideHead) × (result ≡ Deliver w) × IsHeadOf delivery.now start w.head ×
-        (w.shown ≡ delivery.now.message.shown) × (w.actual ≡ delivery.now.message.actual) }
-{
-    Step::Deliver(WideHead {
-        head: head(delivery, start),
-        shown: delivery.message.shown(),
-        actual: delivery.message.actual(),
-    })
-}
-
-// The delivery of the head at a place.
-#[inline(always)]
-fn delivery<'a>(heads: &[Head], words: &'a [u64], at: usize) -> DeliveryRef<'a>
-    requires known { at < length heads.now }
-    requires within { All (IsHead (length words.now)) heads.now }
-    ensures { delivery_at words.now (slice_get heads.now at) ≡ delivered result }
-{
-    let head = &heads[at];
-    let sender = head.name.thread();
-    delivery_by(head, words, sender, sender)
-}
-
-// The delivery of a head that shows these ids.
-#[inline(always)]
-fn delivery_by<'a>(
-    head: &Head,
-    words: &'a [u64],
-    shown: GlobalId,
-    actual: GlobalId,
-) -> DeliveryRef<'a>
-    requires { IsHead (length words.now) head.now }
-    ensures { delivery_by words.now shown actual head.now ≡ delivered result }
-{
-    let start = head.start as usize;
-    DeliveryRef {
-        name: head.name,
-        receiver: head.receiver,
-        message: MessageRef::new(
-            head.label,
-            head.propagated,
-            &words[start..start + usize::from(head.count)],
-            shown,
-            actual,
-        ),
-        cross: head.cross,
-    }
-}
-
-// The step that no record fits at a place. It is rare, so it is not inlined.
-#[inline(never)]
-fn wide_step<'a>(wide: &[Step<WideHead>], words: &'a [u64], at: usize) -> StepRef<'a>
-    requires known { at < length wide.now }
-    requires within { All (IsWide (length words.now)) wide.now }
-    ensures { wide_at words.now (slice_get wide.now at) ≡ seen result }
-{
-    match wide[at].as_delivery() {
-        Ok(delivery) => Step::Deliver(delivery_by(
-            &delivery.head,
-            words,
-            delivery.shown,
-            delivery.actual,
-        )),
-        Err(step) => step,
     }
 }

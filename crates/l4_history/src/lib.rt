@@ -1,6 +1,7 @@
-//! Histories in compact form: 16 bytes for a step, 40 more for a delivery, and the words of all
-//! deliveries in one row. What does not fit takes 64 bytes more: an order, a propagated delivery, a
-//! send of number 2^32 or above.
+//! Histories in compact form: 8 bytes for a step, 24 more for a delivery, and the words of all
+//! deliveries in one row. A step names a thread by the slot of its number, of which there are 1,024.
+//! What does not fit takes 64 bytes more: an order, a propagated delivery, a step of a thread whose
+//! slot another one has, a send of number 2^32 or above, a clock from there on.
 //!
 //! So a million steps of a run fit in memory. Contracts see a plain list of steps, and the room for
 //! more of them: `push` wants room, `reserve` makes it. So room is made before a turn, and a turn
@@ -18,7 +19,10 @@
 //! ```
 #![tactic(auto)]
 
+mod deliveries;
 pub mod history;
 mod records;
+mod rows;
 pub mod sink;
 pub mod steps;
+mod threads;

@@ -5,11 +5,12 @@ ghost use Rattle.arrayvec.specs.ArrayVec.{array_vec_len};
 ghost use Rattle.l4_model.specs.Steps.{Step as ModelStep};
 ghost use Rattle.l4_types.specs.StepView.{seen, step_of};
 ghost use Rattle.l4_history.specs.Rows.{HasMore};
+ghost use Rattle.l4_history.specs.Sent.{sent};
 
 use crate::history::{EVENT_STEPS, History};
 use arrayvec::ArrayVec;
 use l4_types::errors::NoMemory;
-use l4_types::step_ref::StepRef;
+use l4_types::step_ref::{DeliveryRef, StepRef};
 use l4_types::steps::Step;
 
 /// Takes the steps of a machine, one after another.
@@ -36,6 +37,13 @@ pub trait Sink {
         requires { 0 < room self.old }
         ensures told { told self.new ≡ told self.old ++ seen step.entry ∷ [] }
         ensures room { room self.new + 1 ≡ room self.old };
+
+    /// Appends the three steps of a send that its receiver takes at once: it begins, it is queued,
+    /// and it is delivered. It takes no memory, since there is room.
+    fn push_sent(&mut self, delivery: DeliveryRef<'_>)
+        requires { 3 ≤ room self.old }
+        ensures told { told self.new ≡ told self.old ++ sent delivery.entry }
+        ensures room { room self.new + 3 ≡ room self.old };
 }
 
 impl Sink for History {
@@ -56,6 +64,11 @@ impl Sink for History {
     fn push(&mut self, step: StepRef<'_>) {
         History::push(self, step);
     }
+
+    #[inline(always)]
+    fn push_sent(&mut self, delivery: DeliveryRef<'_>) {
+        History::push_sent(self, &delivery);
+    }
 }
 
 impl Sink for Vec<Step> {
@@ -74,6 +87,12 @@ impl Sink for Vec<Step> {
 
     fn push(&mut self, step: StepRef<'_>) {
         self.push_reserved(step.to_step());
+    }
+
+    fn push_sent(&mut self, delivery: DeliveryRef<'_>) {
+        self.push_reserved(Step::Begin(delivery.name));
+        self.push_reserved(Step::Queue(delivery.name));
+        self.push_reserved(Step::Deliver(delivery.to_delivery()));
     }
 }
 
@@ -95,6 +114,12 @@ impl<const CAP: usize> Sink for ArrayVec<Step, CAP> {
 
     fn push(&mut self, step: StepRef<'_>) {
         ArrayVec::push(self, step.to_step());
+    }
+
+    fn push_sent(&mut self, delivery: DeliveryRef<'_>) {
+        ArrayVec::push(self, Step::Begin(delivery.name));
+        ArrayVec::push(self, Step::Queue(delivery.name));
+        ArrayVec::push(self, Step::Deliver(delivery.to_delivery()));
     }
 }
 

@@ -8,6 +8,7 @@ pub mod Cores
 pub mod InLogs
 pub mod Inboxes
 pub mod Members
+pub mod Named
 pub mod OneOutcome
 pub mod Opened
 pub mod Opening

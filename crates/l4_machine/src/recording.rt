@@ -39,15 +39,20 @@ pub(crate) fn recorded(
     take_all(alloc, processors, logs.as_mut_slice())
 }
 
-// What a processor did. There is no other log to merge its own with.
+// What a processor did. There is no other log to merge its own with. Almost all of it is turns of
+// its core: so each entry begins as one, and only what is another is written.
 fn recorded_alone(alloc: Global, processor: &Processor<'_>) -> Result<Vec<Entry>, NoMemory>
     ensures { IfOk result (λ entries.
         map entry_from entries.items ≡ map entry_of (actions processor.now.worker.log)) }
 {
     let log = processor.log();
-    let mut entries = Vec::with_capacity(alloc, log.len())?;
+    let cpu = processor.cpu();
+    let mut entries = vec![in alloc; Entry::Core(cpu); log.len()]?;
     for i in 0..log.len() {
-        entries.push(entry(processor.cpu(), log.choice(i)))?;
+        match log.choice(i) {
+            Choice::Core => {}
+            choice => entries[i] = entry(cpu, choice),
+        }
     }
     Ok(entries)
 }

@@ -11,13 +11,16 @@ none_here : (xs : List Letter) → not (is_empty xs) ≡ false → xs ≡ []
 none_here [] e = refl
 none_here (x ∷ xs) e = absurd cc
 
+pub keeps_none : (end : Option Inlet) → keeps end ≡ false → kept end ≡ []
+keeps_none end e = none_here (kept end) e
+
 neither : (a b : Bool) → (a || b) ≡ false → (a ≡ false) × (b ≡ false)
 neither true b e = absurd cc
 neither false b e = (refl, e)
 
 none_kept : (l : List (Option Inlet)) → list_any keeps l ≡ false → NoneIsKept l
 none_kept [] e k = refl
-none_kept (x ∷ l) e zero = none_here (kept x) (neither (keeps x) _ e).0
+none_kept (x ∷ l) e zero = keeps_none x (neither (keeps x) _ e).0
 none_kept (x ∷ l) e (suc k) = none_kept l (neither (keeps x) _ e).1 k
 
 none_keeps : (l : List (Option Inlet)) → NoneIsKept l → list_any keeps l ≡ false

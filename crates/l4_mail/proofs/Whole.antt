@@ -1,5 +1,5 @@
 -- A port of which nothing but one part has changed.
-use Rattle.std.proofs.Common.{◌≡◌, ◌↔◌, ℕ, ◌+◌, ◌<◌, ◌≤◌, List, [], ◌∷◌, ◌++◌, length, map, set, get_or, subst, sym, ap, ◌∙◌, ◌⊎◌, ⊎_elim, inl, inr, arith, Option, Some, None, IfSome, IfNone}
+use Rattle.std.proofs.Common.{◌≡◌, ◌↔◌, ℕ, ◌+◌, ◌<◌, ◌≤◌, List, [], ◌∷◌, ◌++◌, length, map, set, get_or, subst, sym, ap, ◌∙◌, ◌⊎◌, ⊎_elim, inl, inr, arith, Option, Some, None}
 use Rattle.std.specs.Vec.{with_item, with_items}
 use Rattle.std.proofs.lemmas.List.{with_items_is, length-map}
 use Rattle.std.proofs.lemmas.Bool.Decides.{eqb_tells}
@@ -11,8 +11,8 @@ use Rattle.l4_mail.specs.declared.inlets.Inlet.{Inlet}
 use Rattle.l4_mail.specs.declared.ports.Port.{Port}
 use Rattle.l4_mail.specs.Ends.{RingId, ring_out, posted, waiting, free, room, ring_in, taken, kept, here}
 use Rattle.l4_mail.specs.Ports.{room_to, taken_from, kept_from, only, IsAsBefore, HasPosted, HasTaken}
-use Rattle.l4_mail.specs.Takes.{NoneIsKept, NoneIsHere, NoneIsTaken, IsTaken, IsFirst}
-use Rattle.l4_mail.proofs.Looking.{none_kept_here}
+use Rattle.l4_mail.specs.Takes.{NoneIsKept, NoneIsHere, NoneIsTaken, IsNext}
+use Rattle.l4_mail.proofs.Looking.{IsTaken, IsFirst, next_taken}
 use Rattle.l4_mail.proofs.Rows.{below_or, AreAsBefore, HaveRoom, grown_at, set_elsewhere, set_here, read_here, read_beyond, room_within}
 
 -- Only the outlets have changed.
@@ -59,8 +59,8 @@ pub same_length : {A B : Type 0} (f : A → B) (l k : List A) → map f l ≡ ma
 same_length f l k e = sym (length-map l f) ∙ ap length e ∙ length-map k f
 
 -- The inlets of a port that are written back.
-pub inlets_are : (old new : Port) (items : List (Option Inlet)) → new.inlets ≡ with_items old.inlets items → map ring_in items ≡ map ring_in old.inlets.items → new.inlets.items ≡ items
-inlets_are old new items i r = ap (λ v. v.items) i ∙ with_items_is old.inlets items (same_length ring_in items old.inlets.items r ∙ sym old.inlets.ok.0)
+pub items_there : (old : Port) (items : List (Option Inlet)) → map ring_in items ≡ map ring_in old.inlets.items → (with_items old.inlets items).items ≡ items
+items_there old items r = with_items_is old.inlets items (same_length ring_in items old.inlets.items r ∙ sym old.inlets.ok.0)
 
 one_taken : (old new : Port) (from : ℕ) (letter : Letter) → new.cpu ≡ old.cpu → new.outlets ≡ old.outlets → map ring_in new.inlets.items ≡ map ring_in old.inlets.items
     → ((k : ℕ) → taken_from new k ≡ taken_from old k ++ only k from letter) → ((k : ℕ) → kept_from old k ≡ only k from letter ++ kept_from new k) ⊎ ((k : ℕ) → (kept_from old k ≡ []) × (kept_from new k ≡ [])) → HasTaken old new from letter
@@ -75,26 +75,36 @@ one_taken old new from letter c o r t h = record {
 both_ways : {A B C D : Type 0} → A ⊎ B → (A → C) → (B → D) → C ⊎ D
 both_ways h f g = ⊎_elim (λ a. inl (f a)) (λ b. inr (g b)) h
 
-letter_taken : (old new : Port) (items : List (Option Inlet)) (from : ℕ) (letter : Letter) → new.cpu ≡ old.cpu → new.outlets ≡ old.outlets → new.inlets ≡ with_items old.inlets items
+letter_taken : (old new : Port) (items : List (Option Inlet)) (from : ℕ) (letter : Letter) → new.cpu ≡ old.cpu → new.outlets ≡ old.outlets → new.inlets.items ≡ items
     → IsTaken old.inlets.items items from letter × IsFirst old.inlets.items items from letter → HasTaken old new from letter
-letter_taken old new items from letter c o i h =
-    let e = inlets_are old new items i h.0.rings in
+letter_taken old new items from letter c o e h =
     one_taken old new from letter c o (ap (map ring_in) e ∙ h.0.rings)
     (λ k. ap (λ l. get_or (map taken l) k []) e ∙ h.0.taken k)
     (both_ways h.1
     (λ w k. w k ∙ ap (λ l. only k from letter ++ get_or (map kept l) k []) (sym e))
     (λ w k. (w.0 k, ap (λ l. get_or (map kept l) k []) e ∙ w.1 k)))
 
-pub some_taken : (old new : Port) (olds items : List (Option Inlet)) (o : Option (ℕ × Letter)) → new.cpu ≡ old.cpu → new.outlets ≡ old.outlets → new.inlets ≡ with_items old.inlets items
-    → olds ≡ old.inlets.items → IfSome o (λ r. IsTaken olds items r.0 r.1 × IsFirst olds items r.0 r.1) → IfSome o (λ r. HasTaken old new r.0 r.1)
-some_taken old new olds items None c o i e h = h
-some_taken old new olds items (Some r) c o i e h = letter_taken old new items r.0 r.1 c o i (subst (λ l. IsTaken l items r.0 r.1 × IsFirst l items r.0 r.1) e h)
+-- The letter that is next was taken at the inlet `end`, which became `end'`.
+pub next_letter_taken : (old new : Port) (olds items : List (Option Inlet)) (from : ℕ) (end end' : Option Inlet) (letter : Letter) → new.cpu ≡ old.cpu → new.outlets ≡ old.outlets
+    → new.inlets ≡ with_item (with_items old.inlets items) from end' → olds ≡ old.inlets.items → NoneIsTaken olds items → map kept items ≡ map kept olds → IsNext items from
+    → end ≡ get_or (with_items old.inlets items).items from end → ring_in end' ≡ ring_in end → taken end' ≡ taken end ++ letter ∷ [] → (kept end ≡ letter ∷ kept end') ⊎ ((kept end ≡ []) × (kept end' ≡ []))
+    → HasTaken old new from letter
+next_letter_taken old new olds items from end end' letter c o i e none same next at r t k =
+    let l = (with_items old.inlets items).items in
+    let is : l ≡ items = items_there old items (none.rings ∙ ap (map ring_in) e) in
+    letter_taken old new (set l from end') from letter c o (ap (λ v. v.items) i)
+    (next_taken old.inlets.items l from end' end letter
+    (subst (λ v. IsNext v from) (sym is) next)
+    (subst (λ v. NoneIsTaken old.inlets.items v) (sym is) (subst (λ v. NoneIsTaken v items) e none))
+    (ap (map kept) is ∙ same ∙ ap (map kept) e)
+    (r ∙ ap ring_in at) (t ∙ ap (λ x. taken x ++ letter ∷ []) at)
+    (subst (λ x. (kept x ≡ letter ∷ kept end') ⊎ ((kept x ≡ []) × (kept end' ≡ []))) at k))
 
 -- The inlets were only looked at.
 only_looked : (old new : Port) (items : List (Option Inlet)) → new.cpu ≡ old.cpu → new.outlets ≡ old.outlets → new.inlets ≡ with_items old.inlets items
     → NoneIsTaken old.inlets.items items → ((k : ℕ) → get_or (map kept items) k [] ≡ get_or (map kept old.inlets.items) k []) → IsAsBefore old new
 only_looked old new items c o i none same =
-    let e = inlets_are old new items i none.rings in
+    let e : new.inlets.items ≡ items = ap (λ v. v.items) i ∙ items_there old items none.rings in
     record {
       place = λ k. record { cpu = c k; outs = map ring_out (o k).items; ins = (ap (map ring_in) e ∙ none.rings) k };
       posted = λ to. ap (λ v. get_or (map posted v.items) to []) o;
@@ -102,10 +112,6 @@ only_looked old new items c o i none same =
       kept = λ k. ap (λ l. get_or (map kept l) k []) e ∙ same k;
       room = λ to. let e = ap (λ v. get_or (map room v.items) to 0) o in omega arith;
     }
-
-nothing_taken : (old new : Port) (items : List (Option Inlet)) → new.cpu ≡ old.cpu → new.outlets ≡ old.outlets → new.inlets ≡ with_items old.inlets items
-    → NoneIsTaken old.inlets.items items × NoneIsKept old.inlets.items × NoneIsHere items → IsAsBefore old new
-nothing_taken old new items c o i h = only_looked old new items c o i h.0 (λ k. none_kept_here items h.2 k ∙ sym (h.1 k))
 
 pub looked_at : (old new : Port) (olds items : List (Option Inlet)) → new.cpu ≡ old.cpu → new.outlets ≡ old.outlets → new.inlets ≡ with_items old.inlets items
     → olds ≡ old.inlets.items → NoneIsTaken olds items → map kept items ≡ map kept olds → IsAsBefore old new
@@ -115,27 +121,10 @@ looked_at old new olds items c o i e none same =
 pub none_there : (old : Port) (olds : List (Option Inlet)) → olds ≡ old.inlets.items → NoneIsKept olds → (from : ℕ) → kept_from old from ≡ []
 none_there old olds e none from = ap (λ l. get_or (map kept l) from []) (sym e) ∙ none from
 
-pub none_taken : (old new : Port) (olds items : List (Option Inlet)) (o : Option (ℕ × Letter)) → new.cpu ≡ old.cpu → new.outlets ≡ old.outlets → new.inlets ≡ with_items old.inlets items
-    → olds ≡ old.inlets.items → IfNone o (NoneIsTaken olds items × NoneIsKept olds × NoneIsHere items) → IfNone o (IsAsBefore old new)
-none_taken old new olds items None c o i e h = nothing_taken old new items c o i (subst (λ l. NoneIsTaken l items × NoneIsKept l × NoneIsHere items) e h)
-none_taken old new olds items (Some r) c o i e h = h
-
-pub none_kept : (old : Port) (olds items : List (Option Inlet)) (o : Option (ℕ × Letter)) → olds ≡ old.inlets.items → IfNone o (NoneIsTaken olds items × NoneIsKept olds × NoneIsHere items)
-    → IfNone o ((from : ℕ) → kept_from old from ≡ [])
-none_kept old olds items None e h = λ from. ap (λ l. get_or (map kept l) from []) (sym e) ∙ h.1 from
-none_kept old olds items (Some r) e h = h
-
 -- What is here at the inlets of a port that are written back.
 here_there : (old : Port) (items : List (Option Inlet)) → map ring_in items ≡ map ring_in old.inlets.items
     → (from : ℕ) → get_or (map here (with_items old.inlets items).items) from [] ≡ get_or (map here items) from []
-here_there old items r from =
-    ap (λ l. get_or (map here l) from []) (with_items_is old.inlets items (same_length ring_in items old.inlets.items r ∙ sym old.inlets.ok.0))
-
-pub none_here_now : (old : Port) (olds items : List (Option Inlet)) (o : Option (ℕ × Letter)) → olds ≡ old.inlets.items
-    → IfNone o (NoneIsTaken olds items × NoneIsKept olds × NoneIsHere items)
-    → IfNone o ((from : ℕ) → get_or (map here (with_items old.inlets items).items) from [] ≡ [])
-none_here_now old olds items None e h = λ from. here_there old items (h.0.rings ∙ ap (map ring_in) e) from ∙ h.2 from
-none_here_now old olds items (Some r) e h = h
+here_there old items r from = ap (λ l. get_or (map here l) from []) (items_there old items r)
 
 pub mail_is_here : (old : Port) (olds items : List (Option Inlet)) (P : Type 0) → olds ≡ old.inlets.items → NoneIsTaken olds items
     → P ↔ NoneIsHere items → P ↔ ((from : ℕ) → get_or (map here (with_items old.inlets items).items) from [] ≡ [])

@@ -1,5 +1,5 @@
 //! The ends of rings, by the other processor. A port has none to itself.
-ghost use Rattle.std.specs.Prelude.{◌≡◌, ◌↔◌, ◌≤◌, ◌<◌, ◌+◌, [], ◌∷◌, ◌++◌, false, OnOk, IfSome, IfNone, IsTrue, Option, None, ◌⊎◌};
+ghost use Rattle.std.specs.Prelude.{◌≡◌, ◌≢◌, ◌↔◌, ◌≤◌, ◌<◌, ◌+◌, [], ◌∷◌, ◌++◌, false, OnOk, IsTrue, Option, None, ◌⊎◌};
 ghost use Rattle.l4_mail.specs.Ends.{ring_out, posted, waiting, free, room, ring_in, taken, kept, here, keeps};
 
 use crate::inlets::Inlet;
@@ -84,29 +84,14 @@ pub fn has_mail(end: &mut Option<Inlet>) -> bool
     }
 }
 
-pub fn take_kept(end: &mut Option<Inlet>) -> Option<Letter>
+#[inline(always)]
+pub fn take(end: &mut Option<Inlet>) -> Letter
+    requires { here end.old ≢ [] }
     ensures ring { ring_in end.new ≡ ring_in end.old }
-    ensures some { IfSome result (λ x. (taken end.new ≡ taken end.old ++ x ∷ []) ×
-        (kept end.old ≡ x ∷ kept end.new)) }
-    ensures none { IfNone result ((taken end.new ≡ taken end.old) × (kept end.old ≡ []) ×
-        (kept end.new ≡ [])) }
+    ensures taken { taken end.new ≡ taken end.old ++ result ∷ [] }
+    ensures kept { (kept end.old ≡ result ∷ kept end.new) ⊎
+        ((kept end.old ≡ []) × (kept end.new ≡ [])) }
 {
-    match end {
-        Some(inlet) => inlet.take_kept(),
-        None => None,
-    }
-}
-
-pub fn take_come(end: &mut Option<Inlet>) -> Option<Letter>
-    requires { kept end.old ≡ [] }
-    ensures ring { ring_in end.new ≡ ring_in end.old }
-    ensures some { IfSome result (λ x. taken end.new ≡ taken end.old ++ x ∷ []) }
-    ensures none { IfNone result (taken end.new ≡ taken end.old) }
-    ensures kept { kept end.new ≡ [] }
-    ensures here { IfNone result (here end.new ≡ []) }
-{
-    match end {
-        Some(inlet) => inlet.take_come(),
-        None => None,
-    }
+    let Some(inlet) = end else { unreachable!() };
+    inlet.take()
 }

@@ -17,7 +17,7 @@ pub struct Inlet {
 }
 
 impl Inlet {
-    ghost use Rattle.std.specs.Prelude.{◌≡◌, ◌↔◌, [], ◌∷◌, ◌++◌, false, not, IfSome, IfNone};
+    ghost use Rattle.std.specs.Prelude.{◌≡◌, ◌≢◌, ◌⊎◌, ◌↔◌, [], ◌∷◌, ◌++◌, false, not};
     ghost use Rattle.l4_core_model.specs.Runs.{is_empty};
     ghost use Rattle.l4_mail.specs.Ends.{inlet_ring, inlet_taken, inlet_kept, inlet_here};
 
@@ -38,26 +38,18 @@ impl Inlet {
         !self.kept.is_empty() || !self.ring.is_empty()
     }
 
-    /// Takes the first kept letter.
-    pub fn take_kept(&mut self) -> Option<Letter>
+    /// Takes the first letter that is here: one that is kept, or else one in the ring.
+    #[inline(always)]
+    pub fn take(&mut self) -> Letter
+        requires { inlet_here self.old ≢ [] }
         ensures ring { inlet_ring self.new ≡ inlet_ring self.old }
-        ensures some { IfSome result (λ x. (inlet_taken self.new ≡ inlet_taken self.old ++ x ∷ []) ×
-            (inlet_kept self.old ≡ x ∷ inlet_kept self.new)) }
-        ensures none { IfNone result ((inlet_taken self.new ≡ inlet_taken self.old) ×
-            (inlet_kept self.old ≡ []) × (inlet_kept self.new ≡ [])) }
+        ensures taken { inlet_taken self.new ≡ inlet_taken self.old ++ result ∷ [] }
+        ensures kept { (inlet_kept self.old ≡ result ∷ inlet_kept self.new) ⊎
+            ((inlet_kept self.old ≡ []) × (inlet_kept self.new ≡ [])) }
     {
-        self.kept.pop_front()
-    }
-
-    /// Takes the first letter in the ring. The caller knows that none is kept.
-    pub fn take_come(&mut self) -> Option<Letter>
-        requires { inlet_kept self.old ≡ [] }
-        ensures ring { inlet_ring self.new ≡ inlet_ring self.old }
-        ensures some { IfSome result (λ x. inlet_taken self.new ≡ inlet_taken self.old ++ x ∷ []) }
-        ensures none { IfNone result (inlet_taken self.new ≡ inlet_taken self.old) }
-        ensures kept { inlet_kept self.new ≡ [] }
-        ensures here { IfNone result (inlet_here self.new ≡ []) }
-    {
-        self.ring.pop().ok()
+        match self.kept.pop_front() {
+            Some(letter) => letter,
+            None => self.ring.pop_known(),
+        }
     }
 }

@@ -129,12 +129,14 @@ impl Port {
     /// Takes the next letter, and gives it with the processor that posted it: kept letters first,
     /// then those in the rings, each in order of the posters' numbers. The letters of one processor
     /// come in the order in which it posted them.
+    #[inline(always)]
     pub fn take(&mut self) -> Option<(u8, Letter)>
         ensures some { IfSome result (λ r. HasTaken self.old self.new r.0 r.1) }
         ensures none { IfNone result (IsAsBefore self.old self.new) }
         ensures kept { IfNone result ((from : ℕ) → kept_from self.old from ≡ []) }
         ensures here { IfNone result ((from : ℕ) → here_from self.new from ≡ []) }
     {
-        takes::first(&mut self.inlets)
+        let from = takes::next_inlet(&mut self.inlets)?;
+        Some((from as u8, ends::take(&mut self.inlets[from])))
     }
 }

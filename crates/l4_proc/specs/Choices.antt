@@ -10,9 +10,9 @@ action_of cpu (Letter from) = Handles cpu from
 action_of cpu Core = Turns cpu
 action_of cpu (TickTo clock) = Ticks cpu clock
 
--- What happened to a processor, by the number in its log: below 256 the processor that posted the
--- letter, 256 the core's turn, above it a value of the clock plus 257.
+-- What happened to a processor, by the number in its log: 0 the core's turn, up to 256 one more
+-- than the processor that posted the letter, above it a value of the clock plus 257.
 abbrev pub action_in : (cpu number : ℕ) → Action
 action_in cpu number =
-    if nat_lt number 256 then Handles cpu number
-    else (if number == 256 then Turns cpu else Ticks cpu (number - 257))
+    if number == 0 then Turns cpu
+    else (if nat_lt number 257 then Handles cpu (number - 1) else Ticks cpu (number - 257))

@@ -14,14 +14,17 @@ pub enum Choice {
     TickTo(u64),
 }
 
-// The number of the core's turn. Numbers below it are those of the processors that posted a letter.
-pub(crate) const CORE: u64 = 256;
+// The number of the core's turn. Above it are those of the processors that posted a letter.
+pub(crate) const CORE: u64 = 0;
+
+// The number of a tick to 0. Ticks have the numbers from here on.
+const TICKS: u64 = 257;
 
 /// The number of an event that handles a letter from this processor.
 pub(crate) fn letter_number(from: u8) -> u64
     ensures { (cpu : ℕ) → action_in cpu result ≡ Handles cpu from }
 {
-    u64::from(from)
+    CORE + 1 + u64::from(from)
 }
 
 /// The number of a tick to this value.
@@ -29,7 +32,7 @@ pub(crate) fn tick_number(clock: u64) -> u64
     requires { clock < 2 ^ 62 }
     ensures { (cpu : ℕ) → action_in cpu result ≡ Ticks cpu clock }
 {
-    CORE + 1 + clock
+    TICKS + clock
 }
 
 /// What the number stands for.
@@ -39,9 +42,9 @@ pub(crate) fn choice_of(number: u64) -> Choice
     if number == CORE {
         return Choice::Core;
     }
-    if number < CORE {
-        Choice::Letter(number as u8)
+    if number < TICKS {
+        Choice::Letter((number - CORE - 1) as u8)
     } else {
-        Choice::TickTo(number - CORE - 1)
+        Choice::TickTo(number - TICKS)
     }
 }

@@ -9,3 +9,4 @@ pub mod Plain
 pub mod ReadBack
 pub mod Splits
 pub mod Trimmed
+pub mod WholeLines

@@ -1,7 +1,7 @@
 -- How the list of a schedule is written.
-use Rattle.std.specs.Prelude.{ℕ, ◌+◌, ◌%◌, ◌==◌, if◌then◌else◌, List, [], ◌∷◌, ◌++◌, codes}
+use Rattle.std.specs.Prelude.{ℕ, ◌+◌, ◌%◌, ◌==◌, Bool, false, if◌then◌else◌, List, [], ◌∷◌, ◌++◌, codes}
 use Rattle.std.specs.List.{join_by}
-use Rattle.l4_choices.specs.Entries.{Entry}
+use Rattle.l4_choices.specs.Entries.{Entry, CoreOf}
 use Rattle.l4_schedules.specs.Items.{item_of}
 
 -- The list of some entries: the item of each, with a comma between two.
@@ -24,3 +24,8 @@ in_lines before (entry ∷ entries) =
 abbrev pub recorded_text : List Entry → List ℕ
 recorded_text entries =
     codes "; l4run replay FILE --schedule @NAME\n" ++ in_lines 0 entries ++ codes "\n"
+
+-- A turn of core 0. What a run on one processor records is little else.
+abbrev pub is_first_core : Entry → Bool
+is_first_core (CoreOf cpu) = cpu == 0
+is_first_core _ = false

@@ -1,10 +1,12 @@
 //! The list of a schedule, written.
-ghost use Rattle.std.specs.Prelude.{◌≡◌, ◌<◌, ◌≤◌, ◌+◌, ◌++◌, codes, decimal, flat_map, map, OnOk};
-ghost use Rattle.std.specs.Prelude.{IfOk};
+ghost use Rattle.std.specs.Prelude.{◌≡◌, ◌<◌, ◌≤◌, ◌+◌, ◌%◌, ◌^◌, ◌++◌, codes, decimal, flat_map};
+ghost use Rattle.std.specs.Prelude.{length, map, IfOk, OnOk};
+ghost use Rattle.std.specs.List.{list_all};
 ghost use Rattle.std.specs.Vec.{vec_capacity, vec_len};
 ghost use Rattle.l4_machine.specs.Entries.{entry_from};
 ghost use Rattle.l4_schedules.specs.Items.{item_of};
-ghost use Rattle.l4_schedules.specs.Written.{in_lines, recorded_text, schedule_text, separator};
+ghost use Rattle.l4_schedules.specs.Written.{in_lines, is_first_core, recorded_text, schedule_text};
+ghost use Rattle.l4_schedules.specs.Written.{separator};
 
 use itoa::Buffer;
 use l4_machine::Entry;
@@ -14,8 +16,14 @@ use std::alloc::Global;
 // The number of items in a line of a recorded list.
 const ITEMS_A_LINE: usize = 16;
 
+// A line of turns of core 0. Almost all lines of what a run on one processor records are this one.
+const CORE_LINE: &str = "c0,c0,c0,c0,c0,c0,c0,c0,c0,c0,c0,c0,c0,c0,c0,c0";
+
+// What separates two items has no more.
+const SEPARATOR_BYTES: usize = 2;
+
 // What separates two items, and the item of a letter between the processors 0 to 9, have no more.
-const SHORT_BYTES: usize = 5;
+const SHORT_BYTES: usize = SEPARATOR_BYTES + 3;
 
 /// Appends the list of some entries: the item of each, with a comma between two. `schedule_of`
 /// reads it as these entries, where they are of its machine and not too many. If memory is refused,
@@ -60,8 +68,50 @@ fn push_lines(text: &mut Vec<u8>, entries: &[Entry]) -> Result<(), NoMemory>
     ensures { OnOk result (text.new.items ≡
         text.old.items ++ in_lines 0 (map entry_from entries.now)) }
 {
-    for (before, entry) in entries.iter().enumerate() {
-        push_behind(text, before, entry)?;
+    let mut before = 0;
+    let mut others = entries;
+    while let Some((line, behind)) = others.split_first_chunk::<ITEMS_A_LINE>() {
+        push_line(text, before, line)?;
+        before += ITEMS_A_LINE;
+        others = behind;
+    }
+    push_each(text, before, others)
+}
+
+// Appends the items of a whole line behind `before` others.
+fn push_line(
+    text: &mut Vec<u8>,
+    before: usize,
+    line: &[Entry; ITEMS_A_LINE],
+) -> Result<(), NoMemory>
+    requires begins { before % 16 ≡ 0 }
+    requires fits { before + length line.now < 2 ^ 64 }
+    ensures { OnOk result (text.new.items ≡
+        text.old.items ++ in_lines before (map entry_from line.now)) }
+{
+    if !is_core_line(line) {
+        return push_each(text, before, line);
+    }
+    text.reserve(SEPARATOR_BYTES)?;
+    push_separator(text, before);
+    push_text(text, CORE_LINE)
+}
+
+// Whether all entries of a line are turns of core 0.
+fn is_core_line(line: &[Entry; ITEMS_A_LINE]) -> bool
+    ensures { result ≡ list_all (λ entry. is_first_core (entry_from entry)) line.now }
+{
+    line.iter().all(|entry| matches!(entry, Entry::Core(0)))
+}
+
+// Appends the items of these entries behind `before` others, one by one.
+fn push_each(text: &mut Vec<u8>, before: usize, entries: &[Entry]) -> Result<(), NoMemory>
+    requires { before + length entries.now < 2 ^ 64 }
+    ensures { OnOk result (text.new.items ≡
+        text.old.items ++ in_lines before (map entry_from entries.now)) }
+{
+    for (i, entry) in entries.iter().enumerate() {
+        push_behind(text, before + i, entry)?;
     }
     Ok(())
 }

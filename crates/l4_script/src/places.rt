@@ -1,5 +1,7 @@
 //! Where threads stand in the order of declaration, found by their numbers.
 ghost use Rattle.std.specs.Prelude.{◌≡◌, ◌==◌, ℕ, if◌then◌else◌, Some, None, OnErr, OnOk, IfOk};
+ghost use Rattle.std.specs.Prelude.{nat_eq};
+ghost use Rattle.std.specs.HashMap.{get};
 ghost use Rattle.l4_script.specs.Places.{place_by, slot_of};
 
 use l4_types::errors::NoMemory;
@@ -45,13 +47,22 @@ impl Places {
     }
 
     /// The place of the thread of this number.
+    #[inline(always)]
     pub(crate) fn get(&self, number: u32) -> Option<usize>
         ensures { result ≡ place_by self.now number }
     {
         match self.slots.get(slot_of(number)) {
             Some(Some(placed)) if placed.number == number => Some(usize::from(placed.place)),
-            _ => self.others.get(&number).map(|place| usize::from(*place)),
+            _ => self.get_other(number),
         }
+    }
+
+    // The place of the thread of this number whose slot was taken already.
+    #[inline(never)]
+    fn get_other(&self, number: u32) -> Option<usize>
+        ensures { result ≡ get nat_eq self.now.others number }
+    {
+        self.others.get(&number).map(|place| usize::from(*place))
     }
 
     /// Adds the place of a thread. Its number is not in the table yet.

@@ -6,7 +6,6 @@ ghost use Rattle.l4_types.specs.Flags.{flags_of};
 use crate::ids::GlobalId;
 use crate::messages::Message;
 use crate::tags::MsgTag;
-use arrayvec::ArrayVec;
 use std::marker::Model;
 
 /// A message whose words stay where they are: in a message, in a history, or in message registers 1
@@ -131,11 +130,16 @@ impl<'a> MessageRef<'a> {
     }
 
     /// The message with a copy of the words.
+    #[inline(always)]
     pub fn to_message(&self) -> Message
         ensures { result ≡ self.now }
     {
-        let mut words = ArrayVec::new();
-        words.try_extend_from_slice(self.words).unwrap();
-        Message::new(self.label, self.propagated, words, self.shown, self.actual).unwrap()
+        Message::copied(
+            self.label,
+            self.propagated,
+            self.words,
+            self.shown,
+            self.actual,
+        )
     }
 }

@@ -79,6 +79,36 @@ impl Message {
         })
     }
 
+    // A message with a copy of these words, made in place: a message is large, so it is costly to move.
+    #[inline(always)]
+    pub(crate) fn copied(
+        label: u64,
+        propagated: bool,
+        words: &[u64],
+        shown: GlobalId,
+        actual: GlobalId,
+    ) -> Message
+        requires label { label < label_limit }
+        requires words { length words.now < register_count }
+        ensures { result ≡ record {
+          label = label;
+          words = words.now;
+          propagated = propagated;
+          shown = shown;
+          actual = actual;
+        } }
+    {
+        let mut message = Message {
+            label,
+            propagated,
+            words: ArrayVec::new(),
+            shown,
+            actual,
+        };
+        message.words.try_extend_from_slice(words).unwrap();
+        message
+    }
+
     /// The label, below 2^48.
     pub fn label(&self) -> u64
         ensures value { result ≡ self.now.label }

@@ -126,6 +126,7 @@ impl Wheel {
 
     /// The armed block of the least deadline, if that is at most `now`. Of equal deadlines it is
     /// the one that was armed first.
+    #[inline(always)]
     pub fn first_due(&mut self, now: u64) -> Option<usize>
         ensures due { result ≡ due_block now (armed_of self.old) }
         ensures same { self.new ≡ self.old }

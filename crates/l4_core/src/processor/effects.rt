@@ -271,6 +271,7 @@ impl Core<'_> {
 }
 
 // Passes the message of one block to another, with this tag.
+#[inline(always)]
 fn pass_message(blocks: &mut [Tcb], receiver: usize, sender: usize, tag: MsgTag)
     requires receiver { receiver < length blocks.old }
     requires sender { sender < length blocks.old }
@@ -289,6 +290,7 @@ fn pass_message(blocks: &mut [Tcb], receiver: usize, sender: usize, tag: MsgTag)
 }
 
 // Gives a thread the message that another one sends, with this tag.
+#[inline(always)]
 fn receive_from(receiver: &mut Tcb, sender: &Tcb, tag: MsgTag)
     ensures { receiver.new ≡ passed (word_of_tag tag) sender.now receiver.old }
 {

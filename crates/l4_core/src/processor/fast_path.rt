@@ -13,7 +13,7 @@ use crate::event_buffer::EventBuffer;
 use crate::processor::Core;
 use l4_history::sink::Sink;
 use l4_script::instructions::Ipc;
-use l4_types::step_ref::{DeliveryRef, StepRef};
+use l4_types::step_ref::DeliveryRef;
 
 impl Core<'_> {
     /// Runs an Ipc whose send its receiver takes at once. The send is begun, queued and delivered
@@ -40,17 +40,14 @@ impl Core<'_> {
             self.old self.new buffer.old buffer.new }
     {
         self.known.facts();
-        let name = self.known.next_name(sender);
         let delivery = DeliveryRef {
-            name,
+            name: self.known.next_name(sender),
             receiver: self.known.id(receiver),
             message: self.known.outgoing(sender),
             cross: false,
         };
         let tag = delivery.tag();
-        buffer.emit(StepRef::Begin(name));
-        buffer.emit(StepRef::Queue(name));
-        buffer.emit(StepRef::Deliver(delivery));
+        buffer.emit_sent(delivery);
         self.receive_from(receiver, sender, tag);
         self.pass(sender, ipc);
     }

@@ -92,6 +92,7 @@ impl Core<'_> {
     }
 
     // Runs an instruction that concerns nobody else.
+    #[inline(always)]
     fn run<S: Sink>(&mut self, place: usize, instr: &Instr, buffer: &mut EventBuffer<S>)
         requires hand { IsAtHand self.old place }
         requires instr { instr_of instr.now ≡

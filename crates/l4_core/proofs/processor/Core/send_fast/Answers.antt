@@ -47,11 +47,11 @@ pub returns : goal.returns
 returns g c =
     let v = c.self.view_is in
     let ipc = c.args.ipc.now in
-    fast_does c.args.self.now c.receive_from.new.self c.pass.new.self c.args.receiver c.args.sender c.args.buffer.now c.emit.new.self c.emit-2.new.self c.emit-3.new.self
-    (record { name = c.next_name-name.result; receiver = c.id.result; message = c.outgoing.result; cross = false }) (word_of_tag c.tag-tag.result)
+    fast_does c.args.self.now c.receive_from.new.self c.pass.new.self c.args.receiver c.args.sender c.args.buffer.now c.emit_sent.new.self
+    (record { name = c.next_name.result; receiver = c.id.result; message = c.outgoing.result; cross = false }) (word_of_tag c.tag-tag.result)
     (to_of ipc.to) ipc.from (period_of ipc.send_period) (period_of ipc.receive_period)
     (subst AreCore v c.facts.ensures.core) c.requires.receiver c.requires.hand c.requires.instr c.requires.fast
-    (c.next_name-name.ensures ∙ ap (λ (p : Processor). next_name p.machine p.local c.args.sender) v)
+    (c.next_name.ensures ∙ ap (λ (p : Processor). next_name p.machine p.local c.args.sender) v)
     (c.id.ensures ∙ ap (λ (p : Processor). (declared p.machine c.args.receiver).id) v)
     (c.outgoing.ensures ∙ ap (λ (p : Processor). outgoing (declared p.machine c.args.sender).id (thread p.local c.args.sender)) v)
-    refl c.tag-tag.ensures.word c.emit.ensures c.emit-2.ensures c.emit-3.ensures c.receive_from.ensures c.pass.ensures
+    refl c.tag-tag.ensures.word c.emit_sent.ensures c.receive_from.ensures c.pass.ensures

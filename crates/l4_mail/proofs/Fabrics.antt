@@ -161,15 +161,18 @@ pub on_ok : {T X : Type 0} (r : Result T X) (P Q : Type 0) → (P → Q) → OnO
 on_ok (Ok x) P Q f h = f h
 on_ok (Err x) P Q f h = h
 
--- What a port has carried does not depend on whether it says that it is linked.
+-- What a port has carried does not depend on what it notes of its ends.
 pub vacuous : {A : Type 0} → true ≡ false → A
 vacuous e = absurd cc
 
+pub never : {A : Type 0} → false ≡ true → A
+never e = absurd cc
+
 abbrev pub with_outlet : Port → ℕ → Option Outlet → Port
-with_outlet p i o = record { cpu = p.cpu; linked = true; outlets = with_item p.outlets i o; inlets = p.inlets; few = p.few; ways = λ e. vacuous e }
+with_outlet p i o = record { cpu = p.cpu; linked = true; ready = false; quiet = false; bell = p.bell; heard = p.heard; outlets = with_item p.outlets i o; inlets = p.inlets; few = p.few; ways = λ e. vacuous e; prepared = λ e. never e; silent = λ e. never e }
 
 abbrev pub with_inlet : Port → ℕ → Option Inlet → Port
-with_inlet p i n = record { cpu = p.cpu; linked = true; outlets = p.outlets; inlets = with_item p.inlets i n; few = p.few; ways = λ e. vacuous e }
+with_inlet p i n = record { cpu = p.cpu; linked = true; ready = false; quiet = false; bell = p.bell; heard = p.heard; outlets = p.outlets; inlets = with_item p.inlets i n; few = p.few; ways = λ e. vacuous e; prepared = λ e. never e; silent = λ e. never e }
 
 pub out_rested : (p : Port) (i : ℕ) (o y : Option Outlet) → o ≡ get_or p.outlets.items i o → ring_out y ≡ ring_out o → posted y ≡ posted o → carried (with_outlet p i y) ≡ carried p
 out_rested p i o y is r q =

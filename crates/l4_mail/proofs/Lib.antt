@@ -1,9 +1,10 @@
-pub mod Taken
-pub mod Unlinked
-pub mod Rows
-pub mod Whole
+pub mod Fabrics
+pub mod Growing
 pub mod Keeping
 pub mod Looking
-pub mod Growing
 pub mod Numbers
-pub mod Fabrics
+pub mod Readying
+pub mod Rows
+pub mod Taken
+pub mod Unlinked
+pub mod Whole

@@ -1,5 +1,5 @@
 -- What the two ends of a way have carried: the outlet of the poster, and the inlet of the receiver.
-use Rattle.std.specs.Prelude.{◌≡◌, ℕ, ◌-◌, List, [], ◌++◌, Bool, not, Option, Some, None, slice_index_or}
+use Rattle.std.specs.Prelude.{◌≡◌, ℕ, ◌-◌, ◌≤◌, List, [], ◌++◌, map, Bool, not, Option, Some, None, slice_index_or}
 use Rattle.std.specs.VecDeque.{deque_len, deque_capacity}
 use Rattle.std.specs.declared.alloc.Global.{Global}
 use denote.RawPtr.{Ptr}
@@ -107,6 +107,17 @@ here (Some i) = inlet_here i
 -- Whether a letter is kept here.
 abbrev pub keeps : Option Inlet → Bool
 keeps end = not (is_empty (kept end))
+
+-- Whether a letter waits here for a place in the ring.
+abbrev pub waits : Option Outlet → Bool
+waits end = not (is_empty (waiting end))
+
+-- Each outbox is empty, and has room for two letters where a ring begins.
+pub record AreReady (outlets : List (Option Outlet)) : Type 0 where
+  pub reserved : (to : ℕ) → (ring : RingId) ×
+      (slice_index_or (map ring_out outlets) to None ≡ Some ring) →
+      2 ≤ slice_index_or (map room outlets) to 0
+  pub empty : (to : ℕ) → slice_index_or (map waiting outlets) to [] ≡ []
 
 -- There is no ring to or from any processor.
 pub record HasNoWay (outs ins : List (Option RingId)) : Type 0 where

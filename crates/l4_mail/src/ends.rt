@@ -1,6 +1,7 @@
 //! The ends of rings, by the other processor. A port has none to itself.
 ghost use Rattle.std.specs.Prelude.{◌≡◌, ◌≢◌, ◌↔◌, ◌≤◌, ◌<◌, ◌+◌, [], ◌∷◌, ◌++◌, false, OnOk, IsTrue, Option, None, ◌⊎◌};
-ghost use Rattle.l4_mail.specs.Ends.{ring_out, posted, waiting, free, room, ring_in, taken, kept, here, keeps};
+ghost use Rattle.std.specs.List.{list_any};
+ghost use Rattle.l4_mail.specs.Ends.{ring_out, posted, waiting, free, room, ring_in, taken, kept, here, keeps, waits};
 
 use crate::inlets::Inlet;
 use crate::outlets::Outlet;
@@ -61,6 +62,22 @@ pub fn make_ready(end: &mut Option<Outlet>, letters: usize) -> Result<(), AllocE
     reserve(end, letters)?;
     flush(end);
     Ok(())
+}
+
+pub fn waits(end: &Option<Outlet>) -> bool
+    ensures { result ≡ waits end.now }
+{
+    match end {
+        Some(outlet) => !outlet.outbox.is_empty(),
+        None => false,
+    }
+}
+
+/// Whether a letter waits at one of the outlets.
+pub fn any_waits(outlets: &[Option<Outlet>]) -> bool
+    ensures { result ≡ list_any waits outlets.now }
+{
+    outlets.iter().any(waits)
 }
 
 pub fn keeps_mail(end: &Option<Inlet>) -> bool

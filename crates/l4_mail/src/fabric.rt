@@ -4,6 +4,7 @@ ghost use Rattle.l4_model.specs.Machine.{most_processors};
 ghost use Rattle.l4_mail.specs.Ends.{RingId};
 ghost use Rattle.l4_mail.specs.Fabrics.{most_room, AreFresh, GainsOutlet, GainsInlet, AreMembers};
 
+use crate::bells::Bell;
 use crate::ports::Port;
 use crate::ways;
 use l4_types::errors::NoMemory;
@@ -34,13 +35,19 @@ fn join(alloc: Global, ports: &mut [Port], cpu: u8, room: usize) -> Result<Port,
     let mut next = Port {
         cpu,
         linked: false,
+        ready: false,
+        quiet: false,
         outlets: Vec::new(alloc),
         inlets: Vec::new(alloc),
+        bell: Bell::new(alloc)?,
+        heard: 0,
     };
     for port in ports.iter_mut() {
         lay(alloc, room, port, &mut next)?;
         lay(alloc, room, &mut next, port)?;
     }
+    next.ready = false;
+    next.quiet = false;
     next.outlets.push(None)?;
     next.inlets.push(None)?;
     Ok(next)
@@ -54,9 +61,11 @@ fn lay(alloc: Global, room: usize, from: &mut Port, to: &mut Port) -> Result<(),
     ensures { OnOk result ((ring : RingId) × (ring.capacity ≡ room) ×
         GainsOutlet from.old from.new (Some ring) × GainsInlet to.old to.new (Some ring)) }
 {
-    let (outlet, inlet) = ways::open(alloc, room)?;
+    let (outlet, inlet) = ways::open(alloc, room, to.bell.rope()?)?;
     from.linked = true;
     to.linked = true;
+    from.ready = false;
+    to.quiet = false;
     from.outlets.push(Some(outlet))?;
     to.inlets.push(Some(inlet))?;
     Ok(())

@@ -2,6 +2,7 @@
 ghost use Rattle.std.specs.Prelude.{◌<◌};
 ghost use Rattle.rtrb.specs.Ring.{producer_capacity};
 
+use crate::bells::Bell;
 use l4_types::letters::Letter;
 use rtrb::Producer;
 use std::alloc::AllocError;
@@ -12,6 +13,8 @@ use std::collections::VecDeque;
 pub struct Outlet {
     pub ring: Producer<Letter>,
     pub outbox: VecDeque<Letter>,
+    // That of the processor at the other end.
+    pub bell: Bell,
     pub ghost has_places: { 0 < producer_capacity ring },
 }
 
@@ -62,9 +65,20 @@ impl Outlet {
         }
     }
 
-    // Moves letters from the outbox into the ring, as many as fit.
+    // Moves letters from the outbox into the ring, as many as fit, and rings the bell.
     #[inline(never)]
     fn move_on(&mut self)
+        ensures ring { outlet_ring self.new ≡ outlet_ring self.old }
+        ensures posted { outlet_posted self.new ≡ outlet_posted self.old }
+        ensures room { outlet_room self.old ≤ outlet_room self.new }
+        ensures moved { (outlet_waiting self.new ≡ []) ⊎ (outlet_free self.new ≡ 0) }
+    {
+        self.fill();
+        self.bell.ring();
+    }
+
+    // Moves letters from the outbox into the ring, as many as fit.
+    fn fill(&mut self)
         ensures ring { outlet_ring self.new ≡ outlet_ring self.old }
         ensures posted { outlet_posted self.new ≡ outlet_posted self.old }
         ensures room { outlet_room self.old ≤ outlet_room self.new }

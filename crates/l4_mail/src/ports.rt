@@ -1,8 +1,10 @@
 //! A processor's port.
-ghost use Rattle.std.specs.Prelude.{◌≡◌, ◌≤◌, false, map, vec_len};
+ghost use Rattle.std.specs.Prelude.{◌≡◌, ◌≤◌, false, true, map, vec_len};
 ghost use Rattle.l4_model.specs.Machine.{most_processors};
-ghost use Rattle.l4_mail.specs.Ends.{HasNoWay, ring_in, ring_out};
+ghost use Rattle.l4_mail.specs.Ends.{AreReady, HasNoWay, ring_in, ring_out};
+ghost use Rattle.l4_mail.specs.Takes.{NoneIsHere};
 
+use crate::bells::Bell;
 use crate::inlets::Inlet;
 use crate::outlets::Outlet;
 use crate::{ends, takes};
@@ -17,6 +19,14 @@ pub struct Port {
     // Whether there is a way to another processor. In a fabric of one there is none, and a turn need
     // not look for it.
     pub(crate) linked: bool,
+    // Whether each outbox is empty and has room for two letters: then a turn need not see to it.
+    pub(crate) ready: bool,
+    // Whether no letter was at any inlet when they were looked at last. Then nobody need look again
+    // before the bell is rung.
+    pub(crate) quiet: bool,
+    pub(crate) bell: Bell,
+    // How many times the bell was rung before the inlets were looked at last.
+    pub(crate) heard: usize,
     // By the processor that the letters go to, none for its own.
     pub(crate) outlets: Vec<Option<Outlet>>,
     // By the processor that the letters come from, none for its own.
@@ -24,6 +34,8 @@ pub struct Port {
     pub ghost few: { (vec_len outlets ≤ most_processors) × (vec_len inlets ≤ most_processors) },
     pub ghost ways: { linked ≡ false → HasNoWay (map ring_out outlets.items)
         (map ring_in inlets.items) },
+    pub ghost prepared: { ready ≡ true → AreReady outlets.items },
+    pub ghost silent: { quiet ≡ true → NoneIsHere inlets.items },
 }
 
 impl Port {
@@ -50,6 +62,7 @@ impl Port {
         ensures same { IsAsBefore self.old self.new }
         ensures room { OnOk result ((to : ℕ) → HasWayTo self.new to → 2 ≤ room_to self.new to) }
     {
+        self.ready = false;
         for end in self.outlets.iter_mut() {
             ends::reserve(end, 2)?;
         }
@@ -68,9 +81,25 @@ impl Port {
         if !self.linked {
             return Ok(());
         }
+        if self.ready {
+            return Ok(());
+        }
+        self.prepare()
+    }
+
+    // Does what `make_ready` promises, and notes whether an outbox still has letters.
+    #[inline(never)]
+    fn prepare(&mut self) -> Result<(), NoMemory>
+        ensures same { IsAsBefore self.old self.new }
+        ensures room { OnOk result ((to : ℕ) → HasWayTo self.new to → 2 ≤ room_to self.new to) }
+        ensures moved { OnOk result
+            ((to : ℕ) → (waiting_to self.new to ≡ []) ⊎ (free_to self.new to ≡ 0)) }
+    {
+        self.ready = false;
         for end in self.outlets.iter_mut() {
             ends::make_ready(end, 2)?;
         }
+        self.ready = !ends::any_waits(&self.outlets);
         Ok(())
     }
 
@@ -90,6 +119,7 @@ impl Port {
         requires room { 0 < room_to self.old to }
         ensures posted { HasPosted self.old self.new to letter }
     {
+        self.ready = false;
         ends::post(&mut self.outlets[usize::from(to)], letter);
     }
 
@@ -100,6 +130,7 @@ impl Port {
         ensures same { IsAsBefore self.old self.new }
         ensures moved { (to : ℕ) → (waiting_to self.new to ≡ []) ⊎ (free_to self.new to ≡ 0) }
     {
+        self.ready = false;
         for end in self.outlets.iter_mut() {
             ends::flush(end);
         }
@@ -123,7 +154,25 @@ impl Port {
         if !self.linked {
             return false;
         }
-        takes::has_mail(&mut self.inlets)
+        let rung = self.bell.times();
+        if self.quiet && rung == self.heard {
+            return false;
+        }
+        self.heard = rung;
+        self.look()
+    }
+
+    // Whether there is a letter to take, by a look into each ring.
+    #[inline(never)]
+    fn look(&mut self) -> bool
+        ensures same { IsAsBefore self.old self.new }
+        ensures none { result ≡ false → (from : ℕ) → kept_from self.old from ≡ [] }
+        ensures here { (result ≡ false) ↔ ((from : ℕ) → here_from self.new from ≡ []) }
+    {
+        self.quiet = false;
+        let has_mail = takes::has_mail(&mut self.inlets);
+        self.quiet = !has_mail;
+        has_mail
     }
 
     /// Takes the next letter, and gives it with the processor that posted it: kept letters first,
@@ -136,6 +185,7 @@ impl Port {
         ensures kept { IfNone result ((from : ℕ) → kept_from self.old from ≡ []) }
         ensures here { IfNone result ((from : ℕ) → here_from self.new from ≡ []) }
     {
+        self.quiet = false;
         let from = takes::next_inlet(&mut self.inlets)?;
         Some((from as u8, ends::take(&mut self.inlets[from])))
     }

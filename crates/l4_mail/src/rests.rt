@@ -35,6 +35,8 @@ fn rest_between(from: &mut Port, to: &mut Port) -> Result<(), AllocError>
     ensures others { (k : ℕ) → k ≢ from.old.cpu → kept_from to.new k ≡ kept_from to.old k }
     ensures whole { OnOk result (IsWhole (carried from.new) (carried to.new)) }
 {
+    from.ready = false;
+    to.quiet = false;
     ways::rest(
         &mut from.outlets[usize::from(to.cpu)],
         &mut to.inlets[usize::from(from.cpu)],

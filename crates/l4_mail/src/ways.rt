@@ -4,6 +4,7 @@ ghost use Rattle.std.specs.VecDeque.{deque_len, deque_capacity};
 ghost use Rattle.rtrb.specs.Ring.{sent, received, known_items, producer_capacity, IsPair, SameProducer, SameConsumer};
 ghost use Rattle.l4_mail.specs.Ends.{outlet_ring, outlet_posted, outlet_room, inlet_ring, inlet_taken, inlet_kept, RingId, ring_out, posted, room, ring_in, taken, kept};
 
+use crate::bells::Bell;
 use crate::inlets::Inlet;
 use crate::outlets::Outlet;
 use l4_types::letters::Letter;
@@ -11,8 +12,8 @@ use rtrb::{Consumer, Producer, RingBuffer};
 use std::alloc::{AllocError, Global};
 use std::collections::VecDeque;
 
-/// The two ends of a new ring with room for some letters.
-pub fn open(alloc: Global, room: usize) -> Result<(Outlet, Inlet), AllocError>
+/// The two ends of a new ring with room for some letters, to a processor with this bell.
+pub fn open(alloc: Global, room: usize, bell: Bell) -> Result<(Outlet, Inlet), AllocError>
     requires { 0 < room }
     ensures ring { IfOk result (λ way. outlet_ring way.0 ≡ inlet_ring way.1) }
     ensures room { IfOk result (λ way. (outlet_ring way.0).capacity ≡ room) }
@@ -23,6 +24,7 @@ pub fn open(alloc: Global, room: usize) -> Result<(Outlet, Inlet), AllocError>
     let outlet = Outlet {
         ring: producer,
         outbox: VecDeque::new(alloc),
+        bell,
     };
     let inlet = Inlet {
         ring: consumer,

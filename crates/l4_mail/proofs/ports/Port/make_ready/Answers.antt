@@ -1,33 +1,6 @@
-use Rattle.std.proofs.Common.{◌<◌, ◌≤◌, length, inl, refl, arith}
-use Rattle.l4_mail.proofs.Rows.{set_as_before, room_before}
-use Rattle.l4_mail.proofs.Whole.{outlets_changed, rooms_reserved, moved_before, all_moved}
+use Rattle.std.proofs.Common.{inl}
 use Rattle.l4_mail.proofs.Unlinked.{none_waiting}
 use Rattle.l4_mail.proofs.ports.Port.make_ready.Goals as goal
-
-pub returns-in_err-make_ready-clause-same : goal.returns-in_err-make_ready-clause-same
-returns-in_err-make_ready-clause-same c = outlets_changed _ _ _ refl refl refl
-    (set_as_before _ _ _ _ c.end-item.result c.make_ready.ensures.ring c.make_ready.ensures.posted c.make_ready.ensures.grown c.loop-end.invariant.same)
-
-pub loop-end-preserved : goal.loop-end-preserved
-loop-end-preserved c =
-    let lt : c.loop-end.end-index < length c.loop-end.end-items = (let t = c.loop-end-test.true in let e = c.loop-end.auto.end-items in omega arith) in record {
-      same = set_as_before _ _ _ _ c.end-item.result c.make_ready.ensures.ring c.make_ready.ensures.posted c.make_ready.ensures.grown c.loop-end.invariant.same;
-      room_so_far = room_before _ _ _ _ c.end-item.result c.make_ready.ensures.ring c.make_ready.ensures.grown c.in_ok-make_ready.ensures.room lt c.loop-end.invariant.room_so_far;
-      moved = moved_before _ _ _ lt c.in_ok-make_ready.ensures.moved c.loop-end.invariant.moved;
-    }
-
-pub returns-clause-same : goal.returns-clause-same
-returns-clause-same c = outlets_changed _ _ _ refl refl refl c.loop-end.invariant.same
-
-pub returns-clause-room : goal.returns-clause-room
-returns-clause-room c =
-    let le : length c.loop-end.end-items ≤ c.loop-end.end-index = (let t = c.loop-end-test.false in let e = c.loop-end.auto.end-items in omega arith) in
-    rooms_reserved c.args.self.now _ 2 _ c.loop-end.invariant.same c.loop-end.invariant.room_so_far le
-
-pub returns-clause-moved : goal.returns-clause-moved
-returns-clause-moved c =
-    let le : length c.loop-end.end-items ≤ c.loop-end.end-index = (let t = c.loop-end-test.false in let e = c.loop-end.auto.end-items in omega arith) in
-    all_moved c.args.self.now _ _ c.loop-end.invariant.same c.loop-end.invariant.moved le
 
 pub returns-then-not-self-clause-moved : goal.returns-then-not-self-clause-moved
 returns-then-not-self-clause-moved c = λ to. inl (none_waiting c.args.self.now.outlets.items (c.args.self.now.ways c.if-not-self.true).out to)

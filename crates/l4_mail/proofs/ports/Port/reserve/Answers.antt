@@ -28,4 +28,6 @@ invariant_of-self-in-Break-1 c = record {
   few = c.args.self.now.few;
   ways = ways_before c.args.self.now _
       (set_as_before _ _ _ _ c.end-item.result c.reserve.ensures.ring c.reserve.ensures.posted c.reserve.ensures.grown c.loop-end.invariant.same);
+  prepared = λ yes. absurd cc;
+  silent = c.args.self.now.silent;
 }

@@ -15,6 +15,8 @@ invariant_of-self-2 c =
           (map-set_same ring_in _ c.in_ok-from.from c.take.new.end c.index_mut.result.now (c.take.ensures.ring ∙ ap ring_in c.index_mut.ensures.value)
           ∙ ap (map ring_in) (items_there old c.next_inlet.new.inlets rings) ∙ rings)
           old.ways;
+      prepared = old.prepared;
+      silent = λ yes. absurd cc;
     }
 
 pub returns-clause-some : goal.returns-clause-some

@@ -1,6 +1,6 @@
 use Rattle.l4_mail.proofs.Rows.{AreAsBefore, HaveRoom}
 use Rattle.l4_mail.proofs.Whole.{HaveMoved}
-use Rattle.l4_mail.proofs.ports.Port.make_ready.Given as goal
+use Rattle.l4_mail.proofs.ports.Port.prepare.Given as goal
 
 abbrev pub invariant-loop-end : goal.invariant-loop-end
 invariant-loop-end l = record {

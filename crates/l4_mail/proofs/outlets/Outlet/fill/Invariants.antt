@@ -1,7 +1,7 @@
 use Rattle.std.proofs.Common.{◌≡◌, ◌≤◌, ◌+◌}
 use Rattle.rtrb.specs.Ring.{known_free}
 use Rattle.l4_mail.specs.Ends.{outlet_ring, outlet_posted, outlet_room}
-use Rattle.l4_mail.proofs.outlets.Outlet.move_on.Given as goal
+use Rattle.l4_mail.proofs.outlets.Outlet.fill.Given as goal
 
 abbrev pub invariant-loop : goal.invariant-loop
 invariant-loop l = record {

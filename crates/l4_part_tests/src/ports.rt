@@ -31,9 +31,10 @@ pub(crate) fn gives(port: &mut Port, poster: u8, stamp: u64) -> bool {
 
 fn may_move<T: Send>(_: &T) {}
 
-// Whether a letter of this stamp arrives with the flush, and not before.
+// Whether a letter of this stamp arrives with the flush, and not before. The receiver has looked in
+// vain then, so it looks again only since its bell is rung.
 fn arrives(poster: &mut Port, receiver: &mut Port, stamp: u64) -> bool {
-    if receiver.has_mail() || receiver.take().is_some() {
+    if receiver.take().is_some() || receiver.has_mail() {
         return false;
     }
     poster.flush();

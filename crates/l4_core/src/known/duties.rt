@@ -1,6 +1,6 @@
 //! The duties of a processor: what it has to do before it goes on with an instruction.
-ghost use Rattle.std.specs.Prelude.{◌≡◌, ◌<◌, ◌||◌, is_some, true, false, None, Some, find, length};
-ghost use Rattle.std.specs.Prelude.{slice_index_or};
+ghost use Rattle.std.specs.Prelude.{◌≡◌, ◌<◌, ◌||◌, ◌&&◌, is_some, not, true, false, None, Some, find};
+ghost use Rattle.std.specs.Prelude.{length, slice_get, slice_index_or};
 ghost use Rattle.std.specs.Option.{option_map};
 ghost use Rattle.l4_model.specs.World.{is_deleted, receive_now};
 ghost use Rattle.l4_model.specs.Conditions.{may_still_accept, call_accepts, is_elsewhere};
@@ -230,15 +230,17 @@ impl ProcessorState<'_> {
         }
     }
 
-    /// Whether a thread of this processor has a duty, or a send of timeout zero may wait at it, as
-    /// `may_have_zero` says.
+    /// Whether a thread of this processor has a duty, or a send waits at it while it neither runs nor
+    /// sends, or one of timeout zero may wait at it, as `may_have_zero` says. Which of the sends that
+    /// wait it takes is looked for by the turn alone.
     #[inline(always)]
     pub(crate) fn may_have_duty(&self, place: usize, may_have_zero: bool) -> bool
         requires own { IsOwnOf self.now place }
         requires zeros { may_have_zero ≡ false →
             first_zero self.now.local (list_of self.now.local.lists place) ≡ None }
         ensures { result ≡
-            (may_have_zero || is_some
+            (may_have_zero || (not (runs_or_sends (thread self.now.local place)) && is_some
+            (slice_get (list_of self.now.local.lists place) 0)) || is_some
             (duty_at self.now.machine self.now.cpu self.now.local place)) }
     {
         self.facts();
@@ -248,7 +250,16 @@ impl ProcessorState<'_> {
         if self.runs_or_sends(place) {
             return self.keeps_owed(place);
         }
-        self.duty_at(place, false).is_some()
+        self.has_waiting(place) || self.duty_at(place, false).is_some()
+    }
+
+    // Whether a send waits at a thread.
+    #[inline(always)]
+    fn has_waiting(&self, place: usize) -> bool
+        requires { place < length self.now.machine.threads }
+        ensures { result ≡ is_some (slice_get (list_of self.now.local.lists place) 0) }
+    {
+        self.lists.waiting_at(place).next().is_some()
     }
 
     // Whether a thread is ready, or in a send phase that is not cancelled: its duty is a retarget

@@ -12,5 +12,5 @@ returns-then-runs_or_sends c =
     let p = c.args.self.now in
     let core = c.facts.ensures.core in
     let free : (thread p.local c.args.place).phase ≡ Ready → is_queued p.local.lists c.args.place ≡ false = λ ready. unqueued p.machine p.cpu p.local c.args.place core.settled c.requires.own.own (ready_not_sends _ ready) in
-    c.keeps_owed.ensures ∙ sym (runs_or_sends_owes p.machine p.cpu p.local c.args.place (sym c.runs_or_sends.ensures ∙ c.if-runs_or_sends.true) free (c.requires.zeros c.if-may_have_zero.false))
-    ∙ ap (λ b. b || is_some (duty_at p.machine p.cpu p.local c.args.place)) (sym c.if-may_have_zero.false)
+    rw (c.if-may_have_zero.false, sym c.runs_or_sends.ensures ∙ c.if-runs_or_sends.true)
+    (c.keeps_owed.ensures ∙ sym (runs_or_sends_owes p.machine p.cpu p.local c.args.place (sym c.runs_or_sends.ensures ∙ c.if-runs_or_sends.true) free (c.requires.zeros c.if-may_have_zero.false)))

@@ -1,10 +1,9 @@
 //! Letters.
-ghost use Rattle.std.specs.Prelude.{OnOk, map};
-ghost use Rattle.l4_choices.specs.Alike.{contents};
-ghost use Rattle.l4_states.specs.Codes.{cause_code, chained, content_code, owed_code, refusal_code};
+ghost use Rattle.std.specs.Prelude.{◌≡◌, OnOk, length};
+ghost use Rattle.l4_states.specs.Codes.{cause_code, content_code, owed_code, refusal_code};
 ghost use Rattle.l4_states.specs.Codes.{result_code};
-ghost use Rattle.l4_types.specs.LetterView.{cause_of_withdrawal, content_of, decision_of};
-ghost use Rattle.l4_types.specs.LetterView.{letter_of, refusal_of_send};
+ghost use Rattle.l4_types.specs.LetterHeads.{content_with, word_count};
+ghost use Rattle.l4_types.specs.LetterView.{cause_of_withdrawal, decision_of, refusal_of_send};
 ghost use Rattle.l4_types.specs.OwedView.{owed_of};
 ghost use Rattle.l4_codes.specs.Written.{Writes};
 
@@ -12,26 +11,10 @@ use crate::code::Code;
 use crate::ids::{put_global, put_name};
 use crate::messages::put_message;
 use crate::threads::put_order_kind;
-use l4_types::letters::{Cause, Content, Decision, Letter, Refusal};
-use l4_types::message_ref::MessageRef;
+use l4_types::letter_ref::LetterRef;
+use l4_types::letters::{Cause, Content, Decision, Refusal};
 use l4_types::owed::Owed;
 use std::alloc::AllocError;
-use std::collections::VecDeque;
-
-/// Appends the contents of letters, in order.
-///
-/// `AllocError`: memory was refused.
-pub fn put_letters(code: &mut Code, letters: &VecDeque<Letter>) -> Result<(), AllocError>
-    ensures { OnOk result (Writes
-        (chained content_code (contents (map letter_of letters.now.items)))
-        code.old code.new) }
-{
-    for letter in letters {
-        code.put(1)?;
-        put_content(code, &letter.content)?;
-    }
-    code.put(0)
-}
 
 /// Appends an owed retarget.
 ///
@@ -84,8 +67,18 @@ fn put_cause(code: &mut Code, cause: Cause) -> Result<(), AllocError>
 /// Appends the content of a letter.
 ///
 /// `AllocError`: memory was refused.
-pub fn put_content(code: &mut Code, content: &Content) -> Result<(), AllocError>
-    ensures { OnOk result (Writes (content_code (content_of content.now)) code.old code.new) }
+pub fn put_letter(code: &mut Code, letter: &LetterRef<'_>) -> Result<(), AllocError>
+    ensures { OnOk result (Writes (content_code letter.now.content) code.old code.new) }
+{
+    let (head, words) = letter.parts();
+    put_content(code, &head.content, words)
+}
+
+// Appends the content of a letter whose message has these words.
+fn put_content(code: &mut Code, content: &Content, words: &[u64]) -> Result<(), AllocError>
+    requires { length words.now ≡ word_count content.now }
+    ensures { OnOk result (Writes (content_code (content_with words.now content.now))
+        code.old code.new) }
 {
     match content {
         Content::Send {
@@ -97,7 +90,7 @@ pub fn put_content(code: &mut Code, content: &Content) -> Result<(), AllocError>
             code.put(0)?;
             put_name(code, *name)?;
             put_global(code, *receiver)?;
-            put_message(code, &MessageRef::from(message))?;
+            put_message(code, &message.with(words))?;
             code.put_flag(*zero_timeout)
         }
         Content::Done { name, decision } => {

@@ -16,8 +16,9 @@ use Rattle.l4_types.specs.declared.letters.Cause.{Cause}
 use Rattle.l4_types.specs.declared.letters.Cause.TheVariants.{ByTimeout, ByCancel, ByDeletion}
 use Rattle.l4_types.specs.declared.letters.Content.{Content}
 use Rattle.l4_types.specs.declared.letters.Content.TheVariants.{Send, Done, Withdraw, Gone, Order, OrderDone, Retarget}
-use Rattle.l4_types.specs.declared.letters.Letter.{Letter}
-use Rattle.l4_types.specs.LetterView.{content_of, letter_of, cause_of_withdrawal, refusal_of_send}
+use Rattle.l4_types.specs.declared.letters.LetterHead.{LetterHead}
+use Rattle.l4_types.specs.LetterHeads.{content_with, letter_with, message_with}
+use Rattle.l4_types.specs.LetterView.{cause_of_withdrawal, refusal_of_send}
 use Rattle.l4_core_model.specs.Letters.{refusal_of}
 use Rattle.l4_core.specs.declared.known.tasks.Task.{Task}
 use Rattle.l4_core.specs.declared.known.tasks.Task.TheVariants.{Arrive, End, Refuse, Leave, NoteGone, Obey, FinishOrder}
@@ -101,43 +102,43 @@ withdrawn_both m cpu k cause x None q = refl
 withdrawn_both m cpu k cause x (Some r) None = refl
 withdrawn_both m cpu k cause x (Some r) (Some i) = ap Some (withdrawn_is m cpu i k cause x)
 
-handled_is : (m : Machine) (cpu : ℕ) (c : Content) (x : Work) → handled m cpu (content_of c) x ≡ option_map (λ t. does_task m cpu t x) (task_of m cpu x.local c)
-handled_is m cpu (Send name to message zero_timeout) x =
+handled_is : (m : Machine) (cpu : ℕ) (words : List ℕ) (c : Content) (x : Work) → handled m cpu (content_with words c) x ≡ option_map (λ t. does_task m cpu t x) (task_of m cpu x.local words c)
+handled_is m cpu words (Send name to message zero_timeout) x =
     found_all (λ t. does_task m cpu t x) (own_place m cpu to) (foreign_place m cpu name.thread) (λ i. is_none (thread x.local i).send) (same_id message.actual name.thread) (is_declared m message.shown)
-    (λ r i. Arrive r i name to message zero_timeout)
-handled_is m cpu (Done name decision) x =
+    (λ r i. Arrive r i name to (message_with words message) zero_timeout)
+handled_is m cpu words (Done name decision) x =
     found_and (λ t. does_task m cpu t x) (own_place m cpu name.thread) (λ i. is_some (split_place m cpu x.local i)) (λ i. (thread x.local i).context.begun == name.k) (λ i. End i decision)
-handled_is m cpu (Withdraw name to cause) x =
+handled_is m cpu words (Withdraw name to cause) x =
     withdrawn_both m cpu name.k cause x (own_place m cpu to) (foreign_place m cpu name.thread)
     ∙ found_both (λ t. does_task m cpu t x) (own_place m cpu to) (foreign_place m cpu name.thread) (λ r i. refused_if (waits_here x.local i name.k) i (refusal_for cause))
-handled_is m cpu (Gone id) x = found (λ t. does_task m cpu t x) (foreign_place m cpu id) (λ i. NoteGone i)
-handled_is m cpu (Order caller target what) x = found_both (λ t. does_task m cpu t x) (own_place m cpu target) (foreign_place m cpu caller) (λ j i. Obey j i caller what)
-handled_is m cpu (OrderDone caller) x =
+handled_is m cpu words (Gone id) x = found (λ t. does_task m cpu t x) (foreign_place m cpu id) (λ i. NoteGone i)
+handled_is m cpu words (Order caller target what) x = found_both (λ t. does_task m cpu t x) (own_place m cpu target) (foreign_place m cpu caller) (λ j i. Obey j i caller what)
+handled_is m cpu words (OrderDone caller) x =
     found_if (λ t. does_task m cpu t x) (own_place m cpu caller) (λ i. is_deleted (thread x.local i).phase || is_ordering (thread x.local i).phase) (λ i. FinishOrder i)
-handled_is m cpu (Retarget o) x =
+handled_is m cpu words (Retarget o) x =
     found_lawful (λ t. does_task m cpu t x) m.retargeting (own_place m cpu o.originator) (is_declared m o.old_partner) (is_some (foreign_place m cpu o.new_partner)) (λ j. tasks.Retarget j o)
 
 -- The stamp is of no matter for what a letter asks for.
-task_stamped : (m : Machine) (cpu : ℕ) (l : Local) (stamp : ℕ) (c : Content) → task_of m cpu (record l { stamp = stamp }) c ≡ task_of m cpu l c
-task_stamped m cpu l stamp (Send name to message zero_timeout) = refl
-task_stamped m cpu l stamp (Done name decision) = refl
-task_stamped m cpu l stamp (Withdraw name to cause) = refl
-task_stamped m cpu l stamp (Gone id) = refl
-task_stamped m cpu l stamp (Order caller target what) = refl
-task_stamped m cpu l stamp (OrderDone caller) = refl
-task_stamped m cpu l stamp (Retarget o) = refl
+task_stamped : (m : Machine) (cpu : ℕ) (l : Local) (stamp : ℕ) (words : List ℕ) (c : Content) → task_of m cpu (record l { stamp = stamp }) words c ≡ task_of m cpu l words c
+task_stamped m cpu l stamp words (Send name to message zero_timeout) = refl
+task_stamped m cpu l stamp words (Done name decision) = refl
+task_stamped m cpu l stamp words (Withdraw name to cause) = refl
+task_stamped m cpu l stamp words (Gone id) = refl
+task_stamped m cpu l stamp words (Order caller target what) = refl
+task_stamped m cpu l stamp words (OrderDone caller) = refl
+task_stamped m cpu l stamp words (Retarget o) = refl
 
-handle_is : (m : Machine) (cpu : ℕ) (l : Local) (letter : Letter) → handle m cpu l (letter_of letter) ≡ option_map (λ t. does_task m cpu t (opened letter.stamp l)) (task_of m cpu l letter.content)
-handle_is m cpu l letter =
-    handled_is m cpu letter.content (opened letter.stamp l) ∙ ap (option_map (λ t. does_task m cpu t (opened letter.stamp l))) (task_stamped m cpu l (next_stamp letter.stamp l) letter.content)
+handle_is : (m : Machine) (cpu : ℕ) (l : Local) (words : List ℕ) (head : LetterHead) → handle m cpu l (letter_with words head) ≡ option_map (λ t. does_task m cpu t (opened head.stamp l)) (task_of m cpu l words head.content)
+handle_is m cpu l words head =
+    handled_is m cpu words head.content (opened head.stamp l) ∙ ap (option_map (λ t. does_task m cpu t (opened head.stamp l))) (task_stamped m cpu l (next_stamp head.stamp l) words head.content)
 
 -- What a letter asks for is found exactly where it is lawful.
-pub unlawful : (p : Processor) (letter : Letter) → None ≡ task_of p.machine p.cpu p.local letter.content → handle p.machine p.cpu p.local (letter_of letter) ≡ None
-unlawful p letter e = handle_is p.machine p.cpu p.local letter ∙ ap (option_map (λ t. does_task p.machine p.cpu t (opened letter.stamp p.local))) (sym e)
+pub unlawful : (p : Processor) (words : List ℕ) (head : LetterHead) → None ≡ task_of p.machine p.cpu p.local words head.content → handle p.machine p.cpu p.local (letter_with words head) ≡ None
+unlawful p words head e = handle_is p.machine p.cpu p.local words head ∙ ap (option_map (λ t. does_task p.machine p.cpu t (opened head.stamp p.local))) (sym e)
 
-pub lawful : (p : Processor) (letter : Letter) (task : Task) → Some task ≡ task_of p.machine p.cpu p.local letter.content →
-    handle p.machine p.cpu p.local (letter_of letter) ≡ Some (does_task p.machine p.cpu task (opened letter.stamp p.local))
-lawful p letter task e = handle_is p.machine p.cpu p.local letter ∙ ap (option_map (λ t. does_task p.machine p.cpu t (opened letter.stamp p.local))) (sym e)
+pub lawful : (p : Processor) (words : List ℕ) (head : LetterHead) (task : Task) → Some task ≡ task_of p.machine p.cpu p.local words head.content →
+    handle p.machine p.cpu p.local (letter_with words head) ≡ Some (does_task p.machine p.cpu task (opened head.stamp p.local))
+lawful p words head task e = handle_is p.machine p.cpu p.local words head ∙ ap (option_map (λ t. does_task p.machine p.cpu t (opened head.stamp p.local))) (sym e)
 
 pub task_kept : (p q : Processor) (task : Task) (stamp : ℕ) → IsTask task p → q ≡ with_local p (record p.local { stamp = stamp }) → IsTask task q
 task_kept p q task stamp t is = subst (IsTask task) (sym is) (by task t)
@@ -152,14 +153,14 @@ task_kept p q task stamp t is = subst (IsTask task) (sym is) (by task t)
     by (FinishOrder i) t = record { own = t.own; waits = t.waits }
     by (tasks.Retarget j o) t = t
 
-pub handled_event : (p q r : Processor) (letter : Letter) (task : Task) (before after : EventBuffer) (stamp : ℕ) → Some task ≡ task_of p.machine p.cpu p.local letter.content →
-    q ≡ with_local p (record p.local { stamp = next_stamp letter.stamp p.local }) → stamp ≡ next_stamp letter.stamp p.local → IsOpen before → Does (does_task q.machine q.cpu task) q r before after →
-    IsEvent (handle p.machine p.cpu p.local (letter_of letter)) p r before after stamp
-handled_event p q r letter task before after stamp e is stamped untold d = record {
+pub handled_event : (p q r : Processor) (words : List ℕ) (head : LetterHead) (task : Task) (before after : EventBuffer) (stamp : ℕ) → Some task ≡ task_of p.machine p.cpu p.local words head.content →
+    q ≡ with_local p (record p.local { stamp = next_stamp head.stamp p.local }) → stamp ≡ next_stamp head.stamp p.local → IsOpen before → Does (does_task q.machine q.cpu task) q r before after →
+    IsEvent (handle p.machine p.cpu p.local (letter_with words head)) p r before after stamp
+handled_event p q r words head task before after stamp e is stamped untold d = record {
   machine = d.machine ∙ ap (λ (x : Processor). x.machine) is;
   cpu = d.cpu ∙ ap (λ (x : Processor). x.cpu) is;
   kept = d.kept;
-  is = lawful p letter task e ∙ ap Some (sym (d.work ∙ ap (λ (x : Processor). does_task x.machine x.cpu task (work x.local before)) is ∙ ap (does_task p.machine p.cpu task) (opened_work _ before untold)));
+  is = lawful p words head task e ∙ ap Some (sym (d.work ∙ ap (λ (x : Processor). does_task x.machine x.cpu task (work x.local before)) is ∙ ap (does_task p.machine p.cpu task) (opened_work _ before untold)));
   stamped = stamped ∙ sym (d.stamp ∙ ap (λ (x : Processor). x.local.stamp) is);
 }
 

@@ -17,6 +17,7 @@ mod Keeping
 mod Noting
 mod Opening
 mod Ordering
+mod Outboxes
 mod Owing
 mod Parting
 mod Passing

@@ -2,9 +2,7 @@
 use Rattle.std.specs.Prelude.{◌≡◌, ℕ, ◌≤◌, List, [], ◌∷◌, ◌++◌, ◌-◌}
 use Rattle.l4_model.specs.Steps.{Step}
 use Rattle.l4_core_model.specs.Letters as letters
-use Rattle.l4_types.specs.declared.letters.Letter.{Letter}
 use Rattle.l4_types.specs.declared.step_ref.DeliveryRef.{DeliveryRef}
-use Rattle.l4_types.specs.LetterView.{letter_of}
 use Rattle.l4_history.specs.Sent.{sent}
 
 -- The steps told before the event under way; the steps of this event, and the letters that it
@@ -15,9 +13,6 @@ pub record EventBuffer : Type 0 where
   pub letters : List (ℕ × letters.Letter)
   pub room : ℕ
   pub slots : ℕ
-
-abbrev pub posted_of : ℕ × Letter → ℕ × letters.Letter
-posted_of p = (p.0, letter_of p.1)
 
 -- The event under way has told and posted nothing yet, and there is room for all that an event may
 -- tell and post.

@@ -4,6 +4,7 @@ pub mod Choosing
 pub mod Covered
 pub mod FastPath
 pub mod Opening
+pub mod Outboxes
 pub mod Parts
 pub mod Places
 pub mod Processor

@@ -1,5 +1,5 @@
 -- What a letter asks of a processor, found before anything changes.
-use Rattle.std.specs.Prelude.{◌≡◌, ℕ, ◌<◌, ◌==◌, Bool, true, false, if◌then◌else◌, ◌||◌, Option, Some, is_some, is_none, length}
+use Rattle.std.specs.Prelude.{◌≡◌, ℕ, ◌<◌, ◌==◌, Bool, true, false, if◌then◌else◌, ◌||◌, Option, Some, is_some, is_none, List, length}
 use Rattle.l4_model.specs.Words.{same_id}
 use Rattle.l4_model.specs.Machine.{Machine, is_declared}
 use Rattle.l4_model.specs.World.{Message, is_deleted}
@@ -15,6 +15,7 @@ use Rattle.l4_types.specs.declared.letters.Cause.{Cause}
 use Rattle.l4_types.specs.declared.letters.Cause.TheVariants.{ByTimeout, ByCancel, ByDeletion}
 use Rattle.l4_types.specs.declared.letters.Content.{Content}
 use Rattle.l4_types.specs.declared.letters.Content.TheVariants as content
+use Rattle.l4_types.specs.LetterHeads.{message_with}
 use Rattle.l4_types.specs.LetterView.{decision_of, refusal_of_send}
 use Rattle.l4_types.specs.OwedView.{owed_of}
 use Rattle.l4_types.specs.StepView.{order_kind_of}
@@ -32,36 +33,37 @@ refusal_for ByDeletion = Dropped
 abbrev pub refused_if : Bool → ℕ → Refusal → Task
 refused_if waits i refusal = if waits then Refuse i refusal else Leave
 
--- None if the letter is not lawful here.
-abbrev pub task_of : Machine → (cpu : ℕ) → Local → Content → Option Task
-task_of m cpu l (content.Send name to message zero_timeout) = do
+-- None if the letter, whose message has these words, is not lawful here.
+abbrev pub task_of : Machine → (cpu : ℕ) → Local → (words : List ℕ) →
+    Content → Option Task
+task_of m cpu l words (content.Send name to message zero_timeout) = do
   r ← own_place m cpu to
   i ← foreign_place m cpu name.thread
   is_none (thread l i).send
   same_id message.actual name.thread
   is_declared m message.shown
-  Some (Arrive r i name to message zero_timeout)
-task_of m cpu l (content.Done name decision) = do
+  Some (Arrive r i name to (message_with words message) zero_timeout)
+task_of m cpu l words (content.Done name decision) = do
   i ← own_place m cpu name.thread
   is_some (split_place m cpu l i)
   (thread l i).context.begun == name.k
   Some (End i decision)
-task_of m cpu l (content.Withdraw name to cause) = do
+task_of m cpu l words (content.Withdraw name to cause) = do
   r ← own_place m cpu to
   i ← foreign_place m cpu name.thread
   Some (refused_if (waits_here l i name.k) i (refusal_for cause))
-task_of m cpu l (content.Gone id) = do
+task_of m cpu l words (content.Gone id) = do
   i ← foreign_place m cpu id
   Some (NoteGone i)
-task_of m cpu l (content.Order caller target what) = do
+task_of m cpu l words (content.Order caller target what) = do
   j ← own_place m cpu target
   i ← foreign_place m cpu caller
   Some (Obey j i caller what)
-task_of m cpu l (content.OrderDone caller) = do
+task_of m cpu l words (content.OrderDone caller) = do
   i ← own_place m cpu caller
   is_deleted (thread l i).phase || is_ordering (thread l i).phase
   Some (FinishOrder i)
-task_of m cpu l (content.Retarget o) = do
+task_of m cpu l words (content.Retarget o) = do
   m.retargeting
   j ← own_place m cpu o.originator
   is_declared m o.old_partner

@@ -1,14 +1,13 @@
 -- An event as a value.
 use Rattle.std.specs.Prelude.{◌≡◌, ℕ, Option, Some, None, List, map}
 use Rattle.l4_core_model.specs.Acts.{Work}
+use Rattle.l4_core_model.specs.Letters.{Letter}
 use Rattle.l4_core_model.specs.Turns as turns
 use Rattle.l4_types.specs.StepView.{step_of}
 use Rattle.l4_types.specs.declared.steps.Event.{Event}
-use Rattle.l4_types.specs.declared.letters.Letter.{Letter}
 use Rattle.l4_core.specs.declared.processor.values.Turn.{Turn}
 use Rattle.l4_core.specs.declared.processor.values.Turn.TheVariants.{Did, Idle}
 use Rattle.l4_core.specs.Processor.{Processor}
-use Rattle.l4_core.specs.EventBuffers.{posted_of}
 
 -- An event was told, as a value, with the letters that it posts.
 pub record IsToldEvent (event : Option Work) (old new : Processor) (told : Event)
@@ -18,7 +17,7 @@ pub record IsToldEvent (event : Option Work) (old new : Processor) (told : Event
   pub is : event ≡ Some (record {
     local = new.local;
     steps = map step_of told.steps.items;
-    letters = map posted_of letters;
+    letters = letters;
   })
   pub stamped : told.stamp ≡ new.local.stamp
 

@@ -1,17 +1,23 @@
 //! The steps and letters of an event.
-ghost use Rattle.std.specs.Prelude.{◌≡◌, ◌<◌, ◌≤◌, [], ◌++◌, IfNone, OnOk, OnErr, length, map};
-ghost use Rattle.std.specs.Option.{option_map, option_to_list};
-ghost use Rattle.l4_types.specs.LetterView.{letter_of};
+ghost use Rattle.std.specs.Prelude.{◌≡◌, ◌<◌, ◌≤◌, ◌↔◌, [], ◌++◌, IfNone, OnOk, OnErr, drop, false};
+ghost use Rattle.std.specs.Prelude.{length, map, slice_get};
+ghost use Rattle.std.specs.Option.{option_to_list};
+ghost use Rattle.l4_core_model.specs.Letters.{SendLetter};
+ghost use Rattle.l4_types.specs.LetterHeads.{letter_with, word_count};
 ghost use Rattle.l4_types.specs.StepView.{seen, step_of};
-ghost use Rattle.l4_core.specs.EventBuffers.{IsBegun, posted_of, with_sent, with_step, with_letter};
+ghost use Rattle.l4_core.specs.EventBuffers.{IsBegun, with_sent, with_step, with_letter};
 
+use crate::outbox::Outbox;
 use arrayvec::ArrayVec;
 use l4_history::history::EVENT_STEPS;
 use l4_history::sink::Sink;
 use l4_types::errors::NoMemory;
-use l4_types::letters::Letter;
+use l4_types::ids::GlobalId;
+use l4_types::letter_ref::LetterRef;
+use l4_types::letters::{Content, Letter, LetterHead};
+use l4_types::message_ref::MessageRef;
 use l4_types::step_ref::{DeliveryRef, StepRef};
-use l4_types::steps::{Event, Step};
+use l4_types::steps::{Event, Name, Step};
 use std::marker::Model;
 
 /// An event posts at most this many letters.
@@ -30,21 +36,21 @@ pub struct EventBuffer<S: Sink> {
     sink: S,
     // Where the steps of the current event begin.
     start: usize,
-    letters: Letters,
+    letters: Outbox,
 }
 
 impl<S: Sink> Model for EventBuffer<S> {
-    ghost use Rattle.std.specs.Prelude.{◌≤◌, ◌-◌, map, length, take, drop};
-    ghost use Rattle.l4_core.specs.EventBuffers.{EventBuffer as EventBuffers, posted_of};
+    ghost use Rattle.std.specs.Prelude.{◌≤◌, length, take, drop};
+    ghost use Rattle.l4_core.specs.EventBuffers.{EventBuffer as EventBuffers};
 
     ghost Value = { EventBuffers };
 
     ghost view = { λ t. record {
       before = take t.start (S.told t.sink);
       steps = drop t.start (S.told t.sink);
-      letters = map posted_of t.letters.items;
+      letters = t.letters.letters;
       room = S.room t.sink;
-      slots = 2 - length t.letters.items;
+      slots = t.letters.slots;
     } };
 
     ghost invariant = { λ t. t.start ≤ length (S.told t.sink) };
@@ -65,7 +71,7 @@ impl<S: Sink> EventBuffer<S> {
         EventBuffer {
             start: sink.len(),
             sink,
-            letters: ArrayVec::new(),
+            letters: Outbox::new(),
         }
     }
 
@@ -100,12 +106,41 @@ impl<S: Sink> EventBuffer<S> {
         self.sink.push_sent(delivery);
     }
 
-    /// Posts a letter to a processor.
-    pub(crate) fn post(&mut self, cpu: u8, letter: Letter)
-        requires { 0 < self.old.slots }
-        ensures { self.new ≡ with_letter cpu (letter_of letter) self.old }
+    /// Posts a letter without a message to a processor.
+    #[inline(always)]
+    pub(crate) fn post(&mut self, cpu: u8, letter: LetterHead)
+        requires slots { 0 < self.old.slots }
+        requires wordless { word_count letter.content ≡ 0 }
+        ensures { self.new ≡ with_letter cpu (letter_with [] letter) self.old }
     {
-        self.letters.push((cpu, letter));
+        self.letters.post(cpu, letter, &[]);
+    }
+
+    /// Posts a begun send to the processor of its receiver, as a letter of this stamp.
+    #[inline(always)]
+    pub(crate) fn post_send(
+        &mut self,
+        cpu: u8,
+        stamp: u64,
+        name: Name,
+        receiver: GlobalId,
+        zero_timeout: bool,
+        message: MessageRef<'_>,
+    )
+        requires { 0 < self.old.slots }
+        ensures { self.new ≡ with_letter cpu (record {
+          stamp = stamp;
+          content = SendLetter name receiver message.entry zero_timeout;
+        }) self.old }
+    {
+        let content = Content::Send {
+            name,
+            receiver,
+            message: message.head(),
+            zero_timeout,
+        };
+        self.letters
+            .post(cpu, LetterHead { stamp, content }, message.words());
     }
 
     /// How many steps come before the current event.
@@ -122,23 +157,46 @@ impl<S: Sink> EventBuffer<S> {
         &self.sink
     }
 
-    /// The letters, each with the processor that it goes to.
-    pub fn letters(&self) -> &[(u8, Letter)]
-        ensures { map posted_of result.now ≡ self.now.letters }
+    /// Whether letters are left.
+    #[inline(always)]
+    pub fn has_letters(&self) -> bool
+        ensures { (result ≡ false) ↔ (self.now.letters ≡ []) }
     {
-        self.letters.as_slice()
+        !self.letters.is_empty()
     }
 
-    /// Takes out the first letter, with the processor that it goes to. None if no letter is left.
+    /// The first letter that is left, with the processor that it goes to.
+    #[inline(always)]
+    pub fn first_letter(&self) -> Option<(u8, LetterRef<'_>)>
+        ensures { result ≡ slice_get self.now.letters 0 }
+    {
+        self.letters.first()
+    }
+
+    /// Takes out the first letter that is left, if there is one.
+    #[inline(always)]
+    pub fn drop_letter(&mut self)
+        ensures letters { self.new.letters ≡ drop 1 self.old.letters }
+        ensures before { self.new.before ≡ self.old.before }
+        ensures steps { self.new.steps ≡ self.old.steps }
+        ensures room { self.new.room ≡ self.old.room }
+    {
+        self.letters.drop_first();
+    }
+
+    /// Takes out the first letter that is left, with the processor that it goes to and a copy of its
+    /// words. None if no letter is left.
     pub fn take_letter(&mut self) -> Option<(u8, Letter)>
-        ensures letters { self.old.letters ≡
-            option_to_list (option_map posted_of result) ++ self.new.letters }
+        ensures letters { self.old.letters ≡ option_to_list result ++ self.new.letters }
         ensures none { IfNone result (self.new.letters ≡ []) }
         ensures before { self.new.before ≡ self.old.before }
         ensures steps { self.new.steps ≡ self.old.steps }
         ensures room { self.new.room ≡ self.old.room }
     {
-        self.letters.pop_at(0)
+        let (to, letter) = self.letters.first()?;
+        let letter = letter.to_letter();
+        self.letters.drop_first();
+        Some((to, letter))
     }
 
     /// All steps.
@@ -155,9 +213,9 @@ impl EventBuffer<EventSteps> {
         requires { self.before ≡ [] }
         ensures stamp { result.0.stamp ≡ stamp }
         ensures steps { map step_of result.0.steps.items ≡ self.steps }
-        ensures letters { map posted_of result.1.items ≡ self.letters }
+        ensures letters { result.1.items ≡ self.letters }
     {
         let steps = self.sink;
-        (Event { stamp, steps }, self.letters)
+        (Event { stamp, steps }, self.letters.into_letters())
     }
 }

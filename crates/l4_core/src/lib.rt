@@ -22,5 +22,6 @@
 
 pub mod event_buffer;
 mod known;
+mod outbox;
 mod places;
 pub mod processor;

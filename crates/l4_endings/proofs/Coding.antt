@@ -1,5 +1,5 @@
 -- The code of a state, processor by processor and poster by poster.
-use Rattle.std.proofs.Common.{◌≡◌, ℕ, ◌+◌, ◌<◌, Bool, List, [], drop, length, ap, sym, subst, ◌∙◌, arith}
+use Rattle.std.proofs.Common.{◌≡◌, ℕ, ◌+◌, ◌<◌, Bool, List, [], OnOk, Result, Ok, Err, drop, length, ap, sym, subst, ◌∙◌, arith}
 use Rattle.std.proofs.lemmas.List.FromFn.{get_or-range_with_len, length-range_with_len}
 use Rattle.std.proofs.lemmas.Option.{get_or_from_slice_get}
 use Rattle.l4_model.specs.Machine.{Machine}
@@ -9,7 +9,7 @@ use Rattle.l4_core_model.specs.Runs.{Run, at_rest, letters, processors}
 use Rattle.l4_choices.specs.Alike.{contents}
 use Rattle.l4_core.specs.Processor.{Processor}
 use Rattle.l4_machine.specs.UnderWay.{UnderWay, IsProcessorOf, IsRun}
-use Rattle.l4_states.specs.Codes.{chained, code_of, content_code, each, local_code, mail_code, mail_from_code, mail_to_code, sized}
+use Rattle.l4_states.specs.Codes.{chained, code_of, content_code, each, local_code, mail_code, mail_from_code, mail_to_code, number_code, sized}
 use Rattle.l4_states.specs.Choices.{state_in}
 use Rattle.l4_explore.specs.Tries.{State}
 use Rattle.l4_codes.specs.Written.{with_numbers, Written, Writes}
@@ -45,6 +45,17 @@ one_on m code all cpu a b c own same one =
     (omega (arith, own, length-range_with_len 0 m.cpus)) same
     (subst (λ (k : ℕ). Writes (code k) b c) (sym (get_or-range_with_len 0 m.cpus cpu 0 own
     ∙ (let s : 0 + cpu ≡ cpu = omega arith in s))) one)
+
+-- No letter is left to be written.
+pub all_written : {E : Type 0} (r : Result (Unit {0}) E) (left all : List Letter) (a b c : Written) →
+    ((rest : List ℕ) → with_numbers b (chained content_code (contents left) rest)
+    ≡ with_numbers a (chained content_code (contents all) rest)) → left ≡ [] →
+    OnOk r (Writes (number_code 0) b c) → OnOk r (Writes (chained content_code (contents all)) a c)
+all_written (Ok t) left all a b c same none end = λ rest.
+    end rest
+    ∙ ap (λ (ls : List Letter). with_numbers b (chained content_code (contents ls) rest)) (sym none)
+    ∙ same rest
+all_written (Err e) left all a b c same none end = tt
 
 -- The letters of one poster were written.
 pub letters_told : (m : Machine) (r : Run) (to from : ℕ) (ls : List Letter) (a b c : Written) →

@@ -4,15 +4,17 @@ ghost use Rattle.l4_model.specs.Machine.{Machine as MachineOfModel};
 ghost use Rattle.l4_core_model.specs.Runs.{Run, processors};
 ghost use Rattle.l4_explore.specs.Views.{state_from};
 ghost use Rattle.l4_machine.specs.UnderWay.{HasRun, IsRun};
-ghost use Rattle.l4_states.specs.Codes.{local_code, mail_code, mail_to_code, sized};
+ghost use Rattle.l4_choices.specs.Alike.{contents};
+ghost use Rattle.l4_states.specs.Codes.{chained, content_code, local_code, mail_code, mail_to_code};
+ghost use Rattle.l4_states.specs.Codes.{sized};
 ghost use Rattle.l4_states.specs.Choices.{state_in};
 ghost use Rattle.l4_codes.specs.Written.{Writes};
 
 use l4_codes::code::Code;
-use l4_codes::letters::put_letters;
+use l4_codes::letters::put_letter;
 use l4_codes::processors::put_core;
 use l4_explore::tries::Reached;
-use l4_machine::Walk;
+use l4_machine::{Letters, Walk};
 use std::alloc::{AllocError, Global};
 
 // Writes the processors.
@@ -28,6 +30,18 @@ fn put_cores(code: &mut Code, walk: &Walk<'_>, cpus: u8) -> Result<(), AllocErro
         put_core(code, walk.core(cpu))?;
     }
     Ok(())
+}
+
+// Writes the contents of letters, in order.
+fn put_letters(code: &mut Code, letters: Letters<'_>) -> Result<(), AllocError>
+    ensures { OnOk result (Writes (chained content_code (contents letters.entry))
+        code.old code.new) }
+{
+    for letter in letters {
+        code.put(1)?;
+        put_letter(code, &letter)?;
+    }
+    code.put(0)
 }
 
 // Writes the letters that have come to a processor.

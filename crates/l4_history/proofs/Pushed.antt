@@ -16,13 +16,12 @@ use Rattle.l4_history.specs.declared.records.Body.{Body}
 use Rattle.l4_history.specs.declared.records.Head.{Head}
 use Rattle.l4_history.specs.declared.records.WideHead.{WideHead}
 use Rattle.l4_history.specs.declared.records.Kind.{Kind}
-use Rattle.l4_history.specs.declared.records.Kind.TheVariants as kinds
+use Rattle.l4_history.specs.declared.records.Kind.TheVariants.{Thread, Send, Tick, Deliver, Wide}
 use Rattle.l4_history.specs.declared.records.OfThread.{OfThread}
 use Rattle.l4_history.specs.declared.records.OfSend.{OfSend}
-use Rattle.l4_history.specs.declared.records.OfThread.TheVariants as thread
 use Rattle.l4_history.specs.declared.records.OfSend.TheVariants as send
 use Rattle.l4_history.specs.declared.records.Record.{Record}
-use Rattle.l4_history.specs.Rows.{AreRows, IsBody, IsBodyOf, IsHead, IsHeadOf, IsName, IsOfKind, IsRecord, IsTick, IsWide, IsWideHeadOf, Told, delivery_at, delivery_by, head_delivery, name_at, plain_step, send_kind, send_step, step_at, step_of_kind, thread_kind, thread_step, told, wide_at, wide_delivery}
+use Rattle.l4_history.specs.Rows.{AreRows, IsBody, IsBodyOf, IsHead, IsHeadOf, IsName, IsOfKind, IsRecord, IsTick, IsWide, IsWideHeadOf, Told, delivery_at, delivery_by, head_delivery, name_at, plain_step, send_step, step_at, thread_step, told, wide_at, wide_delivery}
 use Rattle.l4_history.specs.Sent.{sent}
 use Rattle.l4_history.specs.Slots.{HasSlot, IsSlot, Keeps, thread_at}
 use Rattle.l4_history.proofs.Kept.{told-kept}
@@ -43,22 +42,11 @@ name-more slots slots' keeps slot k is = record { taken = (keeps slot is.taken).
 
 kind-more : (slots slots' : List GlobalId) → Keeps slots slots' → (heads heads' wide wide' slot number : ℕ) (kind : Kind) → heads ≤ heads' → wide ≤ wide' →
     IsOfKind slots heads wide slot number kind → IsOfKind slots' heads' wide' slot number kind
-kind-more slots slots' keeps heads heads' wide wide' slot number kinds.Local longer wider is = (keeps slot is).is_slot
-kind-more slots slots' keeps heads heads' wide wide' slot number kinds.Wait longer wider is = (keeps slot is).is_slot
-kind-more slots slots' keeps heads heads' wide wide' slot number kinds.ReceiveTimeout longer wider is = (keeps slot is).is_slot
-kind-more slots slots' keeps heads heads' wide wide' slot number kinds.ReceiveNobody longer wider is = (keeps slot is).is_slot
-kind-more slots slots' keeps heads heads' wide wide' slot number kinds.ReceiveCancel longer wider is = (keeps slot is).is_slot
-kind-more slots slots' keeps heads heads' wide wide' slot number kinds.Obey longer wider is = (keeps slot is).is_slot
-kind-more slots slots' keeps heads heads' wide wide' slot number kinds.Begin longer wider is = name-more slots slots' keeps slot number is
-kind-more slots slots' keeps heads heads' wide wide' slot number kinds.Queue longer wider is = name-more slots slots' keeps slot number is
-kind-more slots slots' keeps heads heads' wide wide' slot number kinds.SendTimeout longer wider is = name-more slots slots' keeps slot number is
-kind-more slots slots' keeps heads heads' wide wide' slot number kinds.SendNobody longer wider is = name-more slots slots' keeps slot number is
-kind-more slots slots' keeps heads heads' wide wide' slot number kinds.SendCancel longer wider is = name-more slots slots' keeps slot number is
-kind-more slots slots' keeps heads heads' wide wide' slot number kinds.Drop longer wider is = name-more slots slots' keeps slot number is
-kind-more slots slots' keeps heads heads' wide wide' slot number kinds.Retarget longer wider is = name-more slots slots' keeps slot number is
-kind-more slots slots' keeps heads heads' wide wide' slot number kinds.Tick longer wider is = is
-kind-more slots slots' keeps heads heads' wide wide' slot number kinds.Deliver longer wider is = let known : number < heads = is in omega arith
-kind-more slots slots' keeps heads heads' wide wide' slot number kinds.Wide longer wider is = let known : number < wide = is in omega arith
+kind-more slots slots' keeps heads heads' wide wide' slot number (Thread kind) longer wider is = (keeps slot is).is_slot
+kind-more slots slots' keeps heads heads' wide wide' slot number (Send kind) longer wider is = name-more slots slots' keeps slot number is
+kind-more slots slots' keeps heads heads' wide wide' slot number Tick longer wider is = is
+kind-more slots slots' keeps heads heads' wide wide' slot number Deliver longer wider is = let known : number < heads = is in omega arith
+kind-more slots slots' keeps heads heads' wide wide' slot number Wide longer wider is = let known : number < wide = is in omega arith
 
 body-more : (words words' : ℕ) (b : Body) → words ≤ words' → IsBody words b → IsBody words' b
 body-more words words' b more is =
@@ -137,76 +125,26 @@ record-told slots slots' keeps records heads wide words r s are same =
 pub name-told : (slots : List GlobalId) (name : Name) (slot k : ℕ) → HasSlot slots name.thread slot → k ≡ name.k → name_at slots slot k ≡ name
 name-told slots name slot k has same = rw (has.has, same) refl
 
--- What the record of a step of a thread tells, and that of a send.
-thread-step : (slots : List GlobalId) (heads : List Head) (wide : List (Step WideHead)) (words : List ℕ) (slot : ℕ) (of : OfThread) →
-    step_of_kind slots heads wide words slot 0 (thread_kind of) ≡ thread_step of (thread_at slots slot)
-thread-step slots heads wide words slot thread.Local = refl
-thread-step slots heads wide words slot thread.Wait = refl
-thread-step slots heads wide words slot thread.ReceiveTimeout = refl
-thread-step slots heads wide words slot thread.ReceiveNobody = refl
-thread-step slots heads wide words slot thread.ReceiveCancel = refl
-thread-step slots heads wide words slot thread.Obey = refl
-
-send-step : (slots : List GlobalId) (heads : List Head) (wide : List (Step WideHead)) (words : List ℕ) (slot k : ℕ) (of : OfSend) →
-    step_of_kind slots heads wide words slot k (send_kind of) ≡ send_step of (name_at slots slot k)
-send-step slots heads wide words slot k send.Begin = refl
-send-step slots heads wide words slot k send.Queue = refl
-send-step slots heads wide words slot k send.Timeout = refl
-send-step slots heads wide words slot k send.Nobody = refl
-send-step slots heads wide words slot k send.Cancel = refl
-send-step slots heads wide words slot k send.Drop = refl
-send-step slots heads wide words slot k send.Retarget = refl
-
-thread-record : (slots : List GlobalId) (heads wide slot : ℕ) (of : OfThread) → IsSlot slots slot → IsOfKind slots heads wide slot 0 (thread_kind of)
-thread-record slots heads wide slot thread.Local is = is
-thread-record slots heads wide slot thread.Wait is = is
-thread-record slots heads wide slot thread.ReceiveTimeout is = is
-thread-record slots heads wide slot thread.ReceiveNobody is = is
-thread-record slots heads wide slot thread.ReceiveCancel is = is
-thread-record slots heads wide slot thread.Obey is = is
-
-send-record : (slots : List GlobalId) (heads wide slot k : ℕ) (of : OfSend) → IsName slots slot k → IsOfKind slots heads wide slot k (send_kind of)
-send-record slots heads wide slot k send.Begin is = is
-send-record slots heads wide slot k send.Queue is = is
-send-record slots heads wide slot k send.Timeout is = is
-send-record slots heads wide slot k send.Nobody is = is
-send-record slots heads wide slot k send.Cancel is = is
-send-record slots heads wide slot k send.Drop is = is
-send-record slots heads wide slot k send.Retarget is = is
-
 -- A step of a thread that has a slot was stored.
-pub thread-told : (slots slots' : List GlobalId) → Keeps slots slots' → (records records' : List Record) (heads : List Head) (wide : List (Step WideHead)) (words : List ℕ) (of : OfThread) (kind : Kind) (thread : GlobalId) (slot : ℕ) →
-    AreRows slots records heads wide words → HasSlot slots' thread slot → kind ≡ thread_kind of → records' ≡ records ++ record { kind = kind; slot = slot; number = 0 } ∷ [] →
-    told slots' records' heads wide words ≡ told slots records heads wide words ++ thread_step of thread ∷ []
-thread-told slots slots' keeps records records' heads wide words of kind thread slot are has is e =
-    rw (e, is) (record-told slots slots' keeps records heads wide words (record { kind = thread_kind of; slot = slot; number = 0 }) (thread_step of thread) are
-    (thread-step slots' heads wide words slot of ∙ ap (thread_step of) has.has))
-
-pub thread-rows : (slots slots' : List GlobalId) → Keeps slots slots' → (records records' : List Record) (heads : List Head) (wide : List (Step WideHead)) (words : List ℕ) (of : OfThread) (kind : Kind) (thread : GlobalId) (slot : ℕ) →
-    AreRows slots records heads wide words → HasSlot slots' thread slot → kind ≡ thread_kind of → records' ≡ records ++ record { kind = kind; slot = slot; number = 0 } ∷ [] → AreRows slots' records' heads wide words
-thread-rows slots slots' keeps records records' heads wide words of kind thread slot are has is e =
-    rw (e, is) (record-rows slots slots' keeps records heads wide words (record { kind = thread_kind of; slot = slot; number = 0 }) are (thread-record slots' 0 0 slot of has.is_slot))
+pub thread-told : (slots slots' : List GlobalId) → Keeps slots slots' → (records records' : List Record) (heads : List Head) (wide : List (Step WideHead)) (words : List ℕ) (kind : OfThread) (thread : GlobalId) (slot : ℕ) →
+    AreRows slots records heads wide words → HasSlot slots' thread slot → records' ≡ records ++ record { kind = Thread kind; slot = slot; number = 0 } ∷ [] →
+    told slots' records' heads wide words ≡ told slots records heads wide words ++ thread_step kind thread ∷ []
+thread-told slots slots' keeps records records' heads wide words kind thread slot are has e =
+    rw e (record-told slots slots' keeps records heads wide words (record { kind = Thread kind; slot = slot; number = 0 }) (thread_step kind thread) are (ap (thread_step kind) has.has))
 
 -- A step of a send whose thread has a slot was stored.
-pub send-told : (slots slots' : List GlobalId) → Keeps slots slots' → (records records' : List Record) (heads : List Head) (wide : List (Step WideHead)) (words : List ℕ) (of : OfSend) (kind : Kind) (name : Name) (slot k : ℕ) →
-    AreRows slots records heads wide words → HasSlot slots' name.thread slot → k ≡ name.k → kind ≡ send_kind of → records' ≡ records ++ record { kind = kind; slot = slot; number = k } ∷ [] →
-    told slots' records' heads wide words ≡ told slots records heads wide words ++ send_step of name ∷ []
-send-told slots slots' keeps records records' heads wide words of kind name slot k are has same is e =
-    rw (e, is) (record-told slots slots' keeps records heads wide words (record { kind = send_kind of; slot = slot; number = k }) (send_step of name) are
-    (send-step slots' heads wide words slot k of ∙ ap (send_step of) (name-told slots' name slot k has same)))
-
-pub send-rows : (slots slots' : List GlobalId) → Keeps slots slots' → (records records' : List Record) (heads : List Head) (wide : List (Step WideHead)) (words : List ℕ) (of : OfSend) (kind : Kind) (thread : GlobalId) (slot k : ℕ) →
-    AreRows slots records heads wide words → HasSlot slots' thread slot → 0 < k → kind ≡ send_kind of → records' ≡ records ++ record { kind = kind; slot = slot; number = k } ∷ [] → AreRows slots' records' heads wide words
-send-rows slots slots' keeps records records' heads wide words of kind thread slot k are has some is e =
-    rw (e, is) (record-rows slots slots' keeps records heads wide words (record { kind = send_kind of; slot = slot; number = k }) are
-    (send-record slots' 0 0 slot k of (record { taken = has.is_slot; positive = some })))
+pub send-told : (slots slots' : List GlobalId) → Keeps slots slots' → (records records' : List Record) (heads : List Head) (wide : List (Step WideHead)) (words : List ℕ) (kind : OfSend) (name : Name) (slot k : ℕ) →
+    AreRows slots records heads wide words → HasSlot slots' name.thread slot → k ≡ name.k → records' ≡ records ++ record { kind = Send kind; slot = slot; number = k } ∷ [] →
+    told slots' records' heads wide words ≡ told slots records heads wide words ++ send_step kind name ∷ []
+send-told slots slots' keeps records records' heads wide words kind name slot k are has same e =
+    rw e (record-told slots slots' keeps records heads wide words (record { kind = Send kind; slot = slot; number = k }) (send_step kind name) are (ap (send_step kind) (name-told slots' name slot k has same)))
 
 -- A tick was stored.
 pub tick-told : (slots : List GlobalId) (records records' : List Record) (heads : List Head) (wide : List (Step WideHead)) (words : List ℕ) (cpu clock : ℕ) →
-    AreRows slots records heads wide words → records' ≡ records ++ record { kind = kinds.Tick; slot = cpu; number = clock } ∷ [] →
+    AreRows slots records heads wide words → records' ≡ records ++ record { kind = Tick; slot = cpu; number = clock } ∷ [] →
     told slots records' heads wide words ≡ told slots records heads wide words ++ steps.Tick cpu clock ∷ []
 tick-told slots records records' heads wide words cpu clock are e =
-    rw e (record-told slots slots (same-slots slots) records heads wide words (record { kind = kinds.Tick; slot = cpu; number = clock }) (steps.Tick cpu clock) are refl)
+    rw e (record-told slots slots (same-slots slots) records heads wide words (record { kind = Tick; slot = cpu; number = clock }) (steps.Tick cpu clock) are refl)
 
 not_both : {A : Type 0} (o : Option A) (x : A) → o ≡ None → o ≡ Some x → ⊥
 not_both o x e f = cc
@@ -217,9 +155,9 @@ plain-seen v s none = seen_alike v (λ w. steps.Local (global_id 0 1)) s (λ w e
 -- A step was stored that no record fits, with the words that are its.
 wide-told : (slots : List GlobalId) (records : List Record) (heads : List Head) (wide : List (Step WideHead)) (words more : List ℕ) (s : Step WideHead) →
     AreRows slots records heads wide words →
-    told slots (records ++ record { kind = kinds.Wide; slot = 0; number = length wide } ∷ []) heads (wide ++ s ∷ []) (words ++ more) ≡ told slots records heads wide words ++ wide_at (words ++ more) (Some s) ∷ []
+    told slots (records ++ record { kind = Wide; slot = 0; number = length wide } ∷ []) heads (wide ++ s ∷ []) (words ++ more) ≡ told slots records heads wide words ++ wide_at (words ++ more) (Some s) ∷ []
 wide-told slots records heads wide words more s are =
-    let r : Record = record { kind = kinds.Wide; slot = 0; number = length wide } in
+    let r : Record = record { kind = Wide; slot = 0; number = length wide } in
     let push : told slots (records ++ r ∷ []) (heads ++ []) (wide ++ s ∷ []) (words ++ more) ≡ told slots records heads wide words ++ wide_at (words ++ more) (slice_get (wide ++ s ∷ []) (length wide)) ∷ [] =
     told-push slots slots (same-slots slots) records heads [] wide (s ∷ []) words more r are in
     let there : told slots (records ++ r ∷ []) (heads ++ []) (wide ++ s ∷ []) (words ++ more) ≡ told slots records heads wide words ++ wide_at (words ++ more) (Some s) ∷ [] =
@@ -227,28 +165,13 @@ wide-told slots records heads wide words more s are =
     subst (λ (hs : List Head). told slots (records ++ r ∷ []) hs (wide ++ s ∷ []) (words ++ more) ≡ told slots records heads wide words ++ wide_at (words ++ more) (Some s) ∷ []) (append-nil heads) there
 
 pub wide-step-told : (slots : List GlobalId) (records records' : List Record) (heads : List Head) (wide wide' : List (Step WideHead)) (words : List ℕ) (r : Record) (at : ℕ) (s : Step WideHead) →
-    AreRows slots records heads wide words → r ≡ record { kind = kinds.Wide; slot = 0; number = at } → at ≡ length wide → delivery_in s ≡ None →
+    AreRows slots records heads wide words → r ≡ record { kind = Wide; slot = 0; number = at } → at ≡ length wide → delivery_in s ≡ None →
     records' ≡ records ++ r ∷ [] → wide' ≡ wide ++ s ∷ [] → told slots records' heads wide' words ≡ told slots records heads wide words ++ plain_step s ∷ []
 wide-step-told slots records records' heads wide wide' words r at s are is place none e1 e2 =
-    let there : told slots (records ++ record { kind = kinds.Wide; slot = 0; number = length wide } ∷ []) heads (wide ++ s ∷ []) words ≡ told slots records heads wide words ++ wide_at words (Some s) ∷ [] =
-    subst (λ (ws : List ℕ). told slots (records ++ record { kind = kinds.Wide; slot = 0; number = length wide } ∷ []) heads (wide ++ s ∷ []) ws ≡ told slots records heads wide words ++ wide_at ws (Some s) ∷ []) (append-nil words)
+    let there : told slots (records ++ record { kind = Wide; slot = 0; number = length wide } ∷ []) heads (wide ++ s ∷ []) words ≡ told slots records heads wide words ++ wide_at words (Some s) ∷ [] =
+    subst (λ (ws : List ℕ). told slots (records ++ record { kind = Wide; slot = 0; number = length wide } ∷ []) heads (wide ++ s ∷ []) ws ≡ told slots records heads wide words ++ wide_at ws (Some s) ∷ []) (append-nil words)
     (wide-told slots records heads wide words [] s are) in
     rw (e1, e2, is, place) (there ∙ ap (λ (x : steps.Step). told slots records heads wide words ++ x ∷ []) (plain-seen (wide_delivery words) s none))
-
-pub wide-step-rows : (slots : List GlobalId) (records records' : List Record) (heads : List Head) (wide wide' : List (Step WideHead)) (words : List ℕ) (r : Record) (at : ℕ) (s : Step WideHead) →
-    AreRows slots records heads wide words → r ≡ record { kind = kinds.Wide; slot = 0; number = at } → at ≡ length wide → delivery_in s ≡ None →
-    records' ≡ records ++ r ∷ [] → wide' ≡ wide ++ s ∷ [] → AreRows slots records' heads wide' words
-wide-step-rows slots records records' heads wide wide' words r at s are is place none e1 e2 =
-    let longer : length wide ≤ length (wide ++ s ∷ []) = longer-by wide (s ∷ []) in
-    let last : at < length (wide ++ s ∷ []) = omega (arith, length_push wide s, place) in
-    let known = All-weaker (IsRecord slots (length heads) (length wide)) (IsRecord slots (length heads) (length (wide ++ s ∷ [])))
-    (λ r. kind-more slots slots (same-slots slots) (length heads) (length heads) (length wide) (length (wide ++ s ∷ [])) r.slot r.number r.kind (omega arith) longer) records are.known in
-    let rows : AreRows slots (records ++ record { kind = kinds.Wide; slot = 0; number = at } ∷ []) heads (wide ++ s ∷ []) words = record {
-      known = All-push (IsRecord slots (length heads) (length (wide ++ s ∷ []))) records (record { kind = kinds.Wide; slot = 0; number = at }) known last;
-      within = are.within;
-      beside = All-push (IsWide (length words)) wide s are.beside (rw none tt);
-    } in
-    rw (e1, e2, is) rows
 
 -- What a body tells whose words were appended.
 delivery-is : (words : List ℕ) (d : DeliveryRef) (start : ℕ) (b : Body) (name : Name) (receiver shown actual : GlobalId) → IsBodyOf d start b → start ≡ length words →
@@ -265,7 +188,7 @@ body-of words d start b is place =
 
 -- A delivery was stored that no head fits.
 pub wide-rows : (slots : List GlobalId) (records records' : List Record) (heads : List Head) (wide wide' : List (Step WideHead)) (words words' : List ℕ) (r : Record) (at start : ℕ) (w : WideHead) (d : DeliveryRef) →
-    AreRows slots records heads wide words → IsWideHeadOf d start w → r ≡ record { kind = kinds.Wide; slot = 0; number = at } → at ≡ length wide → start ≡ length words →
+    AreRows slots records heads wide words → IsWideHeadOf d start w → r ≡ record { kind = Wide; slot = 0; number = at } → at ≡ length wide → start ≡ length words →
     records' ≡ records ++ r ∷ [] → wide' ≡ wide ++ step.Deliver w ∷ [] → words' ≡ words ++ d.message.words → AreRows slots records' heads wide' words'
 wide-rows slots records records' heads wide wide' words words' r at start w d are is names place begins e1 e2 e3 =
     let more : List ℕ = d.message.words in
@@ -274,15 +197,15 @@ wide-rows slots records records' heads wide wide' words words' r at start w d ar
     let last : at < length (wide ++ s ∷ []) = omega (arith, length_push wide s, place) in
     let body = body-of words d start w.body is.body begins in
     let known = subst (λ (hs : List Head). All (IsRecord slots (length hs) (length (wide ++ s ∷ []))) records) (append-nil heads) kept.1 in
-    let rows : AreRows slots (records ++ record { kind = kinds.Wide; slot = 0; number = at } ∷ []) heads (wide ++ s ∷ []) (words ++ more) = record {
-      known = All-push (IsRecord slots (length heads) (length (wide ++ s ∷ []))) records (record { kind = kinds.Wide; slot = 0; number = at }) known last;
+    let rows : AreRows slots (records ++ record { kind = Wide; slot = 0; number = at } ∷ []) heads (wide ++ s ∷ []) (words ++ more) = record {
+      known = All-push (IsRecord slots (length heads) (length (wide ++ s ∷ []))) records (record { kind = Wide; slot = 0; number = at }) known last;
       within = kept.0.within;
       beside = All-push (IsWide (length (words ++ more))) wide s kept.0.beside body;
     } in
     rw (e1, e2, e3, names) rows
 
 pub wide-delivery-told : (slots : List GlobalId) (records records' : List Record) (heads : List Head) (wide wide' : List (Step WideHead)) (words words' : List ℕ) (r : Record) (at start : ℕ) (w : WideHead) (d : DeliveryRef) →
-    AreRows slots records heads wide words → IsWideHeadOf d start w → r ≡ record { kind = kinds.Wide; slot = 0; number = at } → at ≡ length wide → start ≡ length words →
+    AreRows slots records heads wide words → IsWideHeadOf d start w → r ≡ record { kind = Wide; slot = 0; number = at } → at ≡ length wide → start ≡ length words →
     records' ≡ records ++ r ∷ [] → wide' ≡ wide ++ step.Deliver w ∷ [] → words' ≡ words ++ d.message.words → told slots records' heads wide' words' ≡ told slots records heads wide words ++ delivered d ∷ []
 wide-delivery-told slots records records' heads wide wide' words words' r at start w d are is names place begins e1 e2 e3 =
     rw (e1, e2, e3, names, place) (wide-told slots records heads wide words d.message.words (step.Deliver w) are
@@ -303,25 +226,25 @@ head-told slots words d start h is begins =
     (name-told slots d.name h.sender h.k is.sender is.k) is.receiver.has (is.sender.has ∙ sym is.shows.shown) (is.sender.has ∙ sym is.shows.actual)
 
 pub delivery-rows : (slots slots' : List GlobalId) → Keeps slots slots' → (records records' : List Record) (heads heads' : List Head) (wide : List (Step WideHead)) (words words' : List ℕ) (r : Record) (at start : ℕ) (h : Head) (d : DeliveryRef) →
-    AreRows slots records heads wide words → IsHeadOf slots' d start h → r ≡ record { kind = kinds.Deliver; slot = 0; number = at } → at ≡ length heads → start ≡ length words →
+    AreRows slots records heads wide words → IsHeadOf slots' d start h → r ≡ record { kind = Deliver; slot = 0; number = at } → at ≡ length heads → start ≡ length words →
     records' ≡ records ++ r ∷ [] → heads' ≡ heads ++ h ∷ [] → words' ≡ words ++ d.message.words → AreRows slots' records' heads' wide words'
 delivery-rows slots slots' keeps records records' heads heads' wide words words' r at start h d are is names place begins e1 e2 e3 =
     let more : List ℕ = d.message.words in
     let kept = rows-more slots slots' keeps records heads (h ∷ []) wide [] words more are in
     let last : at < length (heads ++ h ∷ []) = omega (arith, length_push heads h, place) in
     let known = subst (λ (ws : List (Step WideHead)). All (IsRecord slots' (length (heads ++ h ∷ [])) (length ws)) records) (append-nil wide) kept.1 in
-    let rows : AreRows slots' (records ++ record { kind = kinds.Deliver; slot = 0; number = at } ∷ []) (heads ++ h ∷ []) wide (words ++ more) = record {
-      known = All-push (IsRecord slots' (length (heads ++ h ∷ [])) (length wide)) records (record { kind = kinds.Deliver; slot = 0; number = at }) known last;
+    let rows : AreRows slots' (records ++ record { kind = Deliver; slot = 0; number = at } ∷ []) (heads ++ h ∷ []) wide (words ++ more) = record {
+      known = All-push (IsRecord slots' (length (heads ++ h ∷ [])) (length wide)) records (record { kind = Deliver; slot = 0; number = at }) known last;
       within = All-push (IsHead slots' (length (words ++ more))) heads h kept.0.within (head-is slots' words d start h is begins);
       beside = kept.0.beside;
     } in
     rw (e1, e2, e3, names) rows
 
 pub delivery-told : (slots slots' : List GlobalId) → Keeps slots slots' → (records records' : List Record) (heads heads' : List Head) (wide : List (Step WideHead)) (words words' : List ℕ) (r : Record) (at start : ℕ) (h : Head) (d : DeliveryRef) →
-    AreRows slots records heads wide words → IsHeadOf slots' d start h → r ≡ record { kind = kinds.Deliver; slot = 0; number = at } → at ≡ length heads → start ≡ length words →
+    AreRows slots records heads wide words → IsHeadOf slots' d start h → r ≡ record { kind = Deliver; slot = 0; number = at } → at ≡ length heads → start ≡ length words →
     records' ≡ records ++ r ∷ [] → heads' ≡ heads ++ h ∷ [] → words' ≡ words ++ d.message.words → told slots' records' heads' wide words' ≡ told slots records heads wide words ++ delivered d ∷ []
 delivery-told slots slots' keeps records records' heads heads' wide words words' r at start h d are is names place begins e1 e2 e3 =
-    let last : Record = record { kind = kinds.Deliver; slot = 0; number = length heads } in
+    let last : Record = record { kind = Deliver; slot = 0; number = length heads } in
     let push : told slots' (records ++ last ∷ []) (heads ++ h ∷ []) (wide ++ []) (words ++ d.message.words)
     ≡ told slots records heads wide words ++ delivery_at slots' (words ++ d.message.words) (slice_get (heads ++ h ∷ []) (length heads)) ∷ [] = told-push slots slots' keeps records heads (h ∷ []) wide [] words d.message.words last are in
     let there = subst (λ (ws : List (Step WideHead)). told slots' (records ++ last ∷ []) (heads ++ h ∷ []) ws (words ++ d.message.words)
@@ -331,31 +254,32 @@ delivery-told slots slots' keeps records records' heads heads' wide words words'
     ∙ ap (λ (x : steps.Step). told slots records heads wide words ++ x ∷ []) (head-told slots' words d start h is begins))
 
 -- The three steps of a send were stored.
+abbrev send-record : OfSend → Head → Record
+send-record kind h = record { kind = Send kind; slot = h.sender; number = h.k }
+
 pub sent-rows : (slots slots' : List GlobalId) → Keeps slots slots' → (records records1 records2 records' : List Record) (heads heads' : List Head) (wide : List (Step WideHead)) (words words' : List ℕ) (r : Record) (at start : ℕ) (h : Head) (d : DeliveryRef) →
-    AreRows slots records heads wide words → IsHeadOf slots' d start h → r ≡ record { kind = kinds.Deliver; slot = 0; number = at } → at ≡ length heads → start ≡ length words →
-    records1 ≡ records ++ record { kind = kinds.Begin; slot = h.sender; number = h.k } ∷ [] → records2 ≡ records1 ++ record { kind = kinds.Queue; slot = h.sender; number = h.k } ∷ [] → records' ≡ records2 ++ r ∷ [] →
+    AreRows slots records heads wide words → IsHeadOf slots' d start h → r ≡ record { kind = Deliver; slot = 0; number = at } → at ≡ length heads → start ≡ length words →
+    records1 ≡ records ++ record { kind = Send send.Begin; slot = h.sender; number = h.k } ∷ [] → records2 ≡ records1 ++ record { kind = Send send.Queue; slot = h.sender; number = h.k } ∷ [] → records' ≡ records2 ++ r ∷ [] →
     heads' ≡ heads ++ h ∷ [] → words' ≡ words ++ d.message.words → AreRows slots' records' heads' wide words'
 sent-rows slots slots' keeps records records1 records2 records' heads heads' wide words words' r at start h d are is names place begins r1 r2 e1 e2 e3 =
-    let are1 : AreRows slots' records1 heads wide words =
-    send-rows slots slots' keeps records records1 heads wide words send.Begin kinds.Begin d.name.thread h.sender h.k are is.sender is.positive refl r1 in
-    let are2 : AreRows slots' records2 heads wide words =
-    send-rows slots' slots' (same-slots slots') records1 records2 heads wide words send.Queue kinds.Queue d.name.thread h.sender h.k are1 is.sender is.positive refl r2 in
+    let name : IsName slots' h.sender h.k = record { taken = is.sender.is_slot; positive = is.positive } in
+    let are1 : AreRows slots' records1 heads wide words = rw r1 (record-rows slots slots' keeps records heads wide words (send-record send.Begin h) are name) in
+    let are2 : AreRows slots' records2 heads wide words = rw r2 (record-rows slots' slots' (same-slots slots') records1 heads wide words (send-record send.Queue h) are1 name) in
     delivery-rows slots' slots' (same-slots slots') records2 records' heads heads' wide words words' r at start h d are2 is names place begins e1 e2 e3
 
 pub sent-told : (slots slots' : List GlobalId) → Keeps slots slots' → (records records1 records2 records' : List Record) (heads heads' : List Head) (wide : List (Step WideHead)) (words words' : List ℕ) (r : Record) (at start : ℕ) (h : Head) (d : DeliveryRef) →
-    AreRows slots records heads wide words → IsHeadOf slots' d start h → r ≡ record { kind = kinds.Deliver; slot = 0; number = at } → at ≡ length heads → start ≡ length words →
-    records1 ≡ records ++ record { kind = kinds.Begin; slot = h.sender; number = h.k } ∷ [] → records2 ≡ records1 ++ record { kind = kinds.Queue; slot = h.sender; number = h.k } ∷ [] → records' ≡ records2 ++ r ∷ [] →
+    AreRows slots records heads wide words → IsHeadOf slots' d start h → r ≡ record { kind = Deliver; slot = 0; number = at } → at ≡ length heads → start ≡ length words →
+    records1 ≡ records ++ record { kind = Send send.Begin; slot = h.sender; number = h.k } ∷ [] → records2 ≡ records1 ++ record { kind = Send send.Queue; slot = h.sender; number = h.k } ∷ [] → records' ≡ records2 ++ r ∷ [] →
     heads' ≡ heads ++ h ∷ [] → words' ≡ words ++ d.message.words → told slots' records' heads' wide words' ≡ told slots records heads wide words ++ sent d
 sent-told slots slots' keeps records records1 records2 records' heads heads' wide words words' r at start h d are is names place begins r1 r2 e1 e2 e3 =
-    let are1 : AreRows slots' records1 heads wide words =
-    send-rows slots slots' keeps records records1 heads wide words send.Begin kinds.Begin d.name.thread h.sender h.k are is.sender is.positive refl r1 in
-    let are2 : AreRows slots' records2 heads wide words =
-    send-rows slots' slots' (same-slots slots') records1 records2 heads wide words send.Queue kinds.Queue d.name.thread h.sender h.k are1 is.sender is.positive refl r2 in
+    let name : IsName slots' h.sender h.k = record { taken = is.sender.is_slot; positive = is.positive } in
+    let are1 : AreRows slots' records1 heads wide words = rw r1 (record-rows slots slots' keeps records heads wide words (send-record send.Begin h) are name) in
+    let are2 : AreRows slots' records2 heads wide words = rw r2 (record-rows slots' slots' (same-slots slots') records1 heads wide words (send-record send.Queue h) are1 name) in
     let before : List steps.Step = told slots records heads wide words in
     let begun : told slots' records1 heads wide words ≡ before ++ steps.Begin d.name ∷ [] =
-    send-told slots slots' keeps records records1 heads wide words send.Begin kinds.Begin d.name h.sender h.k are is.sender is.k refl r1 in
+    send-told slots slots' keeps records records1 heads wide words send.Begin d.name h.sender h.k are is.sender is.k r1 in
     let queued : told slots' records2 heads wide words ≡ told slots' records1 heads wide words ++ steps.Queue d.name ∷ [] =
-    send-told slots' slots' (same-slots slots') records1 records2 heads wide words send.Queue kinds.Queue d.name h.sender h.k are1 is.sender is.k refl r2 in
+    send-told slots' slots' (same-slots slots') records1 records2 heads wide words send.Queue d.name h.sender h.k are1 is.sender is.k r2 in
     let last : told slots' records' heads' wide words' ≡ told slots' records2 heads wide words ++ delivered d ∷ [] =
     delivery-told slots' slots' (same-slots slots') records2 records' heads heads' wide words words' r at start h d are2 is names place begins e1 e2 e3 in
     rw (last, queued, begun, append_assoc before (steps.Begin d.name ∷ []) (steps.Queue d.name ∷ []), append_assoc before (steps.Begin d.name ∷ steps.Queue d.name ∷ []) (delivered d ∷ [])) refl

@@ -5,7 +5,7 @@ use Rattle.l4_history.specs.declared.records.Body.{Body}
 use Rattle.l4_history.specs.declared.records.Head.{Head}
 use Rattle.l4_history.specs.declared.records.WideHead.{WideHead}
 use Rattle.l4_history.specs.declared.records.Kind.{Kind}
-use Rattle.l4_history.specs.declared.records.Kind.TheVariants as kinds
+use Rattle.l4_history.specs.declared.records.Kind.TheVariants.{Thread, Send, Tick, Deliver, Wide}
 use Rattle.l4_history.specs.declared.records.OfThread.{OfThread}
 use Rattle.l4_history.specs.declared.records.OfThread.TheVariants as thread
 use Rattle.l4_history.specs.declared.records.OfSend.{OfSend}
@@ -29,24 +29,6 @@ pub record Told : Type 0 where
 -- Steps behind those that were told before.
 abbrev pub HasMore : (old new : List steps.Step) → Type 0
 HasMore old new = (more : List steps.Step) × (new ≡ old ++ more)
-
--- The kinds of the records of steps of a thread, and of a send.
-abbrev pub thread_kind : OfThread → Kind
-thread_kind thread.Local = kinds.Local
-thread_kind thread.Wait = kinds.Wait
-thread_kind thread.ReceiveTimeout = kinds.ReceiveTimeout
-thread_kind thread.ReceiveNobody = kinds.ReceiveNobody
-thread_kind thread.ReceiveCancel = kinds.ReceiveCancel
-thread_kind thread.Obey = kinds.Obey
-
-abbrev pub send_kind : OfSend → Kind
-send_kind send.Begin = kinds.Begin
-send_kind send.Queue = kinds.Queue
-send_kind send.Timeout = kinds.SendTimeout
-send_kind send.Nobody = kinds.SendNobody
-send_kind send.Cancel = kinds.SendCancel
-send_kind send.Drop = kinds.Drop
-send_kind send.Retarget = kinds.Retarget
 
 -- The step of a kind of a thread.
 abbrev pub thread_step : OfThread → GlobalId → steps.Step
@@ -111,23 +93,14 @@ plain_step s = step_by (λ w. steps.Local (global_id 0 1)) s
 -- What a record of a kind tells.
 abbrev pub step_of_kind : List GlobalId → List Head → List (Step WideHead) → List ℕ →
     (slot number : ℕ) → Kind → steps.Step
-step_of_kind slots heads wide words slot number kinds.Local = steps.Local (thread_at slots slot)
-step_of_kind slots heads wide words slot number kinds.Wait = steps.Wait (thread_at slots slot)
-step_of_kind slots heads wide words slot number kinds.ReceiveTimeout = steps.ReceiveTimeout (thread_at slots slot)
-step_of_kind slots heads wide words slot number kinds.ReceiveNobody = steps.ReceiveNobody (thread_at slots slot)
-step_of_kind slots heads wide words slot number kinds.ReceiveCancel = steps.ReceiveCancel (thread_at slots slot)
-step_of_kind slots heads wide words slot number kinds.Obey = steps.Obey (thread_at slots slot)
-step_of_kind slots heads wide words slot number kinds.Begin = steps.Begin (name_at slots slot number)
-step_of_kind slots heads wide words slot number kinds.Queue = steps.Queue (name_at slots slot number)
-step_of_kind slots heads wide words slot number kinds.SendTimeout = steps.SendTimeout (name_at slots slot number)
-step_of_kind slots heads wide words slot number kinds.SendNobody = steps.SendNobody (name_at slots slot number)
-step_of_kind slots heads wide words slot number kinds.SendCancel = steps.SendCancel (name_at slots slot number)
-step_of_kind slots heads wide words slot number kinds.Drop = steps.Drop (name_at slots slot number)
-step_of_kind slots heads wide words slot number kinds.Retarget = steps.Retarget (name_at slots slot number)
-step_of_kind slots heads wide words slot number kinds.Tick = steps.Tick slot number
-step_of_kind slots heads wide words slot number kinds.Deliver =
+step_of_kind slots heads wide words slot number (Thread kind) =
+    thread_step kind (thread_at slots slot)
+step_of_kind slots heads wide words slot number (Send kind) =
+    send_step kind (name_at slots slot number)
+step_of_kind slots heads wide words slot number Tick = steps.Tick slot number
+step_of_kind slots heads wide words slot number Deliver =
     delivery_at slots words (slice_get heads number)
-step_of_kind slots heads wide words slot number kinds.Wide = wide_at words (slice_get wide number)
+step_of_kind slots heads wide words slot number Wide = wide_at words (slice_get wide number)
 
 abbrev pub step_at : List GlobalId → List Head → List (Step WideHead) → List ℕ → Record →
     steps.Step
@@ -199,22 +172,11 @@ pub record IsTick (cpu clock : ℕ) : Type 0 where
 
 -- A record of a kind that names only what is there.
 abbrev pub IsOfKind : List GlobalId → (heads wide slot number : ℕ) → Kind → Type 0
-IsOfKind slots heads wide slot number kinds.Local = IsSlot slots slot
-IsOfKind slots heads wide slot number kinds.Wait = IsSlot slots slot
-IsOfKind slots heads wide slot number kinds.ReceiveTimeout = IsSlot slots slot
-IsOfKind slots heads wide slot number kinds.ReceiveNobody = IsSlot slots slot
-IsOfKind slots heads wide slot number kinds.ReceiveCancel = IsSlot slots slot
-IsOfKind slots heads wide slot number kinds.Obey = IsSlot slots slot
-IsOfKind slots heads wide slot number kinds.Begin = IsName slots slot number
-IsOfKind slots heads wide slot number kinds.Queue = IsName slots slot number
-IsOfKind slots heads wide slot number kinds.SendTimeout = IsName slots slot number
-IsOfKind slots heads wide slot number kinds.SendNobody = IsName slots slot number
-IsOfKind slots heads wide slot number kinds.SendCancel = IsName slots slot number
-IsOfKind slots heads wide slot number kinds.Drop = IsName slots slot number
-IsOfKind slots heads wide slot number kinds.Retarget = IsName slots slot number
-IsOfKind slots heads wide slot number kinds.Tick = IsTick slot number
-IsOfKind slots heads wide slot number kinds.Deliver = number < heads
-IsOfKind slots heads wide slot number kinds.Wide = number < wide
+IsOfKind slots heads wide slot number (Thread kind) = IsSlot slots slot
+IsOfKind slots heads wide slot number (Send kind) = IsName slots slot number
+IsOfKind slots heads wide slot number Tick = IsTick slot number
+IsOfKind slots heads wide slot number Deliver = number < heads
+IsOfKind slots heads wide slot number Wide = number < wide
 
 abbrev pub IsRecord : List GlobalId → (heads wide : ℕ) → Record → Type 0
 IsRecord slots heads wide r = IsOfKind slots heads wide r.slot r.number r.kind

@@ -208,7 +208,7 @@ impl History {
         match self.threads.slot_of(thread) {
             Some(slot) => {
                 self.records.push_reserved(Record {
-                    kind: kind.kind(),
+                    kind: Kind::Thread(kind),
                     slot,
                     number: 0,
                 });
@@ -247,7 +247,7 @@ impl History {
         match self.threads.slot_of(thread) {
             Some(slot) => {
                 self.records.push_reserved(Record {
-                    kind: kind.kind(),
+                    kind: Kind::Send(kind),
                     slot,
                     number: k as u32,
                 });
@@ -373,12 +373,12 @@ impl History {
             Some(head) => {
                 let (slot, number) = (head.sender, head.k);
                 self.records.push_reserved(Record {
-                    kind: Kind::Begin,
+                    kind: Kind::Send(OfSend::Begin),
                     slot,
                     number,
                 });
                 self.records.push_reserved(Record {
-                    kind: Kind::Queue,
+                    kind: Kind::Send(OfSend::Queue),
                     slot,
                     number,
                 });
@@ -458,7 +458,7 @@ impl History {
     {
         let record = self.records[i];
         match record.kind {
-            Kind::Begin => Some(record.send(&self.threads)),
+            Kind::Send(OfSend::Begin) => Some(record.send(&self.threads)),
             Kind::Wide => match self.wide[record.number as usize] {
                 Step::Begin(name) => Some(name),
                 _ => None,
@@ -476,19 +476,19 @@ impl History {
         let (record, threads) = (self.records[i], &self.threads);
         let index = record.number as usize;
         match record.kind {
-            Kind::Local => Step::Local(record.thread(threads)),
-            Kind::Wait => Step::Wait(record.thread(threads)),
-            Kind::ReceiveTimeout => Step::ReceiveTimeout(record.thread(threads)),
-            Kind::ReceiveNobody => Step::ReceiveNobody(record.thread(threads)),
-            Kind::ReceiveCancel => Step::ReceiveCancel(record.thread(threads)),
-            Kind::Obey => Step::Obey(record.thread(threads)),
-            Kind::Begin => Step::Begin(record.send(threads)),
-            Kind::Queue => Step::Queue(record.send(threads)),
-            Kind::SendTimeout => Step::SendTimeout(record.send(threads)),
-            Kind::SendNobody => Step::SendNobody(record.send(threads)),
-            Kind::SendCancel => Step::SendCancel(record.send(threads)),
-            Kind::Drop => Step::Drop(record.send(threads)),
-            Kind::Retarget => Step::Retarget(record.send(threads)),
+            Kind::Thread(OfThread::Local) => Step::Local(record.thread(threads)),
+            Kind::Thread(OfThread::Wait) => Step::Wait(record.thread(threads)),
+            Kind::Thread(OfThread::ReceiveTimeout) => Step::ReceiveTimeout(record.thread(threads)),
+            Kind::Thread(OfThread::ReceiveNobody) => Step::ReceiveNobody(record.thread(threads)),
+            Kind::Thread(OfThread::ReceiveCancel) => Step::ReceiveCancel(record.thread(threads)),
+            Kind::Thread(OfThread::Obey) => Step::Obey(record.thread(threads)),
+            Kind::Send(OfSend::Begin) => Step::Begin(record.send(threads)),
+            Kind::Send(OfSend::Queue) => Step::Queue(record.send(threads)),
+            Kind::Send(OfSend::Timeout) => Step::SendTimeout(record.send(threads)),
+            Kind::Send(OfSend::Nobody) => Step::SendNobody(record.send(threads)),
+            Kind::Send(OfSend::Cancel) => Step::SendCancel(record.send(threads)),
+            Kind::Send(OfSend::Drop) => Step::Drop(record.send(threads)),
+            Kind::Send(OfSend::Retarget) => Step::Retarget(record.send(threads)),
             Kind::Tick => {
                 Step::Tick(Tick::new(record.slot as u8, u64::from(record.number)).unwrap())
             }

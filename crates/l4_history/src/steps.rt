@@ -34,11 +34,11 @@ impl<'a> Iterator for Steps<'a> {
     ghost remaining = { item_count (λ steps. steps) };
 
     fn next(&mut self) -> Option<StepRef<'a>> {
-        if self.next >= self.end {
+        let place = self.next;
+        if place >= self.end {
             return None;
         }
-        let step = self.history.step(self.next);
-        self.next += 1;
-        Some(step)
+        self.next = place + 1;
+        Some(self.history.step(place))
     }
 }

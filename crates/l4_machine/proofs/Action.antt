@@ -1,12 +1,12 @@
 -- What a station does is what happens in the core run.
 use Rattle.std.proofs.Common.{◌≡◌, ◌≢◌, ℕ, zero, suc, ◌+◌, ◌<◌, ◌≤◌, ◌^◌, Bool, true, false, cond, Option, Some, None, List, [], ◌∷◌, ◌++◌, map, length, get_or, set, refl, ap, sym, ◌∙◌, subst, arith, inl, inr}
-use Rattle.std.specs.Prelude.{slice_get, ◌==◌, IsSomeAnd, OnOk, Result, Ok, Err}
-use Rattle.std.specs.List.{AllByRecursion, range_with_len}
+use Rattle.std.specs.Prelude.{slice_get, ◌==◌, OnOk, Result, Ok, Err}
+use Rattle.std.specs.List.{range_with_len}
 use Rattle.std.specs.Option.{option_map}
 use Rattle.std.proofs.lemmas.Bool.{eqb-true, eqb-false}
 use Rattle.std.proofs.lemmas.Bool.Decides.{nat_tests}
 use Rattle.std.proofs.lemmas.List.{length-map, get_or-map, get_or-set_same, map-set}
-use Rattle.std.proofs.lemmas.Option.{slice_get_within, slice_get-map}
+use Rattle.std.proofs.lemmas.Option.{slice_get-map}
 use Rattle.l4_model.specs.Machine.{Machine}
 use Rattle.l4_model.specs.World.{changed}
 use Rattle.l4_model.proofs.Chains.{get-changed_same, set_changed, length-changed}
@@ -18,8 +18,10 @@ use Rattle.l4_core_model.specs.Mail.{handle}
 use Rattle.l4_core_model.specs.Runs.{System, letters, posted, taken, Action, Handles, Turns, Ticks, Happened, Event, done, happens, Run, then_event, core_run, opening_run, is_empty, IsMachine}
 use Rattle.l4_core_model.specs.Schedules.{first_poster, turn_of, next_turn, or_stays, attempts}
 use Rattle.l4_core_model.specs.Laws.{IsCoreRun}
-use Rattle.l4_split.specs.Laws.{IsLawfulLetter, IsLawfulRun}
+use Rattle.l4_split.specs.Laws.{IsLawfulRun}
+use Rattle.l4_merge.specs.Transitions.{LocalEvent, Handled, Turned, Ticked, work_of}
 use Rattle.l4_merge.proofs.CoreRuns.{core_run-append}
+use Rattle.l4_merge.proofs.Destinations.{letters_go_elsewhere}
 use Rattle.l4_core.specs.Processor.{Processor}
 use Rattle.l4_machine.specs.declared.scheduler.Scheduler.{Scheduler}
 use Rattle.l4_machine.specs.declared.station.Choice.{Choice}
@@ -108,6 +110,9 @@ pub record Happens (m : Machine) (g : System) (e : Action) (cpu : ℕ) (ss : Lis
   pub stations : List Station
   pub old : Station
   pub is : happens m g e ≡ Some (done cpu before x)
+  pub local : Local
+  pub event : LocalEvent
+  pub does : work_of m cpu local event ≡ Some x
   pub system : IsSystem m before stations
   pub at : slice_get stations cpu ≡ Some old
   pub same : IsSame old new x.local
@@ -149,6 +154,9 @@ own_happens m g ss cpu old new i at t =
         stations = ss;
         old = s;
         is = rw (here, does) refl;
+        local = old.worker.core.local;
+        event = Turned;
+        does = does;
         system = i;
         at = at;
         same = same_by old new s.inbox t.work t.done t.rest;
@@ -173,6 +181,9 @@ letter_happens m g ss cpu from old new i at within t =
         stations = changed (without_letter from) ss cpu;
         old = without_letter from s;
         is = rw (here, first, does) refl;
+        local = old.worker.core.local;
+        event = Handled from t.letter;
+        does = does;
         system = taken_system m g ss from cpu s t.letter i at within t.first;
         at = get-changed_same (without_letter from) ss cpu ∙ ap (option_map (without_letter from)) at;
         same = same_by old new (without_letter from s).inbox t.work t.done t.rest;
@@ -229,6 +240,9 @@ tick_happens m g ss cpu clock old new i at t =
         stations = ss;
         old = s;
         is = rw (here, does) refl;
+        local = old.worker.core.local;
+        event = Ticked clock;
+        does = does;
         system = i;
         at = at;
         same = same_by old new s.inbox t.work t.done t.rest;
@@ -279,34 +293,18 @@ pub knows_poster : (m : Machine) (r : Run) (v : UnderWay) (cpu : ℕ) (s : Stati
 knows_poster m r v cpu s c i at known =
     subst (λ n. KnowsPoster n c) (ap (λ (m : Machine). m.cpus) i.machine ∙ sym (i.system.each cpu s at).inbox) known
 
--- The letters go to processors that there are
-
-second_part : {A : Type 0} (P : A → Type 0) (xs ys : List A) → AllByRecursion P (xs ++ ys) → AllByRecursion P ys
-second_part P [] ys a = a
-second_part P (x ∷ xs) ys a = second_part P xs ys a.1
-
-some_within : {A : Type 0} (Q : A → Type 0) (xs : List A) (i : ℕ) (o : Option A) → slice_get xs i ≡ o → IsSomeAnd o Q → i < length xs
-some_within Q xs i None at is = absurd is
-some_within Q xs i (Some x) at is = slice_get_within xs i x at
+-- The letters go to other processors that there are
 
 then_is : (m : Machine) (r : Run) (e : Action) (h : Happened) → IsCoreRun m r → happens m r.system e ≡ Some h → IsCoreRun m (then_event r h)
 then_is m r e h ran is =
     let next : core_run m r (e ∷ []) ≡ Some (then_event r h) = rw is refl in
     (ran.0 ++ e ∷ [], core_run-append m ran.0 (e ∷ []) (opening_run m) r (then_event r h) ran.1 next)
 
-posted_within : (m : Machine) (g : System) (n cpu : ℕ) (ls : List (ℕ × Letter)) → length g.locals ≡ n → AllByRecursion (IsLawfulLetter m g) (map (posted cpu) ls) → AllByRecursion (λ p. p.0 < n) ls
-posted_within m g n cpu [] size a = tt
-posted_within m g n cpu (l ∷ ls) size a = (let lt = some_within _ g.locals l.0 (slice_get g.locals l.0) refl a.0 in omega arith, posted_within m g n cpu ls size a.1)
-
-pub can_post_all : AllLawful → (m : Machine) (r : Run) (u : UnderWay) (e : Action) (cpu : ℕ) (new : Station) (x : Work) → IsRun m r u → cpu < m.cpus →
+pub can_post_all : (m : Machine) (r : Run) (u : UnderWay) (e : Action) (cpu : ℕ) (new : Station) (x : Work) → IsRun m r u → cpu < m.cpus →
     Happens m r.system e cpu u.stations new x → CanPost cpu x.letters (changed (λ s. new) u.stations cpu)
-can_post_all law m r u e cpu new x i lt h =
-    let after : Happened = done cpu h.before x in
-    let lawful = (law m (then_event r after) i.lawful (then_is m r e after i.core_run h.is)).letters.all in
-    let size : length after.system.locals ≡ m.cpus = let a = length-changed (λ (l : Local). x.local) h.before.locals cpu in let b = ap length h.system.locals in let c = length-map h.stations (λ (s : Station). s.core.local) in let d = h.system.for_each in omega arith in
+can_post_all m r u e cpu new x i lt h =
     subst (CanPost cpu x.letters) h.written
-    (can_post m h.before h.stations cpu h.old new x h.system h.at h.same lt
-    (posted_within m after.system m.cpus cpu x.letters size (second_part (IsLawfulLetter m after.system) h.before.mail (map (posted cpu) x.letters) lawful)))
+    (can_post m h.before h.stations cpu h.old new x h.system h.at h.same lt (letters_go_elsewhere m cpu h.local h.event x i.lawful lt h.does))
 
 -- One more event
 
@@ -384,19 +382,19 @@ out_of ss i cpu old new r same =
     ∙ get_or-set_same (map letters_out ss) i (letters_out new) [] (omega arith)
 
 -- What it posted can be posted.
-pub can_deliver : AllLawful → (m : Machine) (r : Run) (v : UnderWay) (e : Action) (cpu i : ℕ) (ss : List program.Station) (old new : program.Station) → IsRun m r v → v.stations ≡ map station_of ss →
+pub can_deliver : (m : Machine) (r : Run) (v : UnderWay) (e : Action) (cpu i : ℕ) (ss : List program.Station) (old new : program.Station) → IsRun m r v → v.stations ≡ map station_of ss →
     i ≡ cpu → IsHere m r v cpu i ss old → HasHappened m r.system e cpu v.stations old new → CanPost cpu (letters_of (set ss i new) cpu) (map station_of (set ss i new))
-can_deliver law m r v e cpu i ss old new is stations same here h =
+can_deliver m r v e cpu i ss old new is stations same here h =
     let out : letters_of (set ss i new) cpu ≡ h.work.letters = out_of ss i cpu old new here.read same ∙ h.done.letters in
     let written = set_station ss i cpu old new here.read same ∙ ap (λ ss. changed (λ s. station_of new) ss cpu) (sym stations) in
     subst (λ ls. CanPost cpu ls (map station_of (set ss i new))) (sym out)
-    (subst (CanPost cpu h.work.letters) (sym written) (can_post_all law m r v e cpu (station_of new) h.work is here.below h.happens))
+    (subst (CanPost cpu h.work.letters) (sym written) (can_post_all m r v e cpu (station_of new) h.work is here.below h.happens))
 
 -- The event has ended, and its letters have come to the others.
-pub event_ended : AllLawful → (m : Machine) (r : Run) (v w : UnderWay) (e : Action) (cpu i : ℕ) (ss after : List program.Station) (old new : program.Station) → IsRun m r v → v.stations ≡ map station_of ss →
+pub event_ended : (m : Machine) (r : Run) (v w : UnderWay) (e : Action) (cpu i : ℕ) (ss after : List program.Station) (old new : program.Station) → IsRun m r v → v.stations ≡ map station_of ss →
     v.logs ≡ map events_at ss → i ≡ cpu → IsHere m r v cpu i ss old → HasHappened m r.system e cpu v.stations old new → HasDelivered cpu (set ss i new) after →
     w.machine ≡ v.machine → w.stations ≡ map station_of after → w.logs ≡ map events_at after → w.order ≡ v.order ++ cpu ∷ [] → IsRun m (attempts m r e) w
-event_ended law m r v w e cpu i ss after old new is stations logs same here h d machine now told order =
+event_ended m r v w e cpu i ss after old new is stations logs same here h d machine now told order =
     let x = h.work in
     let it = is.system.each cpu (station_of old) here.at in
     let out : letters_of (set ss i new) cpu ≡ x.letters = out_of ss i cpu old new here.read same ∙ h.done.letters in
@@ -405,7 +403,7 @@ event_ended law m r v w e cpu i ss after old new is stations logs same here h d 
     h.done.events ∙ ap (λ c. events_at old ++ record { cpu = c; stamp = x.local.stamp; steps = x.steps } ∷ []) it.cpu_is in
     let size : length v.logs ≡ length ss = ap length logs ∙ length-map ss events_at in
     let within = here.read.within in
-    run_done m r v w e cpu (station_of new) x is (omega arith) h.happens (can_post_all law m r v e cpu (station_of new) x is here.below h.happens) (record {
+    run_done m r v w e cpu (station_of new) x is (omega arith) h.happens (can_post_all m r v e cpu (station_of new) x is here.below h.happens) (record {
       machine = machine;
       stations = now ∙ d.stations ∙ ap (λ ls. with_letters cpu ls (map station_of (set ss i new))) out
           ∙ ap (with_letters cpu x.letters) (set_station ss i cpu old new here.read same ∙ ap (λ ss. changed (λ s. station_of new) ss cpu) (sym stations));
@@ -414,14 +412,14 @@ event_ended law m r v w e cpu i ss after old new is stations logs same here h d 
     })
 
 -- So it is where memory was there for it.
-pub ended : AllLawful → (e : Machine → Run → Action) → (first told last : Scheduler) (cpu i : ℕ) (old new : program.Station) {A E : Type 0} (result : Result A E) →
+pub ended : (e : Machine → Run → Action) → (first told last : Scheduler) (cpu i : ℕ) (old new : program.Station) {A E : Type 0} (result : Result A E) →
     told.machine.now ≡ first.machine.now → told.order.items ≡ first.order.items → told.stations.items ≡ set first.stations.items i new → i ≡ cpu →
     ((m : Machine) (r : Run) → IsRun m r (under_way first) → IsHere m r (under_way first) cpu i first.stations.items old × HasHappened m r.system (e m r) cpu (under_way first).stations old new) →
     OnOk result (HasEndedEvent cpu told last) → OnOk result (GoesOn (λ m r. attempts m r (e m r)) (under_way first) (under_way last))
-ended law e first told last cpu i old new (Err x) machine order stations same happens done = done
-ended law e first told last cpu i old new (Ok x) machine order stations same happens done = λ m r is.
+ended e first told last cpu i old new (Err x) machine order stations same happens done = done
+ended e first told last cpu i old new (Ok x) machine order stations same happens done = λ m r is.
     let both = happens m r is in
-    event_ended law m r (under_way first) (under_way last) (e m r) cpu i first.stations.items last.stations.items old new is refl refl same both.0 both.1
+    event_ended m r (under_way first) (under_way last) (e m r) cpu i first.stations.items last.stations.items old new is refl refl same both.0 both.1
     (subst (λ ss. HasDelivered cpu ss last.stations.items) stations done.delivered)
     (done.machine ∙ machine) refl refl (done.order ∙ ap (λ ns. ns ++ cpu ∷ []) order)
 

@@ -18,8 +18,6 @@ use Rattle.l4_merge.specs.LocalTraces.{LocalTrace, empty_past, Extends, Begins, 
 use Rattle.l4_merge.specs.Merges.{is_at_rest, AreAtRest, IsWholeRun, SortAsMerged}
 use Rattle.l4_merge.proofs.Processors.{at_processor, at_none, of_processor}
 use Rattle.l4_merge.proofs.Worked.{worked_none, worked_trans}
-use Rattle.l4_types.specs.LetterView.{letter_of}
-use Rattle.l4_types.specs.declared.letters.Letter as own
 use Rattle.l4_mail.specs.Ends.{ring_in, ring_out, taken, posted}
 use Rattle.l4_mail.specs.Rests.{has_number, have_numbers, have_size, are_all}
 use Rattle.l4_mail.specs.Ports.{Account, account, fabric_size, place, posted_to, taken_from, kept_from, AreOneFabric, AreWhole, IsApart}
@@ -106,9 +104,9 @@ none_posted_beyond m p k o le =
 
 -- What was not taken was not handled.
 pub none_handled : (p : Processor) (k : ℕ) → taken_from p.port k ≡ [] → (past p).handled k ≡ []
-none_handled p k none = ap (λ (ls : List own.Letter). map letter_of (take (length ls - length (hand_from p.worker.hand k)) ls)) none ∙ nothing _
+none_handled p k none = ap (λ (ls : List Letter). take (length ls - length (hand_from p.worker.hand k)) ls) none ∙ nothing _
   where
-    nothing : (n : ℕ) → map letter_of (take n []) ≡ []
+    nothing : (n : ℕ) → take {A = Letter} n [] ≡ []
     nothing zero = refl
     nothing (suc n) = refl
 
@@ -151,7 +149,7 @@ pair m ps from to all have = ⊎_elim (λ lt. to_within lt (with_number to ps) r
         by lt None is = absurd (none_there from lt is)
         by lt (Some p) is =
             let f = found from ps p is in
-            posted_at p lt is ∙ ap (map letter_of) (none_posted_beyond m p to (all.each f.at p f.here) le)
+            posted_at p lt is ∙ (none_posted_beyond m p to (all.each f.at p f.here) le)
 
     both : to < m.cpus → from < m.cpus → (p q : Processor) → with_number from ps ≡ Some p → with_number to ps ≡ Some q → Pair m ps from to
     both lt low p q is_p is_q =
@@ -165,7 +163,7 @@ pair m ps from to all have = ⊎_elim (λ lt. to_within lt (with_number to ps) r
         Beyond
         (handled_at q lt is_q ∙ none_handled q from (subst (λ cpu. taken_from q.port cpu ≡ []) number (none_taken_own m q o)))
         (posted_at p low is_p ∙ ap (λ (x : Processor). (past x).posted to) same
-        ∙ ap (map letter_of) (subst (λ cpu. posted_to q.port cpu ≡ []) g.number (none_posted_own m q o))))
+        ∙ (subst (λ cpu. posted_to q.port cpu ≡ []) g.number (none_posted_own m q o))))
         (λ (t : (nat_eq f.at g.at ≡ false) × (f.at ≡ g.at → ⊥)).
         Two f.at g.at p q t.1 f.here g.here f.number g.number (posted_at p low is_p) (handled_at q lt is_q))
         (eqb_tells f.at g.at)
@@ -263,12 +261,12 @@ rests m ps all have whole r = record {
 pub nothing_left : (handled more : List Letter) → handled ++ more ≡ handled → more ≡ []
 nothing_left handled more is = append_cancel_left handled more [] (is ∙ sym (append-nil handled))
 
-none_mapped : (xs ys : List own.Letter) → map letter_of (xs ++ ys) ≡ [] → (xs ≡ []) × (ys ≡ [])
-none_mapped [] [] is = (refl, refl)
-none_mapped [] (y ∷ ys) is = absurd cc
-none_mapped (x ∷ xs) ys is = absurd cc
+both_empty : (xs ys : List Letter) → xs ++ ys ≡ [] → (xs ≡ []) × (ys ≡ [])
+both_empty [] [] is = (refl, refl)
+both_empty [] (y ∷ ys) is = absurd cc
+both_empty (x ∷ xs) ys is = absurd cc
 
-in_hand : (k : ℕ) (letter : own.Letter) → hand_from (Some (k, letter)) k ≡ [] → ⊥
+in_hand : (k : ℕ) (letter : Letter) → hand_from (Some (k, letter)) k ≡ [] → ⊥
 in_hand k letter none = by (nat_eq k k) (eq-eqb k k refl) none
   where
     by : (b : Bool) → b ≡ true → cond b (letter ∷ []) [] ≡ [] → ⊥
@@ -296,7 +294,7 @@ rested m ps all have whole r = record {
         let b = all.each j q at_q in
         let posted = ap (posted_in q.worker.core.cpu) (past_found m ps p.worker.core.cpu p a.number (numbered m ps i p all have at_p)) in
         let handled = ap (handled_in p.worker.core.cpu) (past_found m ps q.worker.core.cpu q b.number (numbered m ps j q all have at_q)) in
-        none_mapped (hand_from q.worker.hand p.worker.core.cpu) (kept_from q.port p.worker.core.cpu)
+        both_empty (hand_from q.worker.hand p.worker.core.cpu) (kept_from q.port p.worker.core.cpu)
         (nothing_left ((past q).handled p.worker.core.cpu) _
         (sym (posted_is ps i j p q whole ne at_p at_q) ∙ sym posted ∙ r.all_handled p.worker.core.cpu q.worker.core.cpu ∙ handled))
 
@@ -309,7 +307,7 @@ rested m ps all have whole r = record {
         by_taken : taken_from p.port k ≡ [] → hand_from p.worker.hand k ≡ []
         by_taken none = none_behind (handled_from p.port p.worker.hand k) (hand_from p.worker.hand k) (sym (p.whole.hand k) ∙ none)
           where
-            none_behind : (xs ys : List own.Letter) → xs ++ ys ≡ [] → ys ≡ []
+            none_behind : (xs ys : List Letter) → xs ++ ys ≡ [] → ys ≡ []
             none_behind [] ys is = is
             none_behind (x ∷ xs) ys is = absurd cc
 
@@ -329,7 +327,7 @@ rested m ps all have whole r = record {
             subst (λ cpu. hand_from p.worker.hand cpu ≡ []) f.number (left f.at i q p t.1 f.here at).0)
             (eqb_tells f.at i)
 
-    hand : (i : ℕ) (p : Processor) → slice_get ps i ≡ Some p → (h : Option (ℕ × own.Letter)) → p.worker.hand ≡ h → p.worker.hand ≡ None
+    hand : (i : ℕ) (p : Processor) → slice_get ps i ≡ Some p → (h : Option (ℕ × Letter)) → p.worker.hand ≡ h → p.worker.hand ≡ None
     hand i p at None is = is
     hand i p at (Some x) is = absurd (in_hand x.0 x.1 (ap (λ h. hand_from h x.0) (sym is) ∙ none_of i p x.0 at))
 

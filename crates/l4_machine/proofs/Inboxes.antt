@@ -1,73 +1,31 @@
 -- An inbox, where a letter comes or is taken out.
 use Rattle.std.proofs.Common.{◌≡◌, ◌≢◌, ◌⊎◌, inl, inr, ℕ, zero, suc, ◌+◌, ◌-◌, ◌*◌, ◌%◌, ◌^◌, ◌<◌, ◌≤◌, Bool, true, false, Option, None, Some, List, [], ◌∷◌, ◌++◌, map, length, drop, get_or, set, replicate, refl, ap, sym, ◌∙◌, subst, arith, lt_trans, ⊎_elim, true≢false, bit_or, bit_and, w64}
-use Rattle.std.proofs.Common.{Bor, Global}
 use Rattle.std.specs.Prelude.{slice_get, ◌==◌}
 use Rattle.std.specs.Int.{bit_at}
 use Rattle.std.specs.Int.Count.{count_trailing_zeros}
-use Rattle.std.specs.Option.{option_map}
-use Rattle.std.specs.declared.collections.VecDeque.{VecDeque}
-use Rattle.std.specs.Slice.{IsItemAt}
-use Rattle.std.specs.VecDeque.{deque_len}
-use Rattle.std.proofs.Math.Seq.{map-set_same}
 use Rattle.std.proofs.lemmas.Bool.{cases_eq, cases_lt, eqb-true, eqb-false, lt-ltb}
-use Rattle.std.proofs.lemmas.List.{get_or_past, length-map, map-append}
+use Rattle.std.proofs.lemmas.List.{get_or_past}
 use Rattle.std.proofs.lemmas.Nat.Bits.{bit_at_set_same, bit_at_set_other, bit_at_clear_same, bit_at_clear_other, bit_at-zero, bit_at-trailing_zeros}
 use Rattle.l4_model.specs.World.{changed}
+use Rattle.l4_model.proofs.Chains.{set_changed}
 use Rattle.l4_core_model.specs.Letters.{Letter}
 use Rattle.l4_core_model.specs.Runs.{is_empty}
 use Rattle.l4_core_model.proofs.Changed.{get-changed}
-use Rattle.l4_types.specs.declared.letters.Letter as program
-use Rattle.l4_types.specs.LetterView.{letter_of}
 use Rattle.l4_machine.specs.Posters.{mark, AreEmpty, IsFirstFilled, MarksPosters}
 
+-- What is read of a queue.
+pub queue_read : (qs : List (List Letter)) (i : ℕ) (old : List Letter) → i < length qs → old ≡ get_or qs i old → get_or qs i [] ≡ old
+queue_read [] i old lt at = absurd (omega arith)
+queue_read (q ∷ qs) zero old lt at = sym at
+queue_read (q ∷ qs) (suc i) old lt at = queue_read qs i old (omega arith) at
+
 -- A queue is written where its letters change.
-pub queue_written : {Q : Type 0} (g : Q → List Letter) (f : List Letter → List Letter) (qs : List Q) (i : ℕ) (old new : Q) → i < length qs → old ≡ get_or qs i old → g new ≡ f (g old) →
-    map g (set qs i new) ≡ changed f (map g qs) i
-queue_written g f [] i old new lt at is = absurd (omega arith)
-queue_written g f (q ∷ qs) zero old new lt at is = ap (λ z. z ∷ map g qs) (is ∙ ap (λ q. f (g q)) at)
-queue_written g f (q ∷ qs) (suc i) old new lt at is = ap (λ zs. g q ∷ zs) (queue_written g f qs i old new (omega arith) at is)
-
--- What is read of it.
-pub queue_read : {Q : Type 0} (g : Q → List Letter) (qs : List Q) (i : ℕ) (old : Q) → i < length qs → old ≡ get_or qs i old → get_or (map g qs) i [] ≡ g old
-queue_read g [] i old lt at = absurd (omega arith)
-queue_read g (q ∷ qs) zero old lt at = ap g (sym at)
-queue_read g (q ∷ qs) (suc i) old lt at = queue_read g qs i old (omega arith) at
-
--- A queue of the program.
-abbrev pub Queue : Type 0
-Queue = VecDeque program.Letter Global
-
-abbrev pub queue : Queue → List Letter
-queue q = map letter_of q.items
-
-pub comes : (qs : List Queue) (from : ℕ) (letter : program.Letter) (old new : Queue) → from < length qs → old ≡ get_or qs from old → new.items ≡ old.items ++ letter ∷ [] →
-    map queue (set qs from new) ≡ changed (λ ls. ls ++ letter_of letter ∷ []) (map queue qs) from
-comes qs from letter old new lt at is =
-    queue_written queue (λ ls. ls ++ letter_of letter ∷ []) qs from old new lt at
-    (ap (map letter_of) is ∙ map-append letter_of old.items (letter ∷ []))
-
--- The first letter of a queue.
-pub first_read : (qs : List Queue) (from : ℕ) (old : Queue) (r : Option (Bor program.Letter)) → from < length qs → old ≡ get_or qs from old → IsItemAt old.items 0 r →
-    option_map (λ l. letter_of l.now) r ≡ slice_get (get_or (map queue qs) from []) 0
-first_read qs from old r within at item = by old.items r item ∙ sym (ap (λ ls. slice_get ls 0) (queue_read queue qs from old within at))
-  where
-    by : (ls : List program.Letter) (r : Option (Bor program.Letter)) → IsItemAt ls 0 r → option_map (λ l. letter_of l.now) r ≡ slice_get (map letter_of ls) 0
-    by [] None item = refl
-    by [] (Some x) item = absurd (true≢false item.0)
-    by (l ∷ ls) None item = absurd (true≢false (sym (lt-ltb 0 (length (l ∷ ls)) (omega arith)) ∙ sym item.0))
-    by (l ∷ ls) (Some x) item = ap (λ l. Some (letter_of l)) item.1
+pub queue_written : (f : List Letter → List Letter) (qs : List (List Letter)) (i : ℕ) (old new : List Letter) → i < length qs → old ≡ get_or qs i old → new ≡ f old → set qs i new ≡ changed f qs i
+queue_written f qs i old new lt at is = set_changed f qs i old new lt (is ∙ ap f at)
 
 pub no_first : (ls : List Letter) → None ≡ slice_get ls 0 → ls ≡ []
 no_first [] none = refl
 no_first (l ∷ ls) none = cc
-
--- A letter was taken out of it.
-map-drop : (ls : List program.Letter) → map letter_of (drop 1 ls) ≡ drop 1 (map letter_of ls)
-map-drop [] = refl
-map-drop (l ∷ ls) = refl
-
-pub taken_out : (qs : List Queue) (from : ℕ) (old new : Queue) → from < length qs → old ≡ get_or qs from old → new.items ≡ drop 1 old.items → map queue (set qs from new) ≡ changed (drop 1) (map queue qs) from
-taken_out qs from old new within at rest = queue_written queue (drop 1) qs from old new within at (ap (map letter_of) rest ∙ map-drop old.items)
 
 pub below_next : (P : ℕ → Type 0) (n k : ℕ) → ((k : ℕ) → k < n → P k) → P n → k < n + 1 → P k
 below_next P n k below at lt = by (k == n) refl
@@ -77,19 +35,13 @@ below_next P n k below at lt = by (k == n) refl
     by false e = let ne : k ≢ n = eqb-false k n e in below k (omega arith)
 
 -- An empty queue has no letter.
-no_letters : (q : Queue) → deque_len q ≡ 0 → queue q ≡ []
-no_letters q none = let size = q.ok.0 in ap (map letter_of) (no_items q.items (omega arith))
-  where
-    no_items : (ls : List program.Letter) → length ls ≡ 0 → ls ≡ []
-    no_items [] h = refl
-    no_items (l ∷ ls) h = cc
+pub nothing_there : (q : List Letter) (b : Bool) → b ≡ (length q == 0) → b ≡ true → q ≡ []
+nothing_there [] b is empty = refl
+nothing_there (l ∷ q) b is empty = absurd (let none : length (l ∷ q) ≡ 0 = eqb-true (length (l ∷ q)) 0 (sym is ∙ empty) in omega (arith, none))
 
-pub nothing_there : (q : Queue) (b : Bool) → b ≡ (deque_len q == 0) → b ≡ true → queue q ≡ []
-nothing_there q b is empty = no_letters q (eqb-true (deque_len q) 0 (sym is ∙ empty))
-
--- Where a queue has the letters that it had, so has the inbox.
-pub same_letters : (qs : List Queue) (from : ℕ) (old new : Queue) → old ≡ get_or qs from old → new.items ≡ old.items → map queue (set qs from new) ≡ map queue qs
-same_letters qs from old new at same = map-set_same queue qs from new old (ap (map letter_of) same ∙ ap queue at)
+something_there : (q : List Letter) (b : Bool) → b ≡ (length q == 0) → b ≡ false → q ≢ []
+something_there [] b is some none = true≢false (sym is ∙ some)
+something_there (l ∷ q) b is some none = cc
 
 -- The marks of posters
 
@@ -159,33 +111,21 @@ marks_stay qs word from within some marks i lt = ⊎_elim
     (λ ne. marks i lt ∙ sym (ap mark (changed_else (drop 1) qs i from ne)))
     (cases_eq i from)
 
--- What is left of a queue of the program.
-left_there : (qs : List Queue) (from : ℕ) (old new : Queue) → from < length qs → old ≡ get_or qs from old → new.items ≡ drop 1 old.items →
-    drop 1 (get_or (map queue qs) from []) ≡ queue new
-left_there qs from old new within at rest =
-    ap (drop 1) (queue_read queue qs from old within at) ∙ sym (ap (map letter_of) rest ∙ map-drop old.items)
+-- The first letter of a queue was dropped.
+module _ (qs : List (List Letter)) (word from : ℕ) (old new : List Letter) (b : Bool) (within : from < length qs) (at : old ≡ get_or qs from old)
+    (rest : new ≡ drop 1 old) (is : b ≡ (length new == 0)) (marks : MarksPosters word qs) where
+  left_there : drop 1 (get_or qs from []) ≡ new
+  left_there = ap (drop 1) (queue_read qs from old within at) ∙ sym rest
 
-something_there : (q : Queue) (b : Bool) → b ≡ (deque_len q == 0) → b ≡ false → queue q ≢ []
-something_there q b is some none = eqb-false (deque_len q) 0 (sym is ∙ some) (q.ok.0 ∙ by q.items none)
-  where
-    by : (ls : List program.Letter) → map letter_of ls ≡ [] → length ls ≡ 0
-    by [] none = refl
-    by (l ∷ ls) none = cc
-
-module _ (qs : List Queue) (word from : ℕ) (old new : Queue) (b : Bool) (within : from < length qs) (at : old ≡ get_or qs from old)
-    (rest : new.items ≡ drop 1 old.items) (is : b ≡ (deque_len new == 0)) (marks : MarksPosters word (map queue qs)) where
-  within_map : from < length (map queue qs)
-  within_map = let size = length-map qs queue in omega arith
-
-  pub last_dropped : from < 64 → b ≡ true → MarksPosters (bit_and word (18446744073709551615 - 1 * 2 ^ from % 18446744073709551616)) (map queue (set qs from new))
+  pub last_dropped : from < 64 → b ≡ true → MarksPosters (bit_and word (18446744073709551615 - 1 * 2 ^ from % 18446744073709551616)) (set qs from new)
   last_dropped small empty =
-      subst (MarksPosters (bit_and word (18446744073709551615 - 1 * 2 ^ from % 18446744073709551616))) (sym (taken_out qs from old new within at rest))
-      (marks_emptied (map queue qs) word from within_map small (left_there qs from old new within at rest ∙ nothing_there new b is empty) marks)
+      subst (MarksPosters (bit_and word (18446744073709551615 - 1 * 2 ^ from % 18446744073709551616))) (sym (queue_written (drop 1) qs from old new within at rest))
+      (marks_emptied qs word from within small (left_there ∙ nothing_there new b is empty) marks)
 
-  pub one_dropped : b ≡ false → MarksPosters word (map queue (set qs from new))
+  pub one_dropped : b ≡ false → MarksPosters word (set qs from new)
   one_dropped some =
-      subst (MarksPosters word) (sym (taken_out qs from old new within at rest))
-      (marks_stay (map queue qs) word from within_map (λ none. something_there new b is some (sym (left_there qs from old new within at rest) ∙ none)) marks)
+      subst (MarksPosters word) (sym (queue_written (drop 1) qs from old new within at rest))
+      (marks_stay qs word from within (λ none. something_there new b is some (sym left_there ∙ none)) marks)
 
 -- The lowest poster has the lowest mark.
 pub are_empty : (qs : List (List Letter)) (word : ℕ) → length qs ≤ 64 → word ≡ 0 → MarksPosters word qs → AreEmpty qs

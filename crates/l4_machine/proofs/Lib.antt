@@ -16,6 +16,7 @@ pub mod Outcomes
 pub mod Posting
 pub mod Recorded
 pub mod Lawful
+mod LetterQueues
 pub mod Replays
 pub mod Rising
 pub mod Stamps

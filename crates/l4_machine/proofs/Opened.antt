@@ -12,7 +12,6 @@ use Rattle.l4_core_model.specs.Runs.{Run, opening_run}
 use Rattle.l4_merge.specs.LocalTraces.{LocalTrace, posted_in, handled_in, letters_posted, letters_handled, all_events}
 use Rattle.l4_merge.specs.Merges.{EndsAt}
 use Rattle.l4_merge.proofs.InRounds.{opening_in_rounds, is_core_run}
-use Rattle.l4_types.specs.LetterView.{letter_of}
 use Rattle.l4_mail.specs.Ports.{AreOneFabric}
 use Rattle.l4_proc.specs.Assembled.{AreAssembled}
 use Rattle.l4_proc.specs.Rests.{AreAsBefore}
@@ -41,7 +40,7 @@ none_carried m ps a from to = (posted (slice_get (pasts ps) from) refl, handled 
     posted None at = refl
     posted (Some done) at =
         let p = past_at ps from done at in
-        ap (λ (d : LocalTrace). d.posted to) (sym p.1.1) ∙ ap (map letter_of) ((a.each from p.0 p.1.0).posted to)
+        ap (λ (d : LocalTrace). d.posted to) (sym p.1.1) ∙ ((a.each from p.0 p.1.0).posted to)
 
     handled : (o : Option LocalTrace) → slice_get (pasts ps) to ≡ o → handled_in from o ≡ []
     handled None at = refl

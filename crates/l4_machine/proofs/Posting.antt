@@ -15,7 +15,7 @@ pub post_more : (from to i : ℕ) (letter : Letter) (ps rest : List (ℕ × Lett
     new ≡ with_letter from letter old → IsPosted from ps rest ss (set ss i new)
 post_more from to i letter ps rest ss old new same is can at put =
     let can = subst (λ ps. CanPost from ps ss) is can in
-    let within = can.0.0 in
+    let within = can.0.0.0 in
     let written : set ss i new ≡ changed (with_letter from letter) ss to =
     set_changed (with_letter from letter) ss i old new (omega arith) (put ∙ ap (with_letter from letter) at) ∙ ap (changed (with_letter from letter) ss) same in
     record {

@@ -3,12 +3,11 @@ use Rattle.std.proofs.Common.{◌≡◌, ℕ, ◌<◌, Bool, true, false, Option
 use Rattle.std.specs.Prelude.{◌+◌, slice_get, OnErr, OnOk, Result, Ok, Err}
 use Rattle.std.specs.Option.{option_map}
 use Rattle.std.proofs.lemmas.Option.{slice_get-get_or, slice_get-map}
+use Rattle.l4_core_model.specs.Letters.{Letter}
 use Rattle.l4_core_model.specs.Acts.{Work}
 use Rattle.l4_core_model.specs.Runs.{is_empty, Event}
 use Rattle.l4_core_model.specs.Turns.{can_stamp, turn}
 use Rattle.l4_merge.specs.Transitions.{work_of}
-use Rattle.l4_types.specs.declared.letters.Letter as letters
-use Rattle.l4_types.specs.LetterView.{letter_of}
 use Rattle.l4_core.specs.Processor.{Processor}
 use Rattle.l4_core.specs.Turning.{work}
 use Rattle.l4_proc.specs.declared.stops.Stop.TheVariants as stop
@@ -30,7 +29,7 @@ pub record Keeps (w : Worker) : Type 0 where
   pub own : w.log.cpu ≡ w.core.cpu
 
 -- A worker of which an event has begun.
-pub record IsAtHand (old w : Worker) (hand : Option (ℕ × letters.Letter)) : Type 0 where
+pub record IsAtHand (old w : Worker) (hand : Option (ℕ × Letter)) : Type 0 where
   pub core : w.core ≡ old.core
   pub held : w.hand ≡ hand
   pub log : HasBegun old.log w.log
@@ -40,7 +39,7 @@ core_is p c machine cpu =
     ap (λ m. record { machine = m; cpu = p.cpu; local = p.local }) machine
     ∙ ap (λ (n : ℕ). record { machine = c.machine; cpu = n; local = p.local }) cpu
 
-module _ (old w new : Worker) (hand : Option (ℕ × letters.Letter)) (k : Keeps old) (h : IsAtHand old w hand) (t : HasTakenTurn w new) where
+module _ (old w new : Worker) (hand : Option (ℕ × Letter)) (k : Keeps old) (h : IsAtHand old w hand) (t : HasTakenTurn w new) where
   turned_log : IsLogged old.log new.log t.stamp t.choice t.middle.log.buffer.steps
   turned_log = logged old.log w.log t.middle.log new.log t.stamp t.choice t.middle.log.ticks k.closed h.log t.done.cpu (ap (λ ends. ends.items) t.done.ends) t.done.event.kept t.ended
 
@@ -60,7 +59,7 @@ module _ (old w new : Worker) (hand : Option (ℕ × letters.Letter)) (k : Keeps
   turned_event : work_of old.core.machine old.core.cpu old.core.local (event_in_hand hand) ≡ Some turned_work
   turned_event =
       subst (λ (c : Processor). work_of c.machine c.cpu c.local (event_in_hand hand) ≡ Some turned_work) h.core
-      (subst (λ (o : Option (ℕ × letters.Letter)). work_of w.core.machine w.core.cpu w.core.local (event_in_hand o) ≡ Some turned_work) h.held t.done.event.is)
+      (subst (λ (o : Option (ℕ × Letter)). work_of w.core.machine w.core.cpu w.core.local (event_in_hand o) ≡ Some turned_work) h.held t.done.event.is)
 
   turned_core_is : new.core ≡ record { machine = old.core.machine; cpu = old.core.cpu; local = turned_work.local }
   turned_core_is =
@@ -75,7 +74,7 @@ module _ (old w new : Worker) (hand : Option (ℕ × letters.Letter)) (k : Keeps
       ∙ ap (λ s. events old.log ++ event old.core.cpu s) t.done.event.stamped
 
 -- What was done.
-station_done : (old new : program.Station) (w : Worker) (hand : Option (ℕ × letters.Letter)) (k : Keeps old.worker)
+station_done : (old new : program.Station) (w : Worker) (hand : Option (ℕ × Letter)) (k : Keeps old.worker)
     (h : IsAtHand old.worker w hand) (t : HasTakenTurn w new.worker) →
     HasDone (turned_work old.worker w new.worker hand k h t) old new
 station_done old new w hand k h t = record {
@@ -95,12 +94,12 @@ station_turned old new w k h inbox t = record {
 }
 
 -- A letter was handled.
-station_handled : (old new : program.Station) (w : Worker) (p : ℕ × letters.Letter) → Keeps old.worker →
+station_handled : (old new : program.Station) (w : Worker) (p : ℕ × Letter) → Keeps old.worker →
     IsAtHand old.worker w (Some p) →
-    IsTakenFrom p.0 (letters_in old.inbox) (letter_of p.1) (letters_in new.inbox) → HasTakenTurn w new.worker →
+    IsTakenFrom p.0 (letters_in old.inbox) p.1 (letters_in new.inbox) → HasTakenTurn w new.worker →
     IsHandling p.0 old new
 station_handled old new w p k h taken t = record {
-  letter = letter_of p.1;
+  letter = p.1;
   work = turned_work old.worker w new.worker (Some p) k h t;
   first = taken.first;
   is = turned_event old.worker w new.worker (Some p) k h t;
@@ -147,7 +146,7 @@ core_tried true old new w k h inbox t = station_turned old new w k h inbox t
 core_tried false old new w k h inbox t = station_idle old new w h inbox t.0 t.1
 
 -- A worker of which an event has begun, with this letter in hand.
-letter_at_hand : (old begun : Worker) (from : ℕ) (letter : letters.Letter) → IsAtHand old begun None →
+letter_at_hand : (old begun : Worker) (from : ℕ) (letter : Letter) → IsAtHand old begun None →
     IsAtHand old (with_in_hand from letter begun) (Some (from, letter))
 letter_at_hand old begun from letter h = record { core = h.core; held = refl; log = h.log }
 
@@ -174,7 +173,7 @@ own_tried true old new begun k h none inbox t = inr (none, station_turned old ne
 own_tried false old new begun k h none inbox t = (none, station_idle old new begun h inbox t.0 t.1)
 
 -- What is kept, whether there was something to do or not.
-pub tried_kept : (b : Bool) (old w new : Worker) (hand : Option (ℕ × letters.Letter)) → Keeps old →
+pub tried_kept : (b : Bool) (old w new : Worker) (hand : Option (ℕ × Letter)) → Keeps old →
     IsAtHand old w hand → HasTriedTurn b w new → Keeps new
 tried_kept true old w new hand k h t = turned_kept old w new hand k h t
 tried_kept false old w new hand k h t = record {
@@ -198,7 +197,7 @@ can_turn old w can h stop.NoMemory why = absurd why
 can_turn old w can h stop.Mail why = absurd (let some = why.here in let none = h.held in cc)
 can_turn old w can h stop.Stamp why =
     let core : Processor → Type 0 = λ c. can_stamp c.local 0 ≡ false in
-    let full = subst core h.core (subst (λ (o : Option (ℕ × letters.Letter)). can_stamp w.core.local (stamp_in_hand o) ≡ false) h.held why.full) in
+    let full = subst core h.core (subst (λ (o : Option (ℕ × Letter)). can_stamp w.core.local (stamp_in_hand o) ≡ false) h.held why.full) in
     absurd (let own = can.own in cc)
 
 pub can_handle_first : (old : program.Station) (w : Worker) (from : ℕ) → CanGoOn (station_of old) → IsAtHand old.worker w None →

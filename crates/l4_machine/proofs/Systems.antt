@@ -1,5 +1,5 @@
 -- The stations of a machine, where one of them does something and posts letters to the others.
-use Rattle.std.proofs.Common.{◌≡◌, ℕ, ◌<◌, Bool, true, false, cond, Option, Some, None, List, [], ◌∷◌, ◌++◌, map, length, drop, get_or, refl, ap, sym, ◌∙◌, subst, arith, append_assoc, append-nil}
+use Rattle.std.proofs.Common.{◌≡◌, ◌≢◌, ℕ, ◌<◌, Bool, true, false, cond, Option, Some, None, List, [], ◌∷◌, ◌++◌, map, length, drop, get_or, refl, ap, sym, ◌∙◌, subst, arith, append_assoc, append-nil}
 use Rattle.std.specs.Prelude.{slice_get, filter, ◌==◌}
 use Rattle.std.specs.List.{AllByRecursion}
 use Rattle.std.specs.Option.{option_map}
@@ -83,7 +83,7 @@ all_of P Q f (x ∷ xs) a = (f x a.0, all_of P Q f xs a.1)
 pub can_post_more : (cpu : ℕ) (p : ℕ × Letter) (ps : List (ℕ × Letter)) (ss : List Station) → CanPost cpu (p ∷ ps) ss → CanPost cpu ps (changed (with_letter cpu p.1) ss p.0)
 can_post_more cpu p ps ss can =
     let size = length-changed (with_letter cpu p.1) ss p.0 in (
-      all_of (λ (q : ℕ × Letter). q.0 < length ss) (λ q. q.0 < length (changed (with_letter cpu p.1) ss p.0)) (λ q h. omega arith) ps can.0.1,
+      all_of (λ (q : ℕ × Letter). (q.0 < length ss) × (q.0 ≢ cpu)) (λ q. (q.0 < length (changed (with_letter cpu p.1) ss p.0)) × (q.0 ≢ cpu)) (λ q h. (let lt = h.0 in omega arith, h.1)) ps can.0.1,
       λ to s at. changed_at (λ t (s : Station). cpu < length s.inbox) (with_letter cpu p.1) ss p.0 to s
           (λ x was. let e = length-changed (λ ls. ls ++ p.1 ∷ []) x.inbox cpu in let lt = can.1 p.0 x was in omega arith) (can.1 to s) at,
     )
@@ -98,7 +98,7 @@ letters_come cpu from to [] ss can = none (cpu == from)
     none false = sym (append-nil (letters_at from (slice_get ss to)))
 letters_come cpu from to (p ∷ ps) ss can =
     letters_come cpu from to ps (changed (with_letter cpu p.1) ss p.0) (can_post_more cpu p ps ss can)
-    ∙ ap (λ ls. ls ++ cond (cpu == from) (letters_with to ps) []) (posted_at cpu from to p.0 p.1 ss can.0.0 can.1)
+    ∙ ap (λ ls. ls ++ cond (cpu == from) (letters_with to ps) []) (posted_at cpu from to p.0 p.1 ss can.0.0.0 can.1)
     ∙ by (cpu == from) (p.0 == to)
   where
     by : (b c : Bool) → letters_at from (slice_get ss to) ++ cond b (cond c (p.1 ∷ []) []) [] ++ cond b (letters_with to ps) [] ≡
@@ -200,11 +200,11 @@ done_system m g ss cpu old new x i at same can = record {
 
 -- What an inbox has room for stays.
 pub can_post : (m : Machine) (g : System) (ss : List Station) (cpu : ℕ) (old new : Station) (x : Work) → IsSystem m g ss → slice_get ss cpu ≡ Some old → IsSame old new x.local →
-    cpu < m.cpus → AllByRecursion (λ p. p.0 < m.cpus) x.letters → CanPost cpu x.letters (changed (λ s. new) ss cpu)
+    cpu < m.cpus → AllByRecursion (λ p. (p.0 < m.cpus) × (p.0 ≢ cpu)) x.letters → CanPost cpu x.letters (changed (λ s. new) ss cpu)
 can_post m g ss cpu old new x i at same lt within =
     let size = length-changed (λ (s : Station). new) ss cpu in
     let each = i.for_each in (
-      all_of (λ (p : ℕ × Letter). p.0 < m.cpus) (λ p. p.0 < length (changed (λ s. new) ss cpu)) (λ p h. omega arith) x.letters within,
+      all_of (λ (p : ℕ × Letter). (p.0 < m.cpus) × (p.0 ≢ cpu)) (λ p. (p.0 < length (changed (λ s. new) ss cpu)) × (p.0 ≢ cpu)) (λ p h. (let below = h.0 in omega arith, h.1)) x.letters within,
       λ to s there. changed_at (λ t (s : Station). cpu < length s.inbox) (λ s. new) ss cpu to s
           (λ y was. let e = (i.each cpu old at).inbox in let f = ap length same.inbox in omega arith)
           (λ was. let e = (i.each to s was).inbox in omega arith) there,

@@ -24,8 +24,7 @@ use Rattle.l4_merge.proofs.Permuted.{permuted}
 use Rattle.l4_merge.proofs.CoreRuns.{stays_core_run}
 use Rattle.l4_merge.proofs.InRounds.{turned_in_rounds}
 use Rattle.l4_split.specs.Laws.{IsLawfulRun}
-use Rattle.l4_types.specs.LetterView.{letter_of}
-use Rattle.l4_types.specs.declared.letters.Letter.{Letter}
+use Rattle.l4_core_model.specs.Letters.{Letter}
 use Rattle.l4_mail.specs.Ports.{taken_from, kept_from, AreOneFabric, AreWhole}
 use Rattle.l4_proc.specs.Events.{IsRefused, stamp_in_hand}
 use Rattle.l4_proc.specs.Rests.{AreAsBefore, HaveHandledAll}
@@ -154,7 +153,7 @@ round_in_rounds m asked turns left cpus olds mids news r rounds come round left_
 
 -- A letter in hand comes from another processor, and is the first of those that are under way from there.
 pub record IsFirstOf (m : Machine) (r : Run) (cpu : ℕ) (x : ℕ × Letter) : Type 0 where
-  pub first : slice_get (letters_of r.system.mail x.0 cpu) 0 ≡ Some (letter_of x.1)
+  pub first : slice_get (letters_of r.system.mail x.0 cpu) 0 ≡ Some x.1
 
 hand_is : (from : ℕ) (x : ℕ × Letter) (hand : Option (ℕ × Letter)) → hand ≡ Some x → x.0 ≡ from → hand_from hand from ≡ x.1 ∷ []
 hand_is from x hand is same =
@@ -196,14 +195,14 @@ in_hand_first m ps r i p x come whole at hand = ⊎_elim within beyond (cases_lt
         let to : p.worker.core.cpu ≡ i = all.numbers i p at in
         let posted : letters_posted (pasts ps) x.0 i ≡ (past a).posted i = ap (posted_in i) (get-map past ps x.0 a poster.1) in
         let handled : letters_handled (pasts ps) x.0 i ≡ (past p).handled x.0 = ap (handled_in x.0) (get-map past ps i p at) in
-        let there : (past a).posted i ≡ (past p).handled x.0 ++ map letter_of (hand_from p.worker.hand x.0 ++ kept_from p.port x.0) =
-        subst (λ to. (past a).posted to ≡ (past p).handled x.0 ++ map letter_of (hand_from p.worker.hand x.0 ++ kept_from p.port x.0)) to
-        (subst (λ from. (past a).posted p.worker.core.cpu ≡ (past p).handled from ++ map letter_of (hand_from p.worker.hand from ++ kept_from p.port from)) from
+        let there : (past a).posted i ≡ (past p).handled x.0 ++ (hand_from p.worker.hand x.0 ++ kept_from p.port x.0) =
+        subst (λ to. (past a).posted to ≡ (past p).handled x.0 ++ (hand_from p.worker.hand x.0 ++ kept_from p.port x.0)) to
+        (subst (λ from. (past a).posted p.worker.core.cpu ≡ (past p).handled from ++ (hand_from p.worker.hand from ++ kept_from p.port from)) from
         (posted_is ps x.0 i a p whole own poster.1 at)) in
-        let in_hand : (past a).posted i ≡ (past p).handled x.0 ++ letter_of x.1 ∷ map letter_of (kept_from p.port x.0) =
-        there ∙ ap (λ ls. (past p).handled x.0 ++ map letter_of (ls ++ kept_from p.port x.0)) (hand_is x.0 x p.worker.hand hand refl) in
+        let in_hand : (past a).posted i ≡ (past p).handled x.0 ++ x.1 ∷ (kept_from p.port x.0) =
+        there ∙ ap (λ ls. (past p).handled x.0 ++ (ls ++ kept_from p.port x.0)) (hand_is x.0 x p.worker.hand hand refl) in
         record {
-          first = first_of ((past p).handled x.0) ((past a).posted i) (letters_of r.system.mail x.0 i) (letter_of x.1) (map letter_of (kept_from p.port x.0))
+          first = first_of ((past p).handled x.0) ((past a).posted i) (letters_of r.system.mail x.0 i) x.1 (kept_from p.port x.0)
               (sym posted ∙ come.ends.mail x.0 i ∙ ap (λ ls. ls ++ letters_of r.system.mail x.0 i) handled) in_hand;
         }
 
@@ -227,10 +226,10 @@ pub no_mail_fault : (m : Machine) (ps : List Processor) (r : Run) (i : ℕ) (p :
 no_mail_fault m ps r i p come whole lawful at why =
     let letter = why.letter in
     let first = (in_hand_first m ps r i p letter come whole at why.here).first in
-    let some = lawful.letters.first letter.0 i (letter_of letter.1) p.worker.core.local first (local_at m ps r i p come at) in
-    let unlawful : handle m i p.worker.core.local (letter_of letter.1) ≡ None =
-    subst (λ m. handle m i p.worker.core.local (letter_of letter.1) ≡ None) (come.in_order.of_one.each i p at).machine
-    (subst (λ cpu. handle p.worker.core.machine cpu p.worker.core.local (letter_of letter.1) ≡ None) (come.in_order.numbers i p at) why.unlawful) in
+    let some = lawful.letters.first letter.0 i letter.1 p.worker.core.local first (local_at m ps r i p come at) in
+    let unlawful : handle m i p.worker.core.local letter.1 ≡ None =
+    subst (λ m. handle m i p.worker.core.local letter.1 ≡ None) (come.in_order.of_one.each i p at).machine
+    (subst (λ cpu. handle p.worker.core.machine cpu p.worker.core.local letter.1 ≡ None) (come.in_order.numbers i p at) why.unlawful) in
     let no = sym (ap is_some unlawful) ∙ some in
     cc
 
@@ -250,7 +249,7 @@ no_stamp_fault m ps r i p come whole few at why = by p.worker.hand refl
         cc
     by (Some x) is =
         let first = (in_hand_first m ps r i p x come whole at is).first in
-        let its = letter_stamp m r x.0 i (letter_of x.1) come.core_run first in
+        let its = letter_stamp m r x.0 i x.1 come.core_run first in
         let low = low_stamp p.worker.core.local.stamp x.1.stamp (length r.events) own its few in
         let no : can_stamp p.worker.core.local x.1.stamp ≡ false = ap (λ h. can_stamp p.worker.core.local (stamp_in_hand h)) (sym is) ∙ why.full in
         let both = sym low ∙ no in

@@ -1,12 +1,11 @@
 -- The letters that have come to a processor, by the processor that posted them.
-use Rattle.std.specs.Prelude.{◌≡◌, ℕ, Some, List, [], drop, map, slice_get, slice_index_or}
+use Rattle.std.specs.Prelude.{◌≡◌, ℕ, Some, List, [], drop, slice_get, slice_index_or}
 use Rattle.l4_model.specs.World.{changed}
 use Rattle.l4_core_model.specs.Letters.{Letter}
-use Rattle.l4_types.specs.LetterView.{letter_of}
 use Rattle.l4_machine.specs.declared.inbox.Inbox.{Inbox}
 
 abbrev pub letters_in : Inbox → List (List Letter)
-letters_in i = map (λ q. map letter_of q.items) i.queues.items
+letters_in i = i.queues.items
 
 -- The first letter of one poster was taken out.
 pub record IsTakenFrom (from : ℕ) (old : List (List Letter)) (letter : Letter)

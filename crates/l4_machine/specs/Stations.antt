@@ -9,8 +9,6 @@ use Rattle.l4_core_model.specs.Mail.{handle}
 use Rattle.l4_core_model.specs.Runs.{Event, System, Action, Handles, Turns, Ticks}
 use Rattle.l4_core_model.specs.Schedules.{next_turn}
 use Rattle.l4_core_model.specs.Turns.{advance, can_stamp, is_busy, turn}
-use Rattle.l4_types.specs.LetterView.{letter_of}
-use Rattle.l4_types.specs.declared.letters.Letter as letters
 use Rattle.l4_core.specs.Processor.{Processor}
 use Rattle.l4_proc.specs.Events.{HasNone, IsRefused}
 use Rattle.l4_proc.specs.Logs.{events}
@@ -96,8 +94,8 @@ CanHandleFirst from p inbox = (letter : Letter) →
 
 -- A worker handled the first letter of one poster, which was taken out.
 pub record HasHandledFirst (from : ℕ) (old new : Inbox) (before after : Worker) : Type 0 where
-  pub letter : letters.Letter
-  pub taken : IsTakenFrom from (letters_in old) (letter_of letter) (letters_in new)
+  pub letter : Letter
+  pub taken : IsTakenFrom from (letters_in old) letter (letters_in new)
   pub turn : HasTakenTurn (with_in_hand from letter before) after
 
 -- Where there is no letter of this poster, nothing has changed.

@@ -1,5 +1,5 @@
 -- A core run under way in the program, and the core run of the definitions that it is.
-use Rattle.std.specs.Prelude.{◌≡◌, ℕ, ◌==◌, ◌<◌, Option, Some, None, List, [], ◌∷◌, ◌++◌, filter, map, length, slice_get, slice_index_or}
+use Rattle.std.specs.Prelude.{◌≡◌, ◌≢◌, ℕ, ◌==◌, ◌<◌, Option, Some, None, List, [], ◌∷◌, ◌++◌, filter, map, length, slice_get, slice_index_or}
 use Rattle.std.specs.List.{AllByRecursion}
 use Rattle.l4_model.specs.Machine.{Machine}
 use Rattle.l4_model.specs.World.{changed}
@@ -36,10 +36,10 @@ with_letters from (p ∷ ps) ss = with_letters from ps (changed (with_letter fro
 abbrev pub KnowPoster : (from : ℕ) → List Station → Type 0
 KnowPoster from ss = (to : ℕ) (s : Station) → slice_get ss to ≡ Some s → from < length s.inbox
 
--- Each letter goes to a processor that there is, and each processor has a place for the letters of
--- this one.
+-- Each letter goes to another processor that there is, and each processor has a place for the
+-- letters of this one.
 abbrev pub CanPost : (from : ℕ) → List (ℕ × Letter) → List Station → Type 0
-CanPost from ps ss = AllByRecursion (λ p. p.0 < length ss) ps × KnowPoster from ss
+CanPost from ps ss = AllByRecursion (λ p. (p.0 < length ss) × (p.0 ≢ from)) ps × KnowPoster from ss
 
 -- The letters of a pair of processors.
 abbrev pub letters_at : (from : ℕ) → Option Station → List Letter
@@ -49,6 +49,15 @@ letters_at from (Some s) = letters_from from s
 -- The letters that the last event of a processor posted, and that are still to be taken.
 abbrev pub letters_of : List program.Station → (cpu : ℕ) → List (ℕ × Letter)
 letters_of ss cpu = slice_index_or (map letters_out ss) cpu []
+
+-- One more of the letters of a processor's last event has come to the processor that it goes to, and
+-- nothing else has changed.
+pub record HasDeliveredOne (from : ℕ) (old new : List program.Station) : Type 0 where
+  pub come : with_letters from (letters_of new from) (map station_of new) ≡
+      with_letters from (letters_of old from) (map station_of old)
+  pub can : CanPost from (letters_of new from) (map station_of new)
+  pub events : map events_at new ≡ map events_at old
+  pub fewer : length (letters_of new from) < length (letters_of old from)
 
 -- The letters of a processor's last event have come to the others, and nothing else has changed.
 pub record HasDelivered (from : ℕ) (old new : List program.Station) : Type 0 where

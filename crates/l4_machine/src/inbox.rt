@@ -1,31 +1,29 @@
 //! The letters that have arrived at a processor.
-ghost use Rattle.std.specs.Prelude.{◌≡◌, ◌≤◌, [], IfOk, length, map, replicate};
+ghost use Rattle.std.specs.Prelude.{◌≡◌, ◌≤◌, [], IfOk, length, replicate};
 ghost use Rattle.l4_model.specs.Machine.{most_processors};
-ghost use Rattle.l4_types.specs.LetterView.{letter_of};
 ghost use Rattle.l4_machine.specs.Posters.{MarksPosters};
 
+use crate::letter_queue::{LetterQueue, Letters};
 use l4_script::machine::Machine;
 use l4_types::errors::NoMemory;
-use l4_types::letters::Letter;
+use l4_types::letter_ref::LetterRef;
 use std::alloc::{AllocError, Global};
-use std::collections::VecDeque;
+use std::mem;
 
 /// For each processor of a machine the letters that came from it and were not taken yet.
 #[derive(Drop)]
 pub(crate) struct Inbox {
-    queues: Vec<VecDeque<Letter>>,
+    queues: Vec<LetterQueue>,
     // Bit p is set where there are letters from processor p: a turn need not look at each queue.
     posters: u64,
     ghost few: { length queues.items ≤ most_processors },
-    ghost marks: { MarksPosters posters (map (λ letters. map letter_of letters.items) queues.items) },
+    ghost marks: { MarksPosters posters queues.items },
 }
 
 impl Inbox {
-    ghost use Rattle.std.specs.Prelude.{◌≡◌, ◌<◌, ◌++◌, ◌∷◌, ◌↔◌, [], IfOk, IsTrue, OnOk, drop};
-    ghost use Rattle.std.specs.Prelude.{length, map, replicate, slice_get, slice_index_or};
-    ghost use Rattle.std.specs.Option.{option_map};
+    ghost use Rattle.std.specs.Prelude.{◌≡◌, ◌<◌, ◌++◌, ◌∷◌, ◌↔◌, [], IfOk, IsTrue, OnErr, OnOk, drop};
+    ghost use Rattle.std.specs.Prelude.{length, replicate, slice_get, slice_index_or};
     ghost use Rattle.l4_model.specs.World.{changed};
-    ghost use Rattle.l4_types.specs.LetterView.{letter_of};
     ghost use Rattle.l4_machine.specs.Inboxes.{letters_in};
     ghost use Rattle.l4_machine.specs.Posters.{AreEmpty, PostsFirst};
 
@@ -40,12 +38,11 @@ impl Inbox {
     }
 
     /// The first of the letters that came from this processor.
-    pub(crate) fn first(&self, from: u8) -> Option<&Letter>
+    pub(crate) fn first(&self, from: u8) -> Option<LetterRef<'_>>
         requires { from < length (letters_in self.now) }
-        ensures { option_map (λ letter. letter_of letter.now) result ≡
-            slice_get (slice_index_or (letters_in self.now) from []) 0 }
+        ensures { result ≡ slice_get (slice_index_or (letters_in self.now) from []) 0 }
     {
-        self.queues[usize::from(from)].front()
+        self.queues[usize::from(from)].first()
     }
 
     /// Drops the first of the letters that came from this processor.
@@ -54,31 +51,41 @@ impl Inbox {
         ensures { letters_in self.new ≡ changed (drop 1) (letters_in self.old) from }
     {
         let letters = &mut self.queues[usize::from(from)];
-        letters.pop_front();
+        letters.drop_first();
         if letters.is_empty() {
             self.posters &= !(1 << from);
         }
     }
 
-    /// Appends a letter from a processor. If memory is refused, the letter is lost.
-    pub(crate) fn put(&mut self, from: u8, letter: Letter) -> Result<(), AllocError>
+    /// Appends a letter from a processor. If memory is refused, nothing is changed.
+    pub(crate) fn put(&mut self, from: u8, letter: &LetterRef<'_>) -> Result<(), AllocError>
         requires { from < length (letters_in self.old) }
-        ensures { OnOk result (letters_in self.new ≡
-            changed (λ letters. letters ++ letter_of letter ∷ []) (letters_in self.old) from) }
+        ensures ok { OnOk result (letters_in self.new ≡
+            changed (λ letters. letters ++ letter.now ∷ []) (letters_in self.old) from) }
+        ensures err { OnErr result (letters_in self.new ≡ letters_in self.old) }
     {
-        let letters = &mut self.queues[usize::from(from)];
-        letters.reserve(1)?;
-        letters.push_back_reserved(letter);
+        self.queues[usize::from(from)].push(letter)?;
         self.posters |= 1 << from;
         Ok(())
     }
 
-    /// The letters that came from a processor and were not taken yet.
-    pub(crate) fn letters(&self, from: u8) -> &VecDeque<Letter>
-        requires { from < length (letters_in self.now) }
-        ensures { map letter_of result.now.items ≡ slice_index_or (letters_in self.now) from [] }
+    /// Takes all of it out, and leaves an inbox that no letter can come to.
+    pub(crate) fn take(&mut self) -> Inbox
+        ensures { result ≡ self.old }
     {
-        &self.queues[usize::from(from)]
+        let nothing = Inbox {
+            queues: Vec::new(*self.queues.allocator()),
+            posters: 0,
+        };
+        mem::replace(self, nothing)
+    }
+
+    /// The letters that came from a processor and were not taken yet.
+    pub(crate) fn letters(&self, from: u8) -> Letters<'_>
+        requires { from < length (letters_in self.now) }
+        ensures { result ≡ slice_index_or (letters_in self.now) from [] }
+    {
+        self.queues[usize::from(from)].letters()
     }
 
     /// Whether each letter that has come was taken.
@@ -100,13 +107,12 @@ impl Inbox {
 }
 
 // An empty queue of letters from each of `cpus` processors.
-fn empty_queues(alloc: Global, cpus: u8) -> Result<Vec<VecDeque<Letter>>, NoMemory>
-    ensures { IfOk result (λ queues.
-        map (λ letters. map letter_of letters.items) queues.items ≡ replicate cpus []) }
+fn empty_queues(alloc: Global, cpus: u8) -> Result<Vec<LetterQueue>, NoMemory>
+    ensures { IfOk result (λ queues. queues.items ≡ replicate cpus []) }
 {
     let mut queues = Vec::with_capacity(alloc, usize::from(cpus))?;
     for _ in 0..cpus {
-        queues.push(VecDeque::new(alloc))?;
+        queues.push(LetterQueue::new(alloc))?;
     }
     Ok(queues)
 }

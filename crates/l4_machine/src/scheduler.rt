@@ -1,6 +1,7 @@
 //! The processors of a replay, which take turns one by one, with the letters under way between
 //! them.
-ghost use Rattle.std.specs.Prelude.{ℕ, ◌≡◌, ◌<◌, ◌↔◌, ◌^◌, [], IfOk, IsTrue, OnOk, Some, length};
+ghost use Rattle.std.specs.Prelude.{ℕ, ◌≡◌, ◌≢◌, ◌<◌, ◌↔◌, ◌^◌, [], IfOk, IsTrue, OnOk, Some, length};
+ghost use Rattle.std.specs.Option.{option_map};
 ghost use Rattle.std.specs.Prelude.{map, replicate, slice_get};
 ghost use Rattle.l4_model.specs.Machine.{Machine as MachineOfModel};
 ghost use Rattle.l4_core_model.specs.Runs.{Event, IsMachine, Run, opening_run, opening_system};
@@ -11,7 +12,7 @@ ghost use Rattle.l4_machine.specs.Stations.{events_at, action, station_of, Knows
 ghost use Rattle.l4_machine.specs.Homes.{IsAtHome};
 ghost use Rattle.l4_machine.specs.Ordered.{told_steps};
 ghost use Rattle.l4_machine.specs.UnderWay.{deadline_at, letters_of, AreResting, CanPost};
-ghost use Rattle.l4_machine.specs.UnderWay.{HasDelivered, HaveNoMail, IsSystem};
+ghost use Rattle.l4_machine.specs.UnderWay.{HasDelivered, HasDeliveredOne, HaveNoMail, IsSystem};
 
 use crate::homes::OwnerView;
 use crate::laws::law_core_run;
@@ -21,7 +22,7 @@ use l4_core::processor::Core;
 use l4_script::machine::Machine;
 use l4_types::errors::NoMemory;
 use l4_types::reports::Ending;
-use std::alloc::Global;
+use std::alloc::{AllocError, Global};
 
 /// The processors of a machine with the letters under way between them.
 #[derive(Drop)]
@@ -79,7 +80,8 @@ impl<'m> Scheduler<'m> {
         ensures { OnOk result (HasEndedEvent cpu self.old self.new) }
     {
         self.order.push(cpu)?;
-        deliver(&mut self.stations, cpu)
+        deliver(&mut self.stations, cpu)?;
+        Ok(())
     }
 
     /// A processor with its letters.
@@ -161,15 +163,29 @@ fn opening_stations<'m>(alloc: Global, machine: &'m Machine) -> Result<Vec<Stati
 }
 
 // Delivers the letters that the last event of a processor posted.
-fn deliver(stations: &mut [Station<'_>], from: u8) -> Result<(), NoMemory>
+fn deliver(stations: &mut [Station<'_>], from: u8) -> Result<(), AllocError>
     requires within { from < length stations.old }
     requires posted { CanPost from (letters_of stations.old from) (map station_of stations.old) }
     ensures { OnOk result (HasDelivered from stations.old stations.new) }
 {
-    'letters: while let Some((to, letter)) = stations[usize::from(from)].take_letter() {
-        stations[usize::from(to)].put(from, letter)?;
+    'letters: while let Some(to) = stations[usize::from(from)].destination() {
+        deliver_first(stations, from, to)?;
     }
     Ok(())
+}
+
+// Delivers the first of these letters, which goes to this processor.
+fn deliver_first(stations: &mut [Station<'_>], from: u8, to: u8) -> Result<(), AllocError>
+    requires within { (from < length stations.old) × (to < length stations.old) }
+    requires apart { to ≢ from }
+    requires posted { CanPost from (letters_of stations.old from) (map station_of stations.old) }
+    requires next { option_map (λ p. p.0) (slice_get (letters_of stations.old from) 0) ≡ Some to }
+    ensures { OnOk result (HasDeliveredOne from stations.old stations.new) }
+{
+    let mut inbox = stations[usize::from(to)].take_inbox();
+    let passed = stations[usize::from(from)].pass_letter(from, &mut inbox);
+    stations[usize::from(to)].put_inbox(inbox);
+    passed
 }
 
 // Whether none of these processors has anything to do, a deadline or a letter.

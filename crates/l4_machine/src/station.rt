@@ -3,6 +3,7 @@ ghost use Rattle.std.specs.Prelude.{◌≡◌, None};
 ghost use Rattle.l4_proc.specs.Logs.{IsClosed};
 
 use crate::inbox::Inbox;
+use crate::letter_queue::Letters;
 use crate::workers::{handle_first, take_turn};
 use l4_core::processor::Core;
 use l4_proc::log::Log;
@@ -10,9 +11,7 @@ use l4_proc::stops::ProcFault;
 use l4_proc::worker::Worker;
 use l4_script::machine::Machine;
 use l4_types::errors::NoMemory;
-use l4_types::letters::Letter;
-use std::alloc::Global;
-use std::collections::VecDeque;
+use std::alloc::{AllocError, Global};
 
 /// What a processor may do next.
 #[derive(Clone, Copy)]
@@ -38,14 +37,14 @@ pub(crate) struct Station<'m> {
 }
 
 impl<'m> Station<'m> {
-    ghost use Rattle.std.specs.Prelude.{◌≡◌, ◌<◌, ◌++◌, [], IfNone, IfOk, IsTrue, OnOk, ◌↔◌};
-    ghost use Rattle.std.specs.Prelude.{length, map, replicate, true};
-    ghost use Rattle.std.specs.Option.{option_map, option_to_list};
+    ghost use Rattle.std.specs.Prelude.{◌≡◌, ◌<◌, ◌++◌, ◌∷◌, [], IfOk, IfSome, IsTrue, OnOk, ◌↔◌, drop};
+    ghost use Rattle.std.specs.Prelude.{length, replicate, slice_get, true};
+    ghost use Rattle.std.specs.Option.{option_map};
+    ghost use Rattle.l4_model.specs.World.{changed};
     ghost use Rattle.l4_core_model.specs.Local.{opening_local};
     ghost use Rattle.l4_core_model.specs.Turns.{can_stamp};
-    ghost use Rattle.l4_types.specs.LetterView.{letter_of};
-    ghost use Rattle.l4_core.specs.EventBuffers.{posted_of};
     ghost use Rattle.l4_proc.specs.Logs.{IsClosed};
+    ghost use Rattle.l4_machine.specs.Inboxes.{letters_in};
     ghost use Rattle.l4_machine.specs.Stations.{deadline_of, events_at, letters_from, letters_out};
     ghost use Rattle.l4_machine.specs.Stations.{station_of, with_letter, CanGoOn, GoesOnTo};
     ghost use Rattle.l4_machine.specs.Stations.{HandlesFrom, HasChosen, HasNoMail, IsResting};
@@ -125,26 +124,45 @@ impl<'m> Station<'m> {
         }
     }
 
-    /// Takes out the next letter that the last event posted, with the processor that it goes to.
-    /// Each is given once.
-    pub(crate) fn take_letter(&mut self) -> Option<(u8, Letter)>
-        ensures letters { letters_out self.old ≡
-            option_to_list (option_map posted_of result) ++ letters_out self.new }
-        ensures none { IfNone result (letters_out self.new ≡ []) }
-        ensures same { IsSameStation self.old self.new }
+    /// The processor that the first letter goes to, of those that the last event posted and that
+    /// were not passed on yet.
+    pub(crate) fn destination(&self) -> Option<u8>
+        ensures { result ≡ option_map (λ p. p.0) (slice_get (letters_out self.now) 0) }
     {
-        self.worker.take_letter()
+        let (to, _) = self.worker.first_letter()?;
+        Some(to)
     }
 
-    /// Appends a letter from a processor. If memory is refused, the letter is lost.
-    pub(crate) fn put(&mut self, from: u8, letter: Letter) -> Result<(), NoMemory>
-        requires { from < length (station_of self.old).inbox }
-        ensures station { OnOk result
-            (station_of self.new ≡ with_letter from (letter_of letter) (station_of self.old)) }
+    /// Passes this letter on to the inbox that it goes to. `from` is the number of this processor. If
+    /// memory is refused, nothing is changed.
+    pub(crate) fn pass_letter(&mut self, from: u8, to: &mut Inbox) -> Result<(), AllocError>
+        requires { from < length (letters_in to.old) }
+        ensures same { IsSameStation self.old self.new }
+        ensures rest { OnOk result (letters_out self.new ≡ drop 1 (letters_out self.old)) }
+        ensures come { OnOk result (IfSome (slice_get (letters_out self.old) 0) (λ p.
+            letters_in to.new ≡ changed (λ letters. letters ++ p.1 ∷ []) (letters_in to.old) from)) }
+    {
+        if let Some((_, letter)) = self.worker.first_letter() {
+            to.put(from, &letter)?;
+        }
+        self.worker.drop_letter();
+        Ok(())
+    }
+
+    /// Takes out the letters that have come, until they are put back.
+    pub(crate) fn take_inbox(&mut self) -> Inbox
+        ensures inbox { result ≡ self.old.inbox }
         ensures worker { self.new.worker ≡ self.old.worker }
     {
-        self.inbox.put(from, letter)?;
-        Ok(())
+        self.inbox.take()
+    }
+
+    /// Puts letters back that were taken out.
+    pub(crate) fn put_inbox(&mut self, inbox: Inbox)
+        ensures inbox { self.new.inbox ≡ inbox }
+        ensures worker { self.new.worker ≡ self.old.worker }
+    {
+        self.inbox = inbox;
     }
 
     /// The least deadline that a thread is armed for, in ticks.
@@ -162,9 +180,9 @@ impl<'m> Station<'m> {
     }
 
     /// The letters that have come from a processor and are not handled yet.
-    pub(crate) fn letters(&self, from: u8) -> &VecDeque<Letter>
+    pub(crate) fn letters(&self, from: u8) -> Letters<'_>
         requires { from < length (station_of self.now).inbox }
-        ensures { map letter_of result.now.items ≡ letters_from from (station_of self.now) }
+        ensures { result ≡ letters_from from (station_of self.now) }
     {
         self.inbox.letters(from)
     }

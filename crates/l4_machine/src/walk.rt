@@ -2,19 +2,17 @@
 ghost use Rattle.std.specs.Prelude.{◌≡◌, ◌<◌, ◌^◌, IfOk, OnOk, length, map, true};
 ghost use Rattle.l4_model.specs.Machine.{Machine as MachineOfModel};
 ghost use Rattle.l4_core_model.specs.Runs.{Run, at_rest, letters, opening_run};
-ghost use Rattle.l4_types.specs.LetterView.{letter_of};
 ghost use Rattle.l4_machine.specs.Entries.{after_entry, entry_from, is_entry};
 ghost use Rattle.l4_machine.specs.UnderWay.{GoesOn, HasRun, IsProcessorOf, IsRun};
 
 use crate::entries::Entry;
+use crate::letter_queue::Letters;
 use crate::scheduler::Scheduler;
 use crate::schedules::take;
 use l4_core::processor::Core;
 use l4_script::machine::Machine;
 use l4_types::errors::NoMemory;
-use l4_types::letters::Letter;
 use std::alloc::Global;
-use std::collections::VecDeque;
 use std::marker::Model;
 
 /// A core run of a machine under way, moved on entry by entry as in a replay. Contracts see its
@@ -75,12 +73,12 @@ impl<'m> Walk<'m> {
 
     /// The letters that have come to a processor from another one and are not handled yet, in the
     /// order in which they were posted.
-    pub fn letters(&self, cpu: u8, from: u8) -> &VecDeque<Letter>
+    pub fn letters(&self, cpu: u8, from: u8) -> Letters<'_>
         requires run { HasRun self.now }
         requires cpu { cpu < self.now.machine.cpus }
         requires from { from < self.now.machine.cpus }
         ensures { (m : MachineOfModel) (r : Run) → IsRun m r self.now →
-            map letter_of result.now.items ≡ letters r.system.mail from cpu }
+            result ≡ letters r.system.mail from cpu }
     {
         self.scheduler.station(cpu).letters(from)
     }

@@ -1,7 +1,6 @@
 //! Turns of a worker that no letter stops.
 ghost use Rattle.std.specs.Prelude.{◌≡◌, ◌<◌, None, length};
 ghost use Rattle.l4_core.specs.EventBuffers.{IsOpen};
-ghost use Rattle.l4_types.specs.LetterView.{letter_of};
 ghost use Rattle.l4_proc.specs.Working.{with_in_hand, HasTakenTurn};
 ghost use Rattle.l4_machine.specs.Inboxes.{letters_in};
 ghost use Rattle.l4_machine.specs.Stations.{CanHandle, CanHandleFirst, CanTurn, HandlesFirst};
@@ -10,7 +9,7 @@ ghost use Rattle.l4_machine.specs.Stations.{HasTriedTurn};
 use crate::inbox::Inbox;
 use l4_proc::stops::Stop;
 use l4_proc::worker::Worker;
-use l4_types::letters::Letter;
+use l4_types::letter_ref::LetterRef;
 
 /// Takes a turn of the worker as the event that has begun. Answers whether there was something to
 /// do.
@@ -40,17 +39,17 @@ pub(crate) fn handle_first(inbox: &mut Inbox, worker: &mut Worker<'_>, from: u8)
     let Some(letter) = inbox.first(from) else {
         return false;
     };
-    handle(worker, from, letter);
+    handle(worker, from, &letter);
     inbox.drop_first(from);
     true
 }
 
 // Handles this letter, which came from processor `from`, as the event that has begun.
-fn handle(worker: &mut Worker<'_>, from: u8, letter: &Letter)
+fn handle(worker: &mut Worker<'_>, from: u8, letter: &LetterRef<'_>)
     requires open { IsOpen worker.old.log.buffer }
     requires room { 0 < worker.old.log.ends.room }
     requires empty { worker.old.hand ≡ None }
-    requires can { CanHandle worker.old.core (letter_of letter.now) }
+    requires can { CanHandle worker.old.core letter.now }
     ensures { HasTakenTurn (with_in_hand from letter.now worker.old) worker.new }
 {
     match worker.handle(from, letter) {

@@ -2,7 +2,7 @@
 use Rattle.std.proofs.Common.{◌≡◌, ◌↔◌, ◌∙◌, ◌||◌, zero, suc, List, [], ◌∷◌, Option, Bool, true, false, not, refl, ap}
 use Rattle.std.specs.List.{list_any}
 use Rattle.l4_core_model.specs.Runs.{is_empty}
-use Rattle.l4_types.specs.declared.letters.Letter.{Letter}
+use Rattle.l4_core_model.specs.Letters.{Letter}
 use Rattle.l4_mail.specs.declared.inlets.Inlet.{Inlet}
 use Rattle.l4_mail.specs.Ends.{kept, keeps}
 use Rattle.l4_mail.specs.Takes.{NoneIsKept}

@@ -3,7 +3,7 @@ use Rattle.std.proofs.Common.{◌≡◌, ◌≤◌, ◌||◌, ℕ, zero, suc, Li
 use Rattle.std.specs.Vec.{with_items}
 use Rattle.std.specs.List.{list_any}
 use Rattle.l4_core_model.specs.Runs.{is_empty}
-use Rattle.l4_types.specs.declared.letters.Letter.{Letter}
+use Rattle.l4_core_model.specs.Letters.{Letter}
 use Rattle.l4_mail.specs.declared.outlets.Outlet.{Outlet}
 use Rattle.l4_mail.specs.declared.ports.Port.{Port}
 use Rattle.l4_mail.specs.Ends.{AreReady, waiting, waits}

@@ -5,7 +5,7 @@ use Rattle.std.proofs.lemmas.List.{with_items_is, length-map}
 use Rattle.std.proofs.lemmas.Bool.Decides.{eqb_tells}
 use Rattle.std.proofs.lemmas.Option.{none-some}
 use Rattle.std.proofs.Math.Seq.{map-set_same}
-use Rattle.l4_types.specs.declared.letters.Letter.{Letter}
+use Rattle.l4_core_model.specs.Letters.{Letter}
 use Rattle.l4_mail.specs.declared.outlets.Outlet.{Outlet}
 use Rattle.l4_mail.specs.declared.inlets.Inlet.{Inlet}
 use Rattle.l4_mail.specs.declared.ports.Port.{Port}

@@ -6,7 +6,7 @@ use denote.RawPtr.{Ptr}
 use Rattle.rtrb.specs.Shared.{Names}
 use Rattle.rtrb.specs.Ring.{sent, known_free, producer_capacity, known_items, consumer_capacity}
 use Rattle.l4_core_model.specs.Runs.{is_empty}
-use Rattle.l4_types.specs.declared.letters.Letter.{Letter}
+use Rattle.l4_core_model.specs.Letters.{Letter}
 use Rattle.l4_mail.specs.declared.outlets.Outlet.{Outlet}
 use Rattle.l4_mail.specs.declared.inlets.Inlet.{Inlet}
 use Rattle.l4_mail.specs.Ways.{given}

@@ -5,7 +5,7 @@ ghost use Rattle.l4_mail.specs.Ports.{kept_from};
 ghost use Rattle.l4_mail.specs.Rests.{kept_between, under_way_from, under_way};
 
 use crate::ports::Port;
-use l4_types::letters::{Content, Letter};
+use l4_types::letters::Letter;
 use std::alloc::{AllocError, Global};
 use std::collections::VecDeque;
 
@@ -13,60 +13,12 @@ use std::collections::VecDeque;
 /// from the one to the other.
 pub type Rest = Vec<(u8, u8, Vec<Letter>)>;
 
-/// A copy of the letter.
-pub fn copy(letter: &Letter) -> Letter
-    ensures { result ≡ letter.now }
-{
-    let content = match &letter.content {
-        Content::Send {
-            name,
-            receiver,
-            message,
-            zero_timeout,
-        } => Content::Send {
-            name: *name,
-            receiver: *receiver,
-            message: message.copy(),
-            zero_timeout: *zero_timeout,
-        },
-        Content::Done { name, decision } => Content::Done {
-            name: *name,
-            decision: *decision,
-        },
-        Content::Withdraw {
-            name,
-            receiver,
-            cause,
-        } => Content::Withdraw {
-            name: *name,
-            receiver: *receiver,
-            cause: *cause,
-        },
-        Content::Gone(id) => Content::Gone(*id),
-        Content::Order {
-            caller,
-            target,
-            what,
-        } => Content::Order {
-            caller: *caller,
-            target: *target,
-            what: *what,
-        },
-        Content::OrderDone(id) => Content::OrderDone(*id),
-        Content::Retarget(owed) => Content::Retarget(*owed),
-    };
-    Letter {
-        stamp: letter.stamp,
-        content,
-    }
-}
-
 fn copies(alloc: Global, letters: &VecDeque<Letter>) -> Result<Vec<Letter>, AllocError>
     ensures { IfOk result (λ v. v.items ≡ letters.now.items) }
 {
     let mut all = Vec::new(alloc);
     for letter in letters {
-        all.push(copy(letter))?;
+        all.push(letter.copy())?;
     }
     Ok(all)
 }

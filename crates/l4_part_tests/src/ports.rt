@@ -6,7 +6,7 @@ use l4_mail::fabric::fabric;
 use l4_mail::ports::Port;
 use l4_mail::rests::{RestFault, rest};
 use l4_types::ids::GlobalId;
-use l4_types::letters::{Content, Letter};
+use l4_types::letters::{Content, Letter, LetterHead};
 use std::alloc::Global;
 
 /// Whether a letter could be posted.
@@ -17,14 +17,14 @@ pub(crate) fn send(port: &mut Port, to: u8, stamp: u64) -> bool
         return false;
     }
     let content = Content::Gone(GlobalId::default());
-    port.post(to, Letter { stamp, content });
+    port.post(to, Letter::new(LetterHead { stamp, content }, &[]));
     true
 }
 
 /// Whether the next letter is the one with this stamp, posted by `poster`.
 pub(crate) fn gives(port: &mut Port, poster: u8, stamp: u64) -> bool {
     match port.take() {
-        Some((from, letter)) => from == poster && letter.stamp == stamp,
+        Some((from, letter)) => from == poster && letter.stamp() == stamp,
         None => false,
     }
 }

@@ -208,7 +208,7 @@ fn are_on_one_way(list: &[(u8, u8, Vec<Letter>)]) -> bool {
         return false;
     }
     let (poster, receiver, letters) = &list[4];
-    let stamps = [letters[0].stamp, letters[1].stamp];
+    let stamps = [letters[0].stamp(), letters[1].stamp()];
     *poster == 2 && *receiver == 0 && stamps == [5, 6] && list[5].2.is_empty()
 }
 

@@ -22,7 +22,9 @@ use l4_script::machine::Machine;
 use l4_trace::lines::write_event;
 use l4_trace::reading::read_events;
 use l4_types::ids::GlobalId;
-use l4_types::letters::{Cause, Content, Decision, Letter, Refusal};
+use l4_types::letter_ref::LetterRef;
+use l4_types::letters::{Cause, Content, Decision, Letter, LetterHead, Refusal};
+use l4_types::message_ref::MessageRef;
 use l4_types::messages::Message;
 use l4_types::owed::Owed;
 use l4_types::steps::{Delivery, Event, Name, OrderKind, Step};
@@ -135,7 +137,16 @@ fn told(first: &str, words: &str) -> Option<Content> {
     }
 }
 
-// The content of a letter:
+// A letter of this content, if its message is to have so many words.
+fn letter(stamp: u64, content: Content, words: &[u64]) -> Option<Letter> {
+    let head = LetterHead { stamp, content };
+    if head.word_count() != words.len() {
+        return None;
+    }
+    Some(Letter::new(head, words))
+}
+
+// A letter with this stamp:
 //
 //     waits LINE, now LINE    a send has begun, for ever or without time; the line is the one
 //                             that a trace has where it is delivered
@@ -145,18 +156,20 @@ fn told(first: &str, words: &str) -> Option<Content> {
 //     order CALLER TARGET WHAT
 //     obeyed CALLER
 //     retarget SEND ORIGINATOR OLD NEW
-fn read_content(alloc: Global, text: &str) -> Result<Content, Fail> {
+fn read_letter(alloc: Global, stamp: u64, text: &str) -> Result<Letter, Fail> {
     let (first, words) = text.split_once(' ').ok_or("the words of a letter")?;
     if first != "waits" && first != "now" {
-        return Ok(told(first, words).ok_or("a letter")?);
+        let content = told(first, words).ok_or("a letter")?;
+        return Ok(letter(stamp, content, &[]).ok_or("a letter without a message")?);
     }
     let delivery = delivery(alloc, words)?.ok_or("a line of a delivery")?;
-    Ok(Content::Send {
+    let content = Content::Send {
         name: delivery.name,
         receiver: delivery.receiver,
-        message: delivery.message,
+        message: MessageRef::from(&delivery.message).head(),
         zero_timeout: first == "now",
-    })
+    };
+    Ok(letter(stamp, content, delivery.message.words()).ok_or("a letter with its message")?)
 }
 
 // Appends the line of a step.
@@ -173,12 +186,12 @@ fn push_send(
     out: &mut String,
     name: Name,
     receiver: GlobalId,
-    message: &Message,
+    message: Message,
 ) -> Result<(), Fail> {
     let delivery = Delivery {
         name,
         receiver,
-        message: message.copy(),
+        message,
         cross: false,
     };
     push_step(alloc, out, &Step::Deliver(delivery))
@@ -262,26 +275,28 @@ fn last_word(content: &Content) -> &'static str {
 }
 
 // Appends the line of a letter's content, spelled as it is read.
-fn push_content(alloc: Global, out: &mut String, content: &Content) -> Result<(), Fail> {
-    push_subject(out, content)?;
+fn push_content(alloc: Global, out: &mut String, letter: &LetterRef<'_>) -> Result<(), Fail> {
+    let (head, words) = letter.parts();
+    push_subject(out, &head.content)?;
     if let Content::Send {
         name,
         receiver,
         message,
         ..
-    } = content
+    } = &head.content
     {
+        let message = message.with(words).to_message();
         return push_send(alloc, out, *name, *receiver, message);
     }
-    out.push_str(last_word(content))?;
+    out.push_str(last_word(&head.content))?;
     Ok(out.push_str("\n")?)
 }
 
 // Appends the letters that an event posts.
 fn push_letters(alloc: Global, out: &mut String, letters: &[(u8, Letter)]) -> Result<(), Fail> {
     for (cpu, letter) in letters {
-        write!(out, "  to {cpu} at {} ", letter.stamp)?;
-        push_content(alloc, out, &letter.content)?;
+        write!(out, "  to {cpu} at {} ", letter.stamp())?;
+        push_content(alloc, out, &letter.borrowed())?;
     }
     Ok(())
 }
@@ -314,11 +329,7 @@ fn push_handled(
     letter: &str,
 ) -> Result<(), Fail> {
     let (stamp, text) = letter.split_once(' ').ok_or("a stamp")?;
-    let letter = Letter {
-        stamp: stamp.parse()?,
-        content: read_content(alloc, text)?,
-    };
-    match core.handle(&letter) {
+    match core.handle(&read_letter(alloc, stamp.parse()?, text)?) {
         Ok((event, letters)) => push_event(alloc, out, &event, letters.as_slice()),
         Err(fault) => push_fault(out, fault),
     }

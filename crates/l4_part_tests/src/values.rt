@@ -3,7 +3,7 @@ use arrayvec::ArrayVec;
 use l4_types::errors::{IpcError, NoMemory};
 use l4_types::formats::Format;
 use l4_types::ids::{GlobalId, Kind, ThreadId};
-use l4_types::letters::{Content, Letter};
+use l4_types::letters::{Content, Letter, LetterHead};
 use l4_types::messages::Message;
 use l4_types::registers::Regs;
 use l4_types::steps::{Delivery, Name, Step, Tick};
@@ -144,6 +144,7 @@ fn there_is_room_for_steps_and_letters(rt: HostRuntime) {
     steps.push(Step::Tick(tick));
     let mut letters: ArrayVec<(u8, Letter), 2> = ArrayVec::new();
     let content = Content::Gone(GlobalId::default());
-    letters.push((1, Letter { stamp: 4, content }));
+    let head = LetterHead { stamp: 4, content };
+    letters.push((1, Letter::new(head, &[])));
     assert!(rt; steps.len() == 1 && letters.len() == 1);
 }

@@ -12,7 +12,6 @@ use Rattle.l4_core_model.specs.Turns.{advance}
 use Rattle.l4_merge.specs.Transitions.{Transition, Ticked, letters_with}
 use Rattle.l4_merge.specs.LocalTraces.{AreDeedsBetween, empty_past, Extends, HasTurned}
 use Rattle.l4_merge.proofs.Worked.{worked_none, worked_one, worked_trans, turned_none, turned_trans, transitions_of_none, transitions_of_both}
-use Rattle.l4_types.specs.LetterView.{letter_of}
 use Rattle.l4_core.specs.Processor.{Processor as Core}
 use Rattle.l4_core.specs.Turning.{work}
 use Rattle.l4_mail.specs.Ports.{posted_to, place}
@@ -40,7 +39,7 @@ opened_past port w fresh ends hand = record {
     lead = refl;
     events = rw (ends) refl;
     actions = rw (ends) refl;
-    posted = λ to. ap (map letter_of) (fresh.posted to);
+    posted = λ to. fresh.posted to;
     handled = λ from. rw (hand, fresh.taken from) refl;
   };
 }
@@ -87,8 +86,8 @@ tick_worked to port old new before after stamp choice whole t =
           ∙ ap (λ s. events old.log ++ event cpu s) t.event.stamped;
       actions = (tick_logged to old new before after stamp choice whole.closed t).actions
           ∙ ap (λ c. actions old.log ++ action_in c choice ∷ []) whole.log_of ∙ ap (λ h. actions old.log ++ h ∷ []) (t.happened cpu);
-      posted = λ to. sym (ap (λ ls. map letter_of (posted_to port to) ++ letters_with to ls) none ∙ append-nil (map letter_of (posted_to port to)));
-      handled = λ from. ap (λ hand. map letter_of (handled_from port hand from)) t.hand ∙ sym (append-nil (map letter_of (handled_from port old.hand from)));
+      posted = λ to. sym (ap (λ ls. posted_to port to ++ letters_with to ls) none ∙ append-nil (posted_to port to));
+      handled = λ from. ap (λ hand. handled_from port hand from) t.hand ∙ sym (append-nil (handled_from port old.hand from));
       local = refl;
     }
 
@@ -118,9 +117,9 @@ has_ticked to old new before after stamp choice port whole t =
         events = l.events ∙ ap (λ c. events old.worker.log ++ event c stamp) whole.log_of ∙ ap (λ s. events old.worker.log ++ event old.worker.core.cpu s) t.event.stamped;
         actions = l.actions ∙ ap (λ c. actions old.worker.log ++ action_in c choice ∷ []) whole.log_of
             ∙ ap (λ h. actions old.worker.log ++ h ∷ []) (t.happened old.worker.core.cpu);
-        posted = λ to. ap (λ (p : Port). map letter_of (posted_to p to)) port;
-        handled = λ from. ap (λ (p : Port). map letter_of (handled_from p new.worker.hand from)) port
-            ∙ ap (λ hand. map letter_of (handled_from old.port hand from)) t.hand;
+        posted = λ to. ap (λ (p : Port). posted_to p to) port;
+        handled = λ from. ap (λ (p : Port). handled_from p new.worker.hand from) port
+            ∙ ap (λ hand. handled_from old.port hand from) t.hand;
         local = refl;
       };
       advances = ap (option_map (λ (x : Work). x.local)) t.event.is;

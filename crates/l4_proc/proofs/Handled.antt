@@ -3,8 +3,7 @@ use Rattle.std.proofs.Common.{◌≡◌, ℕ, zero, suc, ◌≤◌, true, Option
 use Rattle.std.specs.Prelude.{◌≢◌, ◌⊎◌, slice_get, if◌then◌else◌}
 use Rattle.std.proofs.lemmas.List.{length-append, length-map}
 use Rattle.l4_model.proofs.Chains.{get-map, some_is}
-use Rattle.l4_types.specs.LetterView.{letter_of}
-use Rattle.l4_types.specs.declared.letters.Letter.{Letter}
+use Rattle.l4_core_model.specs.Letters.{Letter}
 use Rattle.l4_mail.specs.Ends.{RingId, inlet_ring, posted, ring_in, ring_out, taken}
 use Rattle.l4_mail.specs.Ports.{kept_from, place, taken_from, AreWhole, IsApart}
 use Rattle.l4_mail.specs.Rests.{are_all}
@@ -29,17 +28,13 @@ both_empty : {A : Type 0} (xs ys : List A) → xs ++ ys ≡ [] → (xs ≡ []) �
 both_empty [] ys is = (refl, is)
 both_empty (x ∷ xs) ys is = absurd cc
 
-none_mapped : {A B : Type 0} (f : A → B) (xs : List A) → map f xs ≡ [] → xs ≡ []
-none_mapped f [] is = refl
-none_mapped f (x ∷ xs) is = absurd cc
-
 -- Where all that one posted was handled, none of it is in hand or kept.
 pub nothing_between : (ps : List Processor) (i j : ℕ) (a b : Processor) → AreWhole (map port_of ps) → i ≢ j → slice_get ps i ≡ Some a → slice_get ps j ≡ Some b →
     (past a).posted b.worker.core.cpu ≡ (past b).handled a.worker.core.cpu → (hand_from b.worker.hand a.port.cpu ≡ []) × (kept_from b.port a.port.cpu ≡ [])
 nothing_between ps i j a b whole ne e f all =
     let from = a.worker.core.cpu in
     let rest = hand_from b.worker.hand from ++ kept_from b.port from in
-    let none : rest ≡ [] = none_mapped letter_of rest (none_behind ((past b).handled from) (map letter_of rest) (sym (posted_is ps i j a b whole ne e f) ∙ all)) in
+    let none : rest ≡ [] = none_behind ((past b).handled from) rest (sym (posted_is ps i j a b whole ne e f) ∙ all) in
     subst (λ (k : ℕ). (hand_from b.worker.hand k ≡ []) × (kept_from b.port k ≡ [])) (sym a.whole.port_of.number)
     (both_empty (hand_from b.worker.hand from) (kept_from b.port from) none)
 
@@ -81,7 +76,7 @@ apart_none p k apart where_is =
     where_is in
     let untaken : taken_from port k ≡ [] = none_taken port.inlets.items k no_in in
     let none = both_empty (handled_from port p.worker.hand k) (hand_from p.worker.hand k) (sym (p.whole.hand k) ∙ untaken) in
-    (ap (map letter_of) (none_posted port.outlets.items k no_out), ap (map letter_of) none.0)
+    (none_posted port.outlets.items k no_out, none.0)
 
 -- Whoever has handled all has none in hand
 

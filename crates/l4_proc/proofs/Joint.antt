@@ -3,7 +3,7 @@ use Rattle.std.proofs.Common.{◌≡◌, ℕ, ◌+◌, ◌<◌, ◌≤◌, Some,
 use Rattle.std.specs.Prelude.{◌≢◌}
 use Rattle.l4_merge.specs.Transitions.{Transition}
 use Rattle.l4_merge.specs.LocalTraces.{HasTurned}
-use Rattle.l4_types.specs.declared.letters.Letter.{Letter}
+use Rattle.l4_core_model.specs.Letters.{Letter}
 use Rattle.l4_merge.proofs.Worked.{turned_trans}
 use Rattle.l4_proc.specs.Working.{BeginWithMail, IsIdle, past, turns_of, HasGoneOn, HasTakenUpTo, HasTurnedMailFirst, ExtendsOn, IsStopped}
 use Rattle.l4_proc.specs.declared.processor.Processor.{Processor}

@@ -3,13 +3,11 @@ use Rattle.std.proofs.Common.{◌≡◌, ℕ, ◌+◌, ◌-◌, ◌≤◌, Bool,
 use Rattle.std.specs.Prelude.{IfSome, IfNone, nat_eq, is_some, slice_index_or}
 use Rattle.std.specs.List.{AllByRecursion}
 use Rattle.std.proofs.lemmas.Bool.{eqb-true, eqb-false}
-use Rattle.std.proofs.lemmas.List.{map-append, length-map, take-append-le, take_all}
+use Rattle.std.proofs.lemmas.List.{length-map, take-append-le, take_all}
 use Rattle.l4_core_model.specs.Letters as letters
 use Rattle.l4_merge.specs.Transitions.{letters_with}
-use Rattle.l4_types.specs.LetterView.{letter_of}
-use Rattle.l4_types.specs.declared.letters.Letter.{Letter}
+use Rattle.l4_core_model.specs.Letters.{Letter}
 use Rattle.l4_core.specs.Processor.{Processor}
-use Rattle.l4_core.specs.EventBuffers.{posted_of}
 use Rattle.l4_mail.specs.Ends.{ring_out}
 use Rattle.l4_mail.specs.Ports.{Place, place, posted_to, taken_from, kept_from, room_to, only, HasWayTo, IsAsBefore, HasPosted, HasTaken}
 use Rattle.l4_mail.specs.declared.ports.Port.{Port}
@@ -180,16 +178,16 @@ no_letter hand was none x is = absurd (let some = ap is_some is in cc)
 -- Letters are posted
 
 pub letters_first : (k to : ℕ) (letter : Letter) (rest : List (ℕ × letters.Letter)) →
-    letters_with k (posted_of (to, letter) ∷ rest) ≡ map letter_of (only k to letter) ++ letters_with k rest
+    letters_with k ((to, letter) ∷ rest) ≡ only k to letter ++ letters_with k rest
 letters_first k to letter rest = by (nat_eq to k) refl
   where
-    by : (b : Bool) → nat_eq to k ≡ b → letters_with k (posted_of (to, letter) ∷ rest) ≡ map letter_of (only k to letter) ++ letters_with k rest
+    by : (b : Bool) → nat_eq to k ≡ b → letters_with k ((to, letter) ∷ rest) ≡ only k to letter ++ letters_with k rest
     by true is = rw is refl
     by false is = rw is refl
 
 -- One letter was posted of those that are to post.
 pub record IsPostedOn (old new : Port) (ls rest : List (ℕ × letters.Letter)) : Type 0 where
-  pub posted : (to : ℕ) → map letter_of (posted_to new to) ++ letters_with to rest ≡ map letter_of (posted_to old to) ++ letters_with to ls
+  pub posted : (to : ℕ) → posted_to new to ++ letters_with to rest ≡ posted_to old to ++ letters_with to ls
   pub ways : AllByRecursion (λ p. HasWayTo new p.0) rest
   pub room : (to : ℕ) → HasWayTo new to → length rest ≤ room_to new to
 
@@ -209,13 +207,12 @@ room_left old new to k n letter has fits = by (nat_eq k to) refl
     by false is = omega (arith, has.room k (eqb-false k to is))
 
 pub posted_on : (old new : Port) (to : ℕ) (letter : Letter) (ls rest : List (ℕ × letters.Letter)) → HasPosted old new to letter →
-    ls ≡ posted_of (to, letter) ∷ rest →
+    ls ≡ (to, letter) ∷ rest →
     AllByRecursion (λ p. HasWayTo old p.0) ls → ((k : ℕ) → HasWayTo old k → length ls ≤ room_to old k) → IsPostedOn old new ls rest
 posted_on old new to letter ls rest has is ways room = record {
-  posted = λ k. ap (λ (xs : List Letter). map letter_of xs ++ letters_with k rest) (has.posted k)
-      ∙ ap (λ (xs : List letters.Letter). xs ++ letters_with k rest) (map-append letter_of (posted_to old k) (only k to letter))
-      ∙ append_assoc (map letter_of (posted_to old k)) (map letter_of (only k to letter)) (letters_with k rest)
-      ∙ ap (λ (xs : List letters.Letter). map letter_of (posted_to old k) ++ xs) (sym (ap (letters_with k) is ∙ letters_first k to letter rest));
+  posted = λ k. ap (λ (xs : List Letter). xs ++ letters_with k rest) (has.posted k)
+      ∙ append_assoc (posted_to old k) (only k to letter) (letters_with k rest)
+      ∙ ap (λ (xs : List letters.Letter). posted_to old k ++ xs) (sym (ap (letters_with k) is ∙ letters_first k to letter rest));
   ways = ways_kept old new rest has.place (subst (AllByRecursion (λ p. HasWayTo old p.0)) is ways).1;
   room = λ k way. room_left old new to k (length rest) letter has (omega (arith, room k (way_before old new k has.place way), ap length is));
 }

@@ -12,8 +12,7 @@ use Rattle.l4_model.proofs.Chains.{get-map, some_is}
 use Rattle.l4_model.proofs.Places.{and_true}
 use Rattle.l4_core_model.specs.Runs.{is_empty}
 use Rattle.l4_merge.specs.LocalTraces.{LocalTrace, Begins}
-use Rattle.l4_types.specs.LetterView.{letter_of}
-use Rattle.l4_types.specs.declared.letters.Letter.{Letter}
+use Rattle.l4_core_model.specs.Letters.{Letter}
 use Rattle.l4_mail.specs.Ends.{ring_out}
 use Rattle.l4_mail.specs.Ports.{Account, Place, account, carried, fabric_size, kept_from, place, posted_to, AreLinked, AreOneFabric, AreWhole}
 use Rattle.l4_mail.specs.Rests.{has_number, have_numbers, have_size, are_all, under_way}
@@ -130,8 +129,8 @@ abbrev past_of : Account → Worker → LocalTrace
 past_of a w = record {
   events = events w.log;
   actions = actions w.log;
-  posted = λ to. map letter_of (a.posted to);
-  handled = λ from. map letter_of (take (length (a.taken from) - length (hand_from w.hand from)) (a.taken from));
+  posted = λ to. a.posted to;
+  handled = λ from. take (length (a.taken from) - length (hand_from w.hand from)) (a.taken from);
   local = w.core.local;
 }
 
@@ -164,26 +163,25 @@ same_pasts (old ∷ olds) (new ∷ news) same =
 
 -- Of two processors, with the numbers of their ports: what the one posted was handled by the other, is in hand there, or is kept there.
 posted_there : (ps : List Processor) (i j : ℕ) (a b : Processor) → AreWhole (map port_of ps) → i ≢ j → slice_get ps i ≡ Some a → slice_get ps j ≡ Some b →
-    map letter_of (posted_to a.port b.port.cpu) ≡ map letter_of (handled_from b.port b.worker.hand a.port.cpu)
-    ++ map letter_of (hand_from b.worker.hand a.port.cpu ++ kept_from b.port a.port.cpu)
+    posted_to a.port b.port.cpu ≡ handled_from b.port b.worker.hand a.port.cpu
+    ++ (hand_from b.worker.hand a.port.cpu ++ kept_from b.port a.port.cpu)
 posted_there ps i j a b whole ne e f =
     let from = a.port.cpu in
     let carried_at : (k : ℕ) (p : Processor) → slice_get ps k ≡ Some p → slice_get (map carried (map port_of ps)) k ≡ Some (carried p.port) =
     λ k p g. get-map carried (map port_of ps) k p.port (get-map port_of ps k p g) in
     let all = whole i j ne (carried a.port) (carried b.port) (carried_at i a e) (carried_at j b f) in
-    ap (map letter_of) (all ∙ ap (λ (ls : List Letter). ls ++ kept_from b.port from) (b.whole.hand from)
+    (all ∙ ap (λ (ls : List Letter). ls ++ kept_from b.port from) (b.whole.hand from)
     ∙ append_assoc (handled_from b.port b.worker.hand from) (hand_from b.worker.hand from) (kept_from b.port from))
-    ∙ map-append letter_of (handled_from b.port b.worker.hand from) (hand_from b.worker.hand from ++ kept_from b.port from)
 
 -- The same with the numbers of the processors.
 pub posted_is : (ps : List Processor) (i j : ℕ) (a b : Processor) → AreWhole (map port_of ps) → i ≢ j → slice_get ps i ≡ Some a → slice_get ps j ≡ Some b →
     (past a).posted b.worker.core.cpu ≡ (past b).handled a.worker.core.cpu
-    ++ map letter_of (hand_from b.worker.hand a.worker.core.cpu ++ kept_from b.port a.worker.core.cpu)
+    ++ (hand_from b.worker.hand a.worker.core.cpu ++ kept_from b.port a.worker.core.cpu)
 posted_is ps i j a b whole ne e f =
-    subst (λ (from : ℕ). map letter_of (posted_to a.port b.worker.core.cpu) ≡ map letter_of (handled_from b.port b.worker.hand from)
-    ++ map letter_of (hand_from b.worker.hand from ++ kept_from b.port from)) a.whole.port_of.number
-    (subst (λ (to : ℕ). map letter_of (posted_to a.port to) ≡ map letter_of (handled_from b.port b.worker.hand a.port.cpu)
-    ++ map letter_of (hand_from b.worker.hand a.port.cpu ++ kept_from b.port a.port.cpu)) b.whole.port_of.number
+    subst (λ (from : ℕ). posted_to a.port b.worker.core.cpu ≡ handled_from b.port b.worker.hand from
+    ++ (hand_from b.worker.hand from ++ kept_from b.port from)) a.whole.port_of.number
+    (subst (λ (to : ℕ). posted_to a.port to ≡ handled_from b.port b.worker.hand a.port.cpu
+    ++ (hand_from b.worker.hand a.port.cpu ++ kept_from b.port a.port.cpu)) b.whole.port_of.number
     (posted_there ps i j a b whole ne e f))
 
 pub handled_begins : (ps : List Processor) (i j : ℕ) (a b : Processor) → AreWhole (map port_of ps) → i ≢ j → slice_get ps i ≡ Some a → slice_get ps j ≡ Some b →
@@ -196,7 +194,7 @@ all_is_handled ps i j a b whole all ne e f =
     let from = a.worker.core.cpu in
     let kept : kept_from b.port from ≡ [] = subst (λ (k : ℕ). kept_from b.port k ≡ []) a.whole.port_of.number (all.kept i j a b ne e f) in
     posted_is ps i j a b whole ne e f
-    ∙ ap (λ (ls : List Letter). (past b).handled from ++ map letter_of ls) (ap₂ (λ (xs ys : List Letter). xs ++ ys)
+    ∙ ap (λ (ls : List Letter). (past b).handled from ++ ls) (ap₂ (λ (xs ys : List Letter). xs ++ ys)
     (ap (λ (hand : Option (ℕ × Letter)). hand_from hand from) (all.hand j b f)) kept)
     ∙ append-nil ((past b).handled from)
 

@@ -2,7 +2,7 @@
 use Rattle.std.proofs.Common.{◌≡◌, ℕ, ◌+◌, ◌-◌, ◌<◌, ◌≤◌, Bool, true, false, Option, Some, None, List, [], ◌∷◌, ◌++◌, map, length, take, refl, ap, sym, ◌∙◌, subst, arith, inl, inr}
 use Rattle.std.specs.Prelude.{◌≢◌, ◌⊎◌, is_some, nat_eq, slice_index_or, vec_len, OnErr, OnOk, Result, Ok, Err}
 use Rattle.std.specs.List.{AllByRecursion}
-use Rattle.std.proofs.lemmas.List.{append-nil, map-append, take_all, length-append}
+use Rattle.std.proofs.lemmas.List.{append-nil, take_all, length-append}
 use Rattle.l4_model.specs.Machine.{Machine}
 use Rattle.l4_core_model.specs.Letters as letters
 use Rattle.l4_core_model.specs.Runs.{Event, IsMachine}
@@ -11,8 +11,7 @@ use Rattle.l4_merge.specs.Transitions.{Transition, Turned, action_of, is_turn, l
 use Rattle.l4_merge.specs.LocalTraces.{LocalTrace, HasTurned}
 use Rattle.l4_merge.proofs.Worked.{IsNext, turned_one, transitions_of_one}
 use Rattle.l4_merge.proofs.Destinations.{letters_go_elsewhere, at_most_two_letters}
-use Rattle.l4_types.specs.LetterView.{letter_of}
-use Rattle.l4_types.specs.declared.letters.Letter.{Letter}
+use Rattle.l4_core_model.specs.Letters.{Letter}
 use Rattle.l4_core.specs.Processor as cores
 use Rattle.l4_core.specs.Turning.{work}
 use Rattle.l4_mail.specs.Ends.{RingId}
@@ -72,7 +71,7 @@ unready_taken old new u =
     let ends = unready_ends w.log new.worker.log u.log in
     let turned = turned_nothing w.core.machine w.core.cpu (past old) (past new) (unready_events w.log new.worker.log u.log)
     (unready_actions w.log new.worker.log u.log)
-    (λ to. ap (map letter_of) (u.posted to))
+    (λ to. u.posted to)
     (λ from. rw (u.hand, u.taken from) refl)
     (ap (λ (c : cores.Processor). c.local) u.core) in
     record {
@@ -99,8 +98,8 @@ refused_taken old ready new r port s =
     let turned = turned_nothing w.core.machine w.core.cpu (past old) (past new) (same_events ready.worker.log new.worker.log s.log
     ∙ begun_events w.log ready.worker.log r.log)
     (same_actions ready.worker.log new.worker.log s.log ∙ begun_actions w.log ready.worker.log r.log)
-    (λ to. ap (map letter_of) (ap (λ (p : Port). posted_to p to) port ∙ r.posted to))
-    (λ from. ap (map letter_of) (rw (port, s.hand) (r.handled from)))
+    (λ to. ap (λ (p : Port). posted_to p to) port ∙ r.posted to)
+    (λ from. rw (port, s.hand) (r.handled from))
     (ap (λ (c : cores.Processor). c.local) core) in
     record {
       on = record {
@@ -213,11 +212,11 @@ is_a_turn None = refl
 is_a_turn (Some p) = refl
 
 -- The letter in hand is the one that is handled.
-hand_handled : (hand : Option (ℕ × Letter)) (from : ℕ) → map letter_of (hand_from hand from) ≡ letters_with from (letter_handled (event_in_hand hand))
+hand_handled : (hand : Option (ℕ × Letter)) (from : ℕ) → hand_from hand from ≡ letters_with from (letter_handled (event_in_hand hand))
 hand_handled None from = refl
 hand_handled (Some p) from = by (nat_eq p.0 from) refl
   where
-    by : (same : Bool) → nat_eq p.0 from ≡ same → map letter_of (only from p.0 p.1) ≡ letters_with from ((p.0, letter_of p.1) ∷ [])
+    by : (same : Bool) → nat_eq p.0 from ≡ same → only from p.0 p.1 ≡ letters_with from ((p.0, p.1) ∷ [])
     by true e = rw e refl
     by false e = rw e refl
 
@@ -266,10 +265,9 @@ turn_taken old ready posted new middle log stamp choice was is few r d what e p 
       events = same_log ∙ all.events ∙ ap (λ (x : Event). events w.log ++ x ∷ []) (rw (was.log_of, d.event.stamped) refl);
       actions = same_happened ∙ all.actions ∙ ap (λ c. actions w.log ++ action_in c choice ∷ []) was.log_of
           ∙ ap (λ h. actions w.log ++ h ∷ []) (what w.core.cpu);
-      posted = λ to. ap (map letter_of) (f.posted to) ∙ p.posted to ∙ rw (r.posted to, e.buffer) refl;
-      handled = λ from. ap (λ h. map letter_of (handled_from new.port h from)) new_hand
-          ∙ ap (map letter_of) (all_taken (taken_from new.port from) ∙ f.taken from ∙ p.taken from ∙ is.hand from)
-          ∙ map-append letter_of (handled_from ready.port ready.worker.hand from) (hand_from ready.worker.hand from)
+      posted = λ to. (f.posted to) ∙ p.posted to ∙ rw (r.posted to, e.buffer) refl;
+      handled = λ from. ap (λ h. handled_from new.port h from) new_hand
+          ∙ (all_taken (taken_from new.port from) ∙ f.taken from ∙ p.taken from ∙ is.hand from)
           ∙ rw (r.handled from, hand_handled ready.worker.hand from) refl;
       local = ap (λ (c : cores.Processor). c.local) (sym new_core);
     } in

@@ -9,7 +9,7 @@ use Rattle.std.proofs.lemmas.List.Folds.{list_all-append}
 use Rattle.l4_model.proofs.Chains.{get-map, some_is}
 use Rattle.l4_model.proofs.Places.{and_true}
 use Rattle.l4_core_model.specs.Runs.{is_empty}
-use Rattle.l4_types.specs.declared.letters.Letter.{Letter}
+use Rattle.l4_core_model.specs.Letters.{Letter}
 use Rattle.l4_mail.specs.Ends.{ring_in, ring_out}
 use Rattle.l4_mail.specs.Ports.{place, kept_from, fabric_size, IsApart, IsWay, AreOneFabric}
 use Rattle.l4_mail.specs.Rests.{has_number, have_numbers, have_size, are_all, kept_between, under_way_from, under_way_below, under_way}

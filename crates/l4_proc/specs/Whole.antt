@@ -1,8 +1,7 @@
 -- What does a processor's work, with the port that is its own, and what the two have done so far.
 use Rattle.std.specs.Prelude.{◌≡◌, ◌≢◌, ℕ, ◌-◌, ◌<◌, ◌++◌, [], Bool, true, is_some, slice_index_or, Option, Some, None, List, length, map, take}
 use Rattle.l4_merge.specs.LocalTraces.{LocalTrace}
-use Rattle.l4_types.specs.LetterView.{letter_of}
-use Rattle.l4_types.specs.declared.letters.Letter.{Letter}
+use Rattle.l4_core_model.specs.Letters.{Letter}
 use Rattle.l4_core.specs.Processor.{Processor}
 use Rattle.l4_mail.specs.Ports.{posted_to, taken_from, fabric_size, only, place}
 use Rattle.l4_mail.specs.declared.ports.Port.{Port}
@@ -24,8 +23,8 @@ abbrev pub past_with : Port → Worker → LocalTrace
 past_with port w = record {
   events = events w.log;
   actions = actions w.log;
-  posted = λ to. map letter_of (posted_to port to);
-  handled = λ from. map letter_of (handled_from port w.hand from);
+  posted = λ to. posted_to port to;
+  handled = λ from. handled_from port w.hand from;
   local = w.core.local;
 }
 

@@ -7,8 +7,7 @@ use Rattle.l4_merge.specs.Transitions.{Transition, Handled, Turned, action_of, w
 use Rattle.l4_merge.specs.LocalTraces as pasts
 use Rattle.l4_merge.specs.LocalTraces.{LocalTrace, Extends, HasTurned}
 use Rattle.l4_core.specs.Turning.{IsEvent}
-use Rattle.l4_types.specs.LetterView.{letter_of}
-use Rattle.l4_types.specs.declared.letters.Letter.{Letter}
+use Rattle.l4_core_model.specs.Letters.{Letter}
 use Rattle.l4_mail.specs.declared.ports.Port.{Port}
 use Rattle.l4_mail.specs.Ports.{posted_to, taken_from, kept_from, room_to, place, HasWayTo}
 use Rattle.l4_proc.specs.Events.{event_in_hand, HasPostedAll, IsRefused}
@@ -38,7 +37,7 @@ pub record HasGoneOn (old new : Processor) : Type 0 where
 -- The transition handles the letter that was in hand. If a rest had kept a letter, the transition
 -- is not the core's turn.
 pub record IsMailFirst (old : Processor) (d : Transition) : Type 0 where
-  pub hand : (x : ℕ × Letter) → old.worker.hand ≡ Some x → d.event ≡ Handled x.0 (letter_of x.1)
+  pub hand : (x : ℕ × Letter) → old.worker.hand ≡ Some x → d.event ≡ Handled x.0 x.1
   pub kept : (from : ℕ) → kept_from old.port from ≢ [] → d.event ≢ Turned
 
 -- The first of these transitions, if any, takes mail first.

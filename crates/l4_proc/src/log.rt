@@ -10,6 +10,7 @@ use l4_core::event_buffer::EventBuffer;
 use l4_history::history::History;
 use l4_history::steps::Steps;
 use l4_types::errors::NoMemory;
+use l4_types::letter_ref::LetterRef;
 use l4_types::letters::Letter;
 use std::alloc::Global;
 
@@ -42,7 +43,6 @@ impl Log {
     ghost use Rattle.std.specs.Option.{option_map, option_to_list};
     ghost use Rattle.l4_core_model.specs.Runs.{told};
     ghost use Rattle.l4_proc.specs.Choices.{action_of};
-    ghost use Rattle.l4_core.specs.EventBuffers.{posted_of};
 
     /// The log of a processor that has done nothing. It takes no memory.
     pub fn new(alloc: Global, cpu: u8) -> Log
@@ -182,13 +182,28 @@ impl Log {
     pub(crate) fn has_letters(&self) -> bool
         ensures { (result ≡ false) ↔ (self.now.buffer.letters ≡ []) }
     {
-        !self.buffer.letters().is_empty()
+        self.buffer.has_letters()
     }
 
-    // The next letter of the current event, with the processor that it goes to.
+    // The first letter that is left of the current event, with the processor that it goes to.
+    pub(crate) fn first_letter(&self) -> Option<(u8, LetterRef<'_>)>
+        ensures { result ≡ slice_get self.now.buffer.letters 0 }
+    {
+        self.buffer.first_letter()
+    }
+
+    // Takes out the first letter that is left of the current event, if there is one.
+    pub(crate) fn drop_letter(&mut self)
+        ensures letters { self.new.buffer.letters ≡ drop 1 self.old.buffer.letters }
+        ensures same { HasLetters self.old self.new }
+    {
+        self.buffer.drop_letter();
+    }
+
+    // Takes out the first letter that is left of the current event, with a copy of its words.
     pub(crate) fn take_letter(&mut self) -> Option<(u8, Letter)>
         ensures letters { self.old.buffer.letters ≡
-            option_to_list (option_map posted_of result) ++ self.new.buffer.letters }
+            option_to_list result ++ self.new.buffer.letters }
         ensures none { IfNone result (self.new.buffer.letters ≡ []) }
         ensures same { HasLetters self.old self.new }
     {

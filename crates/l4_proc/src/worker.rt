@@ -3,7 +3,6 @@ ghost use Rattle.std.specs.Prelude.{◌≡◌, ◌⊎◌, ◌↔◌, false, IfEr
 ghost use Rattle.std.specs.Prelude.{OnErr};
 ghost use Rattle.l4_core_model.specs.Mail.{handle};
 ghost use Rattle.l4_core_model.specs.Turns.{can_stamp, turn};
-ghost use Rattle.l4_types.specs.LetterView.{letter_of};
 ghost use Rattle.l4_core.specs.EventBuffers.{IsOpen};
 ghost use Rattle.l4_core.specs.Turning.{IsEvent};
 
@@ -14,6 +13,7 @@ use l4_core::event_buffer::EventBuffer;
 use l4_core::processor::{Core, Fault};
 use l4_history::history::History;
 use l4_types::errors::NoMemory;
+use l4_types::letter_ref::LetterRef;
 use l4_types::letters::Letter;
 use l4_types::steps::CLOCKS;
 use std::alloc::Global;
@@ -32,19 +32,19 @@ pub struct Worker<'m> {
 // Handles a letter.
 fn handle(
     core: &mut Core<'_>,
-    letter: &Letter,
+    letter: &LetterRef<'_>,
     buffer: &mut EventBuffer<History>,
 ) -> Result<u64, Stop>
     requires open { IsOpen buffer.old }
     ensures ok { IfOk result (λ stamp.
         IsEvent
         (handle core.old.machine core.old.cpu core.old.local
-        (letter_of letter.now)) core.old core.new buffer.old buffer.new stamp) }
+        letter.now) core.old core.new buffer.old buffer.new stamp) }
     ensures err { OnErr result ((core.new ≡ core.old) × (buffer.new ≡ buffer.old)) }
     ensures mail { IsErrOf result Stop.Mail ↔
-        (handle core.old.machine core.old.cpu core.old.local (letter_of letter.now) ≡ None) }
+        (handle core.old.machine core.old.cpu core.old.local letter.now ≡ None) }
     ensures stamp { IsErrOf result Stop.Stamp ↔
-        (IsSome (handle core.old.machine core.old.cpu core.old.local (letter_of letter.now)) ×
+        (IsSome (handle core.old.machine core.old.cpu core.old.local letter.now) ×
         (can_stamp core.old.local letter.now.stamp ≡ false)) }
     ensures faults { IfErr result (λ stop. (stop ≡ Stop.Mail) ⊎ (stop ≡ Stop.Stamp)) }
 {
@@ -80,12 +80,12 @@ fn turn(core: &mut Core<'_>, buffer: &mut EventBuffer<History>) -> Result<u64, S
 }
 
 impl<'m> Worker<'m> {
-    ghost use Rattle.std.specs.Prelude.{ℕ, ◌≡◌, ◌↔◌, ◌++◌, ◌<◌, [], false, true, IfErr, IfNone};
-    ghost use Rattle.std.specs.Prelude.{IfOk, IsErrOf, IsSome, None, OnErr, OnOk, Some, is_some};
-    ghost use Rattle.std.specs.Option.{option_map, option_to_list};
+    ghost use Rattle.std.specs.Prelude.{ℕ, ◌≡◌, ◌↔◌, ◌<◌, [], false, true, IfErr};
+    ghost use Rattle.std.specs.Prelude.{IfOk, IsErrOf, IsSome, None, OnErr, OnOk, Some, drop, is_some};
+    ghost use Rattle.std.specs.Prelude.{slice_get};
     ghost use Rattle.l4_core_model.specs.Runs.{IsMachine};
     ghost use Rattle.l4_core_model.specs.Turns.{advance, can_stamp};
-    ghost use Rattle.l4_core.specs.EventBuffers.{posted_of, IsOpen};
+    ghost use Rattle.l4_core.specs.EventBuffers.{IsOpen};
     ghost use Rattle.l4_core.specs.Turning.{IsEvent};
     ghost use Rattle.l4_merge.specs.Transitions.{action_of};
     ghost use Rattle.l4_proc.specs.Choices.{action_in};
@@ -163,8 +163,8 @@ impl<'m> Worker<'m> {
     }
 
     /// Takes a turn as the event that has begun: handles this letter, which processor `from` posted.
-    /// It is left where it lies, since a letter is large. If it is not handled, nothing is changed.
-    pub fn handle(&mut self, from: u8, letter: &Letter) -> Result<(), Stop>
+    /// It is left where it lies. If it is not handled, nothing is changed.
+    pub fn handle(&mut self, from: u8, letter: &LetterRef<'_>) -> Result<(), Stop>
         requires open { IsOpen self.old.log.buffer }
         requires room { 0 < self.old.log.ends.room }
         requires empty { self.old.hand ≡ None }
@@ -201,7 +201,7 @@ impl<'m> Worker<'m> {
         self.core.facts();
         match &self.hand {
             Some((_, letter)) => {
-                let stamp = handle(&mut self.core, letter, &mut self.log.buffer)?;
+                let stamp = handle(&mut self.core, &letter.borrowed(), &mut self.log.buffer)?;
                 self.hand = None;
                 Ok(stamp)
             }
@@ -209,18 +209,23 @@ impl<'m> Worker<'m> {
         }
     }
 
-    /// Takes out the next letter that the last event posted, with the processor that it goes to.
-    /// Each is given once.
-    pub fn take_letter(&mut self) -> Option<(u8, Letter)>
+    /// The first letter that is left of those that the last event posted, with the processor that it
+    /// goes to.
+    pub fn first_letter(&self) -> Option<(u8, LetterRef<'_>)>
+        ensures { result ≡ slice_get self.now.log.buffer.letters 0 }
+    {
+        self.log.first_letter()
+    }
+
+    /// Takes out the first letter that is left of those that the last event posted, if there is one.
+    pub fn drop_letter(&mut self)
         ensures core { self.new.core ≡ self.old.core }
         ensures hand { self.new.hand ≡ self.old.hand }
         ensures stop { self.new.stop ≡ self.old.stop }
-        ensures letters { self.old.log.buffer.letters ≡
-            option_to_list (option_map posted_of result) ++ self.new.log.buffer.letters }
-        ensures none { IfNone result (self.new.log.buffer.letters ≡ []) }
+        ensures letters { self.new.log.buffer.letters ≡ drop 1 self.old.log.buffer.letters }
         ensures log { HasLetters self.old.log self.new.log }
     {
-        self.log.take_letter()
+        self.log.drop_letter();
     }
 
     /// Advances the clock to this value, in ticks: one event more, which posts and takes no letter.

@@ -1,4 +1,5 @@
 pub mod InFormats
 pub mod Products
+pub mod LetterRows
 pub mod Seen
 mod Values

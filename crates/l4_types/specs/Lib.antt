@@ -3,6 +3,7 @@ pub mod Codes
 pub mod Flags
 pub mod FormatView
 pub mod Ids
+pub mod LetterHeads
 pub mod LetterView
 pub mod OwedView
 pub mod PeriodView

@@ -19,6 +19,7 @@
 pub mod errors;
 pub mod formats;
 pub mod ids;
+pub mod letter_ref;
 pub mod letters;
 pub mod message_ref;
 pub mod messages;

@@ -1,5 +1,6 @@
 //! A borrowed message.
 ghost use Rattle.std.specs.Prelude.{◌≡◌, ◌<◌, length, false};
+ghost use Rattle.l4_types.specs.LetterHeads.{message_with};
 ghost use Rattle.l4_model.specs.Words.{label_limit, register_count};
 ghost use Rattle.l4_types.specs.Flags.{flags_of};
 
@@ -35,6 +36,36 @@ impl<'a> Model for MessageRef<'a> {
     } };
 
     ghost invariant = { λ m. (m.label < label_limit) × (length m.words.now < register_count) };
+}
+
+/// All of a message but its words.
+#[derive(Clone, Copy, PartialEq, Eq, Debug, Drop)]
+pub struct MessageHead {
+    /// The label, the number of words, and whether the message is propagated.
+    pub tag: MsgTag,
+    /// The sender that the receiver is shown.
+    pub shown: GlobalId,
+    /// The thread that sends.
+    pub actual: GlobalId,
+}
+
+impl MessageHead {
+    /// The message with these words.
+    #[inline(always)]
+    pub fn with<'a>(&self, words: &'a [u64]) -> MessageRef<'a>
+        requires { length words.now ≡ self.now.tag.untyped }
+        ensures { result ≡ message_with words.now self.now }
+    {
+        let untyped = self.tag.untyped();
+        prove!(words.len() == usize::from(untyped));
+        MessageRef {
+            label: self.tag.label(),
+            propagated: self.tag.propagate(),
+            words,
+            shown: self.shown,
+            actual: self.actual,
+        }
+    }
 }
 
 impl<'a> From<&'a Message> for MessageRef<'a> {
@@ -127,6 +158,19 @@ impl<'a> MessageRef<'a> {
         } }
     {
         MsgTag::new(self.label, self.words.len() as u8, self.propagated).unwrap()
+    }
+
+    /// All of the message but its words.
+    #[inline(always)]
+    pub fn head(&self) -> MessageHead
+        ensures value { message_with self.now.words result ≡ self.now }
+        ensures count { result.tag.untyped ≡ length self.now.words }
+    {
+        MessageHead {
+            tag: self.tag(),
+            shown: self.shown,
+            actual: self.actual,
+        }
     }
 
     /// The message with a copy of the words.

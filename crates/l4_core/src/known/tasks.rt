@@ -1,5 +1,5 @@
 //! What a letter from another processor asks for, found before anything changes.
-ghost use Rattle.std.specs.Prelude.{◌≡◌, ◌<◌, ◌||◌, IfSome, length, true};
+ghost use Rattle.std.specs.Prelude.{◌≡◌, ◌<◌, ◌||◌, IfSome, [], length, true};
 ghost use Rattle.l4_model.specs.World.{is_deleted};
 ghost use Rattle.l4_types.specs.declared.letters.Content.TheVariants.{Send as SendContent};
 ghost use Rattle.l4_types.specs.declared.letters.Content.TheVariants.{Done as DoneContent};
@@ -8,6 +8,7 @@ ghost use Rattle.l4_types.specs.declared.letters.Content.TheVariants.{Order as O
 ghost use Rattle.l4_types.specs.declared.letters.Content.TheVariants.{OrderDone as OrderDoneContent};
 ghost use Rattle.l4_types.specs.declared.letters.Content.TheVariants.{Gone as GoneContent};
 ghost use Rattle.l4_types.specs.declared.letters.Content.TheVariants.{Retarget as RetargetContent};
+ghost use Rattle.l4_types.specs.LetterHeads.{word_count};
 ghost use Rattle.l4_core_model.specs.Local.{declared, thread};
 ghost use Rattle.l4_core_model.specs.Mail.{foreign_place, is_ordering, own_place, waits_here};
 ghost use Rattle.l4_core.specs.Tasks.{refusal_for, task_of, IsForeign, IsTask};
@@ -16,8 +17,7 @@ ghost use Rattle.l4_core.specs.Turning.{IsOwnOf, IsSender};
 use crate::known::ProcessorState;
 use l4_types::ids::GlobalId;
 use l4_types::letters::{Cause, Content, Decision, Refusal};
-use l4_types::message_ref::MessageRef;
-use l4_types::messages::Message;
+use l4_types::message_ref::{MessageHead, MessageRef};
 use l4_types::owed::Owed;
 use l4_types::steps::{Name, OrderKind};
 
@@ -116,31 +116,33 @@ impl ProcessorState<'_> {
         tcb.is_deleted() || tcb.is_ordering()
     }
 
-    // What a send that has arrived asks for.
+    // What a send that has arrived asks for. Its message has these words.
     fn arrival<'a>(
         &self,
         name: &Name,
         to: GlobalId,
-        message: &'a Message,
+        message: &MessageHead,
+        words: &'a [u64],
         zero_timeout: bool,
     ) -> Option<Task<'a>>
+        requires { length words.now ≡ message.now.tag.untyped }
         ensures value { result ≡
-            task_of self.now.machine self.now.cpu self.now.local
+            task_of self.now.machine self.now.cpu self.now.local words.now
             (SendContent name.now to message.now zero_timeout) }
         ensures possible { IfSome result (λ task. IsTask task self.now) }
     {
         let receiver = self.own_place(to)?;
         let sender = self.foreign_place(name.thread())?;
-        if self.send_of(sender).is_some() || message.actual() != name.thread() {
+        if self.send_of(sender).is_some() || message.actual != name.thread() {
             return None;
         }
-        let _shown = self.place_of(message.shown())?;
+        let _shown = self.place_of(message.shown)?;
         Some(Task::Arrive {
             receiver,
             sender,
             name: *name,
             to,
-            message: MessageRef::from(message),
+            message: message.with(words),
             zero_timeout,
         })
     }
@@ -148,7 +150,7 @@ impl ProcessorState<'_> {
     // What the decision of a send asks for.
     fn end(&self, name: &Name, decision: Decision) -> Option<Task<'static>>
         ensures value { result ≡
-            task_of self.now.machine self.now.cpu self.now.local (DoneContent name.now decision) }
+            task_of self.now.machine self.now.cpu self.now.local [] (DoneContent name.now decision) }
         ensures possible { IfSome result (λ task. IsTask task self.now) }
     {
         let place = self.own_place(name.thread())?;
@@ -162,7 +164,7 @@ impl ProcessorState<'_> {
     // What the withdrawal of a send asks for.
     fn withdrawal(&self, name: &Name, to: GlobalId, cause: Cause) -> Option<Task<'static>>
         ensures value { result ≡
-            task_of self.now.machine self.now.cpu self.now.local
+            task_of self.now.machine self.now.cpu self.now.local []
             (WithdrawContent name.now to cause) }
         ensures possible { IfSome result (λ task. IsTask task self.now) }
     {
@@ -183,7 +185,7 @@ impl ProcessorState<'_> {
         what: OrderKind,
     ) -> Option<Task<'static>>
         ensures value { result ≡
-            task_of self.now.machine self.now.cpu self.now.local (OrderContent caller target what) }
+            task_of self.now.machine self.now.cpu self.now.local [] (OrderContent caller target what) }
         ensures possible { IfSome result (λ task. IsTask task self.now) }
     {
         let target = self.own_place(target)?;
@@ -199,7 +201,7 @@ impl ProcessorState<'_> {
     // What the end of an order asks for.
     fn end_of_order(&self, caller: GlobalId) -> Option<Task<'static>>
         ensures value { result ≡
-            task_of self.now.machine self.now.cpu self.now.local (OrderDoneContent caller) }
+            task_of self.now.machine self.now.cpu self.now.local [] (OrderDoneContent caller) }
         ensures possible { IfSome result (λ task. IsTask task self.now) }
     {
         let place = self.own_place(caller)?;
@@ -213,7 +215,7 @@ impl ProcessorState<'_> {
     // What a deletion asks for.
     fn deletion(&self, id: GlobalId) -> Option<Task<'static>>
         ensures value { result ≡
-            task_of self.now.machine self.now.cpu self.now.local (GoneContent id) }
+            task_of self.now.machine self.now.cpu self.now.local [] (GoneContent id) }
         ensures possible { IfSome result (λ task. IsTask task self.now) }
     {
         let place = self.foreign_place(id)?;
@@ -224,7 +226,7 @@ impl ProcessorState<'_> {
     // not.
     fn retargeting(&self, owed: &Owed) -> Option<Task<'static>>
         ensures value { result ≡
-            task_of self.now.machine self.now.cpu self.now.local (RetargetContent owed.now) }
+            task_of self.now.machine self.now.cpu self.now.local [] (RetargetContent owed.now) }
         ensures possible { IfSome result (λ task. IsTask task self.now) }
     {
         if !self.machine.retargets() {
@@ -236,9 +238,12 @@ impl ProcessorState<'_> {
         Some(Task::Retarget(originator, *owed))
     }
 
-    /// What a letter of this content asks for, or None if the letter is not lawful here.
-    pub(crate) fn task<'a>(&self, content: &'a Content) -> Option<Task<'a>>
-        ensures value { result ≡ task_of self.now.machine self.now.cpu self.now.local content.now }
+    /// What a letter of this content, whose message has these words, asks for. None if the letter is
+    /// not lawful here.
+    pub(crate) fn task<'a>(&self, content: &Content, words: &'a [u64]) -> Option<Task<'a>>
+        requires { length words.now ≡ word_count content.now }
+        ensures value { result ≡
+            task_of self.now.machine self.now.cpu self.now.local words.now content.now }
         ensures possible { IfSome result (λ task. IsTask task self.now) }
     {
         match content {
@@ -247,7 +252,7 @@ impl ProcessorState<'_> {
                 receiver,
                 message,
                 zero_timeout,
-            } => self.arrival(name, *receiver, message, *zero_timeout),
+            } => self.arrival(name, *receiver, message, words, *zero_timeout),
             Content::Done { name, decision } => self.end(name, *decision),
             Content::Withdraw {
                 name,

@@ -5,7 +5,7 @@ ghost use Rattle.l4_model.specs.Effects.{obeyed};
 ghost use Rattle.l4_core_model.specs.Local.{comes_to, after_decision};
 ghost use Rattle.l4_core_model.specs.Mail.{handle};
 ghost use Rattle.l4_core_model.specs.Turns.{can_stamp};
-ghost use Rattle.l4_types.specs.LetterView.{decision_of, letter_of};
+ghost use Rattle.l4_types.specs.LetterView.{decision_of};
 ghost use Rattle.l4_core.specs.Tasks.{does_task, IsArrival, IsCaller, IsObedience, IsSplit, IsTask};
 ghost use Rattle.l4_core.specs.declared.known.tasks.Task.TheVariants.{Arrive, Obey};
 ghost use Rattle.l4_core.specs.Processor.{with_local};
@@ -18,7 +18,8 @@ use crate::processor::{Core, Fault};
 use l4_history::sink::Sink;
 use l4_thread::changes::Change;
 use l4_types::ids::GlobalId;
-use l4_types::letters::{Content, Decision, Letter};
+use l4_types::letter_ref::LetterRef;
+use l4_types::letters::{Content, Decision};
 use l4_types::message_ref::MessageRef;
 use l4_types::steps::{Name, OrderKind};
 
@@ -31,29 +32,30 @@ impl Core<'_> {
     /// Nothing is changed then. Condition: `buffer` has begun an event that has no step yet.
     pub fn handle_into<S: Sink>(
         &mut self,
-        letter: &Letter,
+        letter: &LetterRef<'_>,
         buffer: &mut EventBuffer<S>,
     ) -> Result<u64, Fault>
         requires open { IsOpen buffer.old }
         ensures ok { IfOk result (λ stamp.
             IsEvent
             (handle self.old.machine self.old.cpu self.old.local
-            (letter_of letter.now)) self.old self.new buffer.old buffer.new stamp) }
+            letter.now) self.old self.new buffer.old buffer.new stamp) }
         ensures err { OnErr result ((self.new ≡ self.old) × (buffer.new ≡ buffer.old)) }
         ensures faults { IfErr result (λ fault. (fault ≡ Fault.Mail) ⊎ (fault ≡ Fault.Stamp)) }
         ensures mail { IsErrOf result Fault.Mail ↔
-            (handle self.old.machine self.old.cpu self.old.local (letter_of letter.now) ≡ None) }
+            (handle self.old.machine self.old.cpu self.old.local letter.now ≡ None) }
         ensures stamp { IsErrOf result Fault.Stamp ↔
-            (IsSome (handle self.old.machine self.old.cpu self.old.local (letter_of letter.now)) ×
+            (IsSome (handle self.old.machine self.old.cpu self.old.local letter.now) ×
             (can_stamp self.old.local letter.now.stamp ≡ false)) }
     {
-        let Some(task) = self.known.task(&letter.content) else {
+        let (head, words) = letter.parts();
+        let Some(task) = self.known.task(&head.content, words) else {
             return Err(Fault::Mail);
         };
-        if !self.can_stamp(letter.stamp) {
+        if !self.can_stamp(head.stamp) {
             return Err(Fault::Stamp);
         }
-        let stamp = self.open(letter.stamp);
+        let stamp = self.open(head.stamp);
         self.do_task(task, buffer);
         Ok(stamp)
     }

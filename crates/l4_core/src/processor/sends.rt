@@ -17,7 +17,7 @@ use crate::event_buffer::EventBuffer;
 use crate::processor::Core;
 use l4_history::sink::Sink;
 use l4_thread::changes::Change;
-use l4_types::letters::{Cause, Content, Decision, Letter, Refusal};
+use l4_types::letters::{Cause, Content, Decision, LetterHead, Refusal};
 use l4_types::step_ref::{DeliveryRef, StepRef};
 use l4_types::steps::Name;
 
@@ -34,11 +34,12 @@ fn refusal_step(refusal: Refusal, name: Name) -> StepRef<'static>
 }
 
 impl Core<'_> {
-    /// A letter with the stamp of this event.
-    pub(super) fn letter(&self, content: Content) -> Letter
+    /// The head of a letter with the stamp of this event.
+    #[inline(always)]
+    pub(super) fn letter(&self, content: Content) -> LetterHead
         ensures { result ≡ record { stamp = self.now.local.stamp; content = content } }
     {
-        Letter {
+        LetterHead {
             stamp: self.stamp(),
             content,
         }
@@ -163,14 +164,14 @@ impl Core<'_> {
             (posts_send self.old.machine receiver sender send)
             self.old self.new buffer.old buffer.new }
     {
-        let content = Content::Send {
-            name: self.known.last_name(sender),
-            receiver: self.known.id(receiver),
-            message: self.known.message(sender).to_message(),
-            zero_timeout: self.known.is_zero(sender),
-        };
-        let letter = self.letter(content);
-        buffer.post(self.known.cpu_of(receiver), letter);
+        buffer.post_send(
+            self.known.cpu_of(receiver),
+            self.stamp(),
+            self.known.last_name(sender),
+            self.known.id(receiver),
+            self.known.is_zero(sender),
+            self.known.message(sender),
+        );
     }
 
     /// Handles a send that has arrived at its receiver's processor, this one: refuses it, or queues

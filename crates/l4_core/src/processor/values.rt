@@ -4,7 +4,6 @@ ghost use Rattle.std.specs.Prelude.{◌≡◌, ◌↔◌, ◌⊎◌, IfErr, IfOk
 ghost use Rattle.std.specs.Prelude.{false, true};
 ghost use Rattle.l4_core_model.specs.Mail.{handle};
 ghost use Rattle.l4_core_model.specs.Turns.{advance, can_stamp};
-ghost use Rattle.l4_types.specs.LetterView.{letter_of};
 ghost use Rattle.l4_core.specs.Values.{IsToldEvent, Turned};
 
 use crate::event_buffer::{EventBuffer, EventSteps, Letters};
@@ -43,17 +42,17 @@ impl Core<'_> {
         ensures ok { IfOk result (λ r.
             IsToldEvent
             (handle self.old.machine self.old.cpu self.old.local
-            (letter_of letter.now)) self.old self.new r.0 r.1.items) }
+            letter.now) self.old self.new r.0 r.1.items) }
         ensures err { OnErr result (self.new ≡ self.old) }
         ensures faults { IfErr result (λ fault. (fault ≡ Fault.Mail) ⊎ (fault ≡ Fault.Stamp)) }
         ensures mail { IsErrOf result Fault.Mail ↔
-            (handle self.old.machine self.old.cpu self.old.local (letter_of letter.now) ≡ None) }
+            (handle self.old.machine self.old.cpu self.old.local letter.now ≡ None) }
         ensures stamp { IsErrOf result Fault.Stamp ↔
-            (IsSome (handle self.old.machine self.old.cpu self.old.local (letter_of letter.now)) ×
+            (IsSome (handle self.old.machine self.old.cpu self.old.local letter.now) ×
             (can_stamp self.old.local letter.now.stamp ≡ false)) }
     {
         let mut buffer = EventBuffer::new(EventSteps::new());
-        let stamp = self.handle_into(letter, &mut buffer)?;
+        let stamp = self.handle_into(&letter.borrowed(), &mut buffer)?;
         Ok(buffer.into_event(stamp))
     }
 

@@ -1,8 +1,7 @@
-use Rattle.std.proofs.Common.{◌<◌, map, ap, arith}
+use Rattle.std.proofs.Common.{◌<◌, ap, arith}
 use Rattle.std.proofs.lemmas.List.FromFn.{length-range_with_len}
 use Rattle.l4_model.specs.Machine.{Machine}
 use Rattle.l4_core_model.specs.Runs.{processors}
-use Rattle.l4_types.specs.LetterView.{letter_of}
 use Rattle.l4_states.specs.Codes.{mail_from_code, mail_to_code}
 use Rattle.l4_codes.proofs.Writing.{each_over}
 use Rattle.l4_endings.proofs.Coding.{letters_told}
@@ -16,7 +15,7 @@ loop-from-preserved c = λ m r is.
       c.requires.cpus,
       ap (λ (n : Machine). n.cpus) is.machine,
     ) in
-    letters_told m r c.args.to c.loop-from.from (map letter_of c.letters.result.now.items)
+    letters_told m r c.args.to c.loop-from.from c.letters.result
     c.args.code.now c.loop-from.code c.put_letters.new.code own (c.letters.ensures m r is)
     (c.loop-from.invariant m r is) c.in_ok-put_letters.ensures
 

@@ -1,14 +1,16 @@
-use Rattle.std.proofs.Common.{set, ap, arith}
-use Rattle.std.specs.Prelude.{slice_index_or}
-use Rattle.std.proofs.lemmas.List.{length-set}
-use Rattle.l4_machine.proofs.Delivered.{all_delivered, delivering, next_delivered, next_fewer, next_known, next_within, IsRead}
+use Rattle.std.proofs.Common.{◌≡◌, ◌∙◌, ℕ, Some, ap, arith, sym}
+use Rattle.std.specs.Prelude.{slice_get, slice_index_or}
+use Rattle.std.specs.Option.{option_map}
+use Rattle.l4_core_model.specs.Letters.{Letter}
+use Rattle.l4_machine.specs.UnderWay.{letters_of}
+use Rattle.l4_machine.proofs.Delivered.{all_delivered, delivering, next_goes, out_here, IsRead}
 use Rattle.l4_machine.proofs.scheduler.deliver.Goals as goal
 
 pub letters-init : goal.letters-init
 letters-init c = delivering c.args.from c.args.stations.now c.requires.posted
 
-pub put-requires : goal.put-requires
-put-requires c =
+goes_on : (c : goal.After-deliver_first-arg-1) → option_map {T = ℕ × Letter} {U = ℕ} (λ p. p.0) (slice_get (letters_of c.letters.stations c.args.from) 0) ≡ Some c.in-Some.to
+goes_on c =
     let ss = c.letters.stations in
     let i = c.from.result in
     let size = c.letters.auto.stations in
@@ -16,46 +18,25 @@ put-requires c =
     let lt = c.requires.within in
     let s = slice_index_or ss i c.index-stations-from.result in
     let r : IsRead ss i s = record { within = omega arith; at = ap (slice_index_or ss i) c.index-stations-from.is } in
-    next_known c.args.from c.args.stations.now ss i s c.take_letter.new.self c.in-Some.to c.in-Some.letter c.letters.invariant
-    r same c.take_letter.ensures.same c.in-Some.ensures.letters c.from-in-Some.result _ c.from-in-Some.ensures
+    ap (λ ls. option_map {T = ℕ × Letter} {U = ℕ} (λ p. p.0) (slice_get ls 0)) (out_here ss c.args.from i s same r) ∙ sym c.destination.ensures ∙ c.in-Some.is
 
-pub letters-smaller : goal.letters-smaller
-letters-smaller c =
-    let ss = c.letters.stations in
-    let i = c.from.result in
-    let j = c.from-in-Some.result in
-    let t = c.take_letter.new.self in
+pub deliver_first-requires-clause-next : goal.deliver_first-requires-clause-next
+deliver_first-requires-clause-next c = goes_on c
+
+pub deliver_first-requires-clause-within : goal.deliver_first-requires-clause-within
+deliver_first-requires-clause-within c =
     let size = c.letters.auto.stations in
-    let same = c.from.ensures in
     let lt = c.requires.within in
-    let s = slice_index_or ss i c.index-stations-from.result in
-    let r : IsRead ss i s = record { within = omega arith; at = ap (slice_index_or ss i) c.index-stations-from.is } in
-    let there = c.from-in-Some.ensures in
-    let within = next_within c.args.from c.args.stations.now ss i s t c.in-Some.to c.in-Some.letter c.letters.invariant r same c.take_letter.ensures.same c.in-Some.ensures.letters in
-    let longer = length-set ss i t in
-    let u = slice_index_or (set ss i t) j c.index-stations-from-in-Some.result in
-    let read : IsRead (set ss i t) j u = record { within = omega arith; at = ap (slice_index_or (set ss i t) j) c.index-stations-from-in-Some.is } in
-    next_fewer c.args.from c.args.stations.now ss i s t c.in-Some.to c.in-Some.letter c.letters.invariant
-    r same c.take_letter.ensures.same c.in-Some.ensures.letters j u c.put.new.self read c.put.ensures.worker
+    (omega arith, (next_goes c.args.from c.in-Some.to c.letters.stations c.letters.invariant.can (goes_on c)).0)
+
+pub deliver_first-requires-clause-apart : goal.deliver_first-requires-clause-apart
+deliver_first-requires-clause-apart c = (next_goes c.args.from c.in-Some.to c.letters.stations c.letters.invariant.can (goes_on c)).1
 
 pub letters-preserved : goal.letters-preserved
 letters-preserved c =
-    let ss = c.letters.stations in
-    let i = c.from.result in
-    let j = c.from-in-Some.result in
-    let t = c.take_letter.new.self in
-    let size = c.letters.auto.stations in
-    let same = c.from.ensures in
-    let lt = c.requires.within in
-    let s = slice_index_or ss i c.index-stations-from.result in
-    let r : IsRead ss i s = record { within = omega arith; at = ap (slice_index_or ss i) c.index-stations-from.is } in
-    let there = c.from-in-Some.ensures in
-    let within = next_within c.args.from c.args.stations.now ss i s t c.in-Some.to c.in-Some.letter c.letters.invariant r same c.take_letter.ensures.same c.in-Some.ensures.letters in
-    let longer = length-set ss i t in
-    let u = slice_index_or (set ss i t) j c.index-stations-from-in-Some.result in
-    let read : IsRead (set ss i t) j u = record { within = omega arith; at = ap (slice_index_or (set ss i t) j) c.index-stations-from-in-Some.is } in
-    next_delivered c.args.from c.args.stations.now ss i j s t u c.put.new.self c.in-Some.to c.in-Some.letter c.letters.invariant r same c.take_letter.ensures.same
-    c.in-Some.ensures.letters read there c.in_ok-put.ensures.station c.put.ensures.worker
+    let one = c.in_ok-deliver_first.ensures in
+    let d = c.letters.invariant in
+    record { come = one.come ∙ d.come; can = one.can; events = one.events ∙ d.events }
 
 pub returns : goal.returns
 returns c =
@@ -66,5 +47,4 @@ returns c =
     let lt = c.requires.within in
     let s = slice_index_or ss i c.index-stations-from.result in
     let r : IsRead ss i s = record { within = omega arith; at = ap (slice_index_or ss i) c.index-stations-from.is } in
-    all_delivered c.args.from c.args.stations.now ss i s c.take_letter.new.self c.letters.invariant r same c.take_letter.ensures.same
-    c.in_default.ensures.letters c.in_default.ensures.none
+    all_delivered c.args.from c.args.stations.now ss i s c.letters.invariant r same (sym c.in_default.is ∙ c.destination.ensures)

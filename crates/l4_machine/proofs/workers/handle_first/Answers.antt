@@ -1,16 +1,15 @@
 use Rattle.std.proofs.Common.{sym, refl, []}
 use Rattle.std.specs.Prelude.{slice_index_or}
-use Rattle.l4_types.specs.LetterView.{letter_of}
 use Rattle.l4_machine.specs.Inboxes.{letters_in}
 use Rattle.l4_machine.proofs.Inboxes.{no_first}
 use Rattle.l4_machine.proofs.workers.handle_first.Goals as goal
 
 pub handle-requires-clause-can : goal.handle-requires-clause-can
-handle-requires-clause-can c = c.requires.can (letter_of c.in-Some.letter.now) (sym c.in-Some.ensures)
+handle-requires-clause-can c = c.requires.can c.in-Some.letter (sym c.in-Some.ensures)
 
 pub returns : goal.returns
 returns c = record {
-  letter = c.in-Some.letter.now;
+  letter = c.in-Some.letter;
   taken = record { first = sym c.in-Some.ensures; rest = c.drop_first.ensures };
   turn = c.handle.ensures;
 }

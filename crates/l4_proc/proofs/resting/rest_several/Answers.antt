@@ -3,7 +3,7 @@ use Rattle.std.specs.Prelude.{is_some}
 use Rattle.std.specs.List.{list_all, list_any, AllZip}
 use Rattle.std.proofs.lemmas.List.{with_items_is}
 use Rattle.l4_core_model.specs.Runs.{is_empty}
-use Rattle.l4_types.specs.declared.letters.Letter.{Letter}
+use Rattle.l4_core_model.specs.Letters.{Letter}
 use Rattle.l4_mail.specs.Ports.{account}
 use Rattle.l4_mail.specs.Rests.{are_all, under_way}
 use Rattle.l4_mail.proofs.Whole.{same_length}

@@ -1,9 +1,9 @@
-use Rattle.std.proofs.Common.{◌≡◌, true, false, subst, sym, ◌∙◌, ap}
+use Rattle.std.proofs.Common.{◌≡◌, true, false, [], subst, sym, ◌∙◌, ap}
 use Rattle.l4_model.specs.World.{PendingOrder}
 use Rattle.l4_model.specs.Machine.{place_of}
 use Rattle.l4_model.specs.Effects.{orders}
 use Rattle.l4_core_model.specs.Local.{comes_to, declared, is_own}
-use Rattle.l4_types.specs.LetterView.{letter_of}
+use Rattle.l4_types.specs.LetterHeads.{letter_with}
 use Rattle.l4_types.specs.StepView.{order_kind_of}
 use Rattle.l4_core.specs.Parts.{AreCore}
 use Rattle.l4_core.specs.Processor.{Processor, with_local}
@@ -45,8 +45,8 @@ returns-in-Some-2 g c =
     let now = c.self-2.view_is ∙ c.apply_change.ensures in
     let at = sym (c.place_of.ensures.value ∙ ap (λ (p : Processor). place_of p.machine c.args.target) now) ∙ c.in-Some.is in
     let away = subst (λ (p : Processor). is_own p.machine p.cpu c.in-Some.asked ≡ false) now (sym c.is_own.ensures.value ∙ c.if-is_own.false) in
-    gives_away c.args.self.now c.apply_change.new.self c.args.place c.in-Some.asked order c.id-caller.result c.args.buffer.now c.emit.new.self c.post.new.self c.cpu_of.result (letter_of c.letter-letter.result)
-    named given c.emit.ensures at away (c.cpu_of.ensures ∙ ap (λ (p : Processor). (declared p.machine c.in-Some.asked).cpu) now) (ap letter_of c.letter-letter.ensures) c.post.ensures
+    gives_away c.args.self.now c.apply_change.new.self c.args.place c.in-Some.asked order c.id-caller.result c.args.buffer.now c.emit.new.self c.post.new.self c.cpu_of.result (letter_with [] c.letter-letter.result)
+    named given c.emit.ensures at away (c.cpu_of.ensures ∙ ap (λ (p : Processor). (declared p.machine c.in-Some.asked).cpu) now) (ap (letter_with []) c.letter-letter.ensures) c.post.ensures
 
 pub returns-in-None : goal.returns-in-None
 returns-in-None g c =

@@ -5,28 +5,17 @@ use Rattle.l4_model.specs.Words.{GlobalId}
 use Rattle.l4_model.specs.World.{Name}
 use Rattle.l4_history.specs.Rows.{Told, send_step}
 use Rattle.l4_history.specs.Slots.{HasSlot}
-use Rattle.l4_history.proofs.Pushed.{send-rows, send-told, slots-told}
+use Rattle.l4_history.proofs.Pushed.{send-told, slots-told}
 use Rattle.l4_history.proofs.history.History.push_of_send.Goals as goal
-
-pub invariant_of-self : goal.invariant_of-self
-invariant_of-self c = (
-  send-rows c.self.inside.threads.slots.items c.slot_of.new.self.slots.items c.slot_of.ensures.kept c.self.inside.records.items _ c.self.inside.heads.items c.self.inside.wide.items c.self.inside.words.items
-      c.args.kind c.kind.result _ c.in-Some.slot _ c.self.invariant.0 c.in-Some.ensures.some (grind (arith, common_steps)) c.kind.ensures c.push_reserved.ensures.items,
-  grind (arith, common_steps),
-  grind (arith, common_steps),
-  grind (arith, common_steps),
-  grind (arith, common_steps),
-  grind (arith, common_steps),
-)
 
 pub returns-in-Some : goal.returns-in-Some
 returns-in-Some c =
     rw (← c.self.view_is)
     (ap {B = Told} (λ (told : List steps.Step). record { steps = told; room = c.self.inside.room - 1 })
     (send-told c.self.inside.threads.slots.items c.slot_of.new.self.slots.items c.slot_of.ensures.kept c.self.inside.records.items _ c.self.inside.heads.items c.self.inside.wide.items c.self.inside.words.items
-    c.args.kind c.kind.result c.args.name c.in-Some.slot _ c.self.invariant.0
+    c.args.kind c.args.name c.in-Some.slot _ c.self.invariant.0
     (subst (λ (t : GlobalId). HasSlot c.slot_of.new.self.slots.items t c.in-Some.slot) c.thread-thread.ensures c.in-Some.ensures.some)
-    (grind (arith, common_steps)) c.kind.ensures c.push_reserved.ensures.items))
+    (grind (arith, common_steps)) c.push_reserved.ensures.items))
 
 pub returns-in-None : goal.returns-in-None
 returns-in-None c =

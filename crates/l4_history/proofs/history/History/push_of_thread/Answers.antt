@@ -1,27 +1,15 @@
-use Rattle.std.proofs.Common.{◌∙◌, ◌≡◌, ◌++◌, [], ◌∷◌, ap, arith, ◌-◌, List}
-use Rattle.std.proofs.lemmas.Grind.{common_steps}
+use Rattle.std.proofs.Common.{◌∙◌, ◌≡◌, ◌++◌, [], ◌∷◌, ap, ◌-◌, List}
 use Rattle.l4_model.specs.Steps as steps
 use Rattle.l4_history.specs.Rows.{Told, thread_step}
-use Rattle.l4_history.proofs.Pushed.{slots-told, thread-rows, thread-told}
+use Rattle.l4_history.proofs.Pushed.{slots-told, thread-told}
 use Rattle.l4_history.proofs.history.History.push_of_thread.Goals as goal
-
-pub invariant_of-self : goal.invariant_of-self
-invariant_of-self c = (
-  thread-rows c.self.inside.threads.slots.items c.slot_of.new.self.slots.items c.slot_of.ensures.kept c.self.inside.records.items _ c.self.inside.heads.items c.self.inside.wide.items c.self.inside.words.items
-      c.args.kind c.kind.result c.args.thread c.in-Some.slot c.self.invariant.0 c.in-Some.ensures.some c.kind.ensures c.push_reserved.ensures.items,
-  grind (arith, common_steps),
-  grind (arith, common_steps),
-  grind (arith, common_steps),
-  grind (arith, common_steps),
-  grind (arith, common_steps),
-)
 
 pub returns-in-Some : goal.returns-in-Some
 returns-in-Some c =
     rw (← c.self.view_is)
     (ap {B = Told} (λ (told : List steps.Step). record { steps = told; room = c.self.inside.room - 1 })
     (thread-told c.self.inside.threads.slots.items c.slot_of.new.self.slots.items c.slot_of.ensures.kept c.self.inside.records.items _ c.self.inside.heads.items c.self.inside.wide.items c.self.inside.words.items
-    c.args.kind c.kind.result c.args.thread c.in-Some.slot c.self.invariant.0 c.in-Some.ensures.some c.kind.ensures c.push_reserved.ensures.items))
+    c.args.kind c.args.thread c.in-Some.slot c.self.invariant.0 c.in-Some.ensures.some c.push_reserved.ensures.items))
 
 pub returns-in-None : goal.returns-in-None
 returns-in-None c =

@@ -62,7 +62,7 @@ end_event-requires-clause-posted c =
     let here = stands m r v c.args.cpu c.from.result ss old is refl c.from.ensures c.requires.cpu c.index_mut.ensures.value in
     let known = knows_poster m r v c.args.cpu (station_of old) c.args.choice is here.at c.requires.poster in
     let chosen = subst (λ b. HasChosen c.args.choice b old new) c.if-not-branch.false c.in_ok-choose.ensures in
-    can_deliver c.law_core_run.ensures.lawful m r v (action m r.system c.args.cpu c.args.choice) c.args.cpu c.from.result ss old new is
+    can_deliver m r v (action m r.system c.args.cpu c.args.choice) c.args.cpu c.from.result ss old new is
     refl c.from.ensures here (chosen_happens m r.system v.stations c.args.cpu c.args.choice old new is.system here.at known chosen)
 
 pub returns : goal.returns
@@ -72,7 +72,7 @@ returns c =
     let old = c.index_mut.result.now in
     let new = c.choose.new.self in
     let chosen = subst (λ b. HasChosen c.args.choice b old new) c.if-not-branch.false c.in_ok-choose.ensures in
-    ended c.law_core_run.ensures.lawful (λ m r. action m r.system c.args.cpu c.args.choice) c.args.self.now _ c.end_event.new.self
+    ended (λ m r. action m r.system c.args.cpu c.args.choice) c.args.self.now _ c.end_event.new.self
     c.args.cpu c.from.result old new c.end_event.result refl refl refl c.from.ensures
     (λ m r is.
     let here = stands m r v c.args.cpu c.from.result ss old is refl c.from.ensures c.requires.cpu c.index_mut.ensures.value in

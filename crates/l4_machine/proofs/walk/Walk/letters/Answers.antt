@@ -1,7 +1,6 @@
-use Rattle.std.proofs.Common.{◌≡◌, ◌<◌, map, sym, subst}
+use Rattle.std.proofs.Common.{◌≡◌, ◌<◌, sym, subst}
 use Rattle.l4_core_model.specs.Runs.{Run, letters}
 use Rattle.l4_model.specs.Machine.{Machine}
-use Rattle.l4_types.specs.LetterView.{letter_of}
 use Rattle.l4_machine.specs.Stations.{station_of}
 use Rattle.l4_machine.specs.UnderWay.{under_way, HasRun, IsRun, UnderWay}
 use Rattle.l4_machine.proofs.Walks.{inbox_here, mail_here}
@@ -16,7 +15,7 @@ letters-requires c =
 pub returns : goal.returns
 returns c =
     subst (λ (u : UnderWay). (m : Machine) (r : Run) → IsRun m r u →
-    map letter_of c.letters.result.now.items ≡ letters r.system.mail c.args.from c.args.cpu)
+    c.letters.result ≡ letters r.system.mail c.args.from c.args.cpu)
     c.self.view_is
     (λ m r is. mail_here m r (under_way c.self.inside.scheduler) c.args.cpu c.args.from (station_of c.station.result.now)
-    (map letter_of c.letters.result.now.items) is c.station.ensures c.letters.ensures)
+    c.letters.result is c.station.ensures c.letters.ensures)

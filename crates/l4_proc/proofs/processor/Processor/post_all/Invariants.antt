@@ -1,7 +1,6 @@
 use Rattle.std.proofs.Common.{◌≡◌, ◌≤◌, ◌++◌, ℕ, length, map}
 use Rattle.std.specs.List.{AllByRecursion}
 use Rattle.l4_merge.specs.Transitions.{letters_with}
-use Rattle.l4_types.specs.LetterView.{letter_of}
 use Rattle.l4_mail.specs.Ports.{posted_to, taken_from, kept_from, room_to, place, HasWayTo}
 use Rattle.l4_proc.specs.Logs.{HasLetters}
 use Rattle.l4_proc.proofs.processor.Processor.post_all.Given as goal
@@ -13,8 +12,8 @@ invariant-letters l = record {
   hand : l.self.worker.hand ≡ l.initial.self.worker.hand;
   log : HasLetters l.initial.self.worker.log l.self.worker.log;
   place : place l.self.port ≡ place l.initial.self.port;
-  posted : (to : ℕ) → map letter_of (posted_to l.self.port to) ++ letters_with to l.self.worker.log.buffer.letters ≡
-      map letter_of (posted_to l.initial.self.port to) ++ letters_with to l.initial.self.worker.log.buffer.letters;
+  posted : (to : ℕ) → posted_to l.self.port to ++ letters_with to l.self.worker.log.buffer.letters ≡
+      posted_to l.initial.self.port to ++ letters_with to l.initial.self.worker.log.buffer.letters;
   taken : (from : ℕ) → taken_from l.self.port from ≡ taken_from l.initial.self.port from;
   kept : (from : ℕ) → kept_from l.self.port from ≡ kept_from l.initial.self.port from;
   ways : AllByRecursion (λ p. HasWayTo l.self.port p.0) l.self.worker.log.buffer.letters;

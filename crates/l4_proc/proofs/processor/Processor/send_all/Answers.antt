@@ -1,5 +1,4 @@
 use Rattle.std.proofs.Common.{ap, map, refl, ◌∙◌}
-use Rattle.l4_types.specs.LetterView.{letter_of}
 use Rattle.l4_proc.proofs.Readying.{whole_kept}
 use Rattle.l4_proc.proofs.processor.Processor.send_all.Goals as goal
 
@@ -16,7 +15,7 @@ returns-then-has_letters c =
     record {
       port = record {
         place = f.place ∙ p.port.place;
-        posted = λ to. ap (map letter_of) (f.posted to) ∙ p.port.posted to;
+        posted = λ to. (f.posted to) ∙ p.port.posted to;
         taken = λ from. f.taken from ∙ p.port.taken from;
         kept = λ from. f.kept from ∙ p.port.kept from;
       };

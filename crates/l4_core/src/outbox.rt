@@ -1,0 +1,141 @@
+//! The letters that an event posts.
+ghost use Rattle.std.specs.Prelude.{◌≡◌, ◌∷◌, ◌++◌, ◌-◌, ◌<◌, ◌≤◌, ◌↔◌, [], IsTrue, drop, length, slice_get};
+ghost use Rattle.l4_types.specs.LetterHeads.{letter_with, word_count};
+
+use crate::event_buffer::{Letters, MOST_LETTERS};
+use arrayvec::ArrayVec;
+use l4_types::letter_ref::LetterRef;
+use l4_types::letters::LetterHead;
+use l4_types::messages::MOST_WORDS;
+use std::marker::Model;
+
+// So many words the letters of an event have at most.
+const MOST_POSTED_WORDS: usize = MOST_LETTERS * MOST_WORDS;
+
+/// The letters of an event, each with the processor that it goes to. Their words stand in one row:
+/// a letter is moved often, and mostly has few words.
+#[derive(Drop)]
+pub(crate) struct Outbox {
+    // Of these the ones from `taken` up to `posted` are left. No vector, since to clear one writes
+    // over its elements.
+    heads: [(u8, LetterHead); MOST_LETTERS],
+    posted: usize,
+    taken: usize,
+    // The words of all letters that were posted. The first `gone` are those of letters taken out.
+    words: ArrayVec<u64, MOST_POSTED_WORDS>,
+    gone: usize,
+}
+
+impl Model for Outbox {
+    ghost use Rattle.std.specs.Prelude.{◌≡◌, ◌≤◌, ◌-◌, drop, length, take};
+    ghost use Rattle.l4_types.specs.LetterHeads.{posted_in};
+    ghost use Rattle.l4_core.specs.Outboxes.{IsOutbox, Outbox as Letters};
+
+    ghost Value = { Letters };
+
+    ghost view = { λ o. record {
+      letters = posted_in (drop o.taken (take o.posted o.heads)) (drop o.gone o.words.items);
+      slots = 2 - o.posted;
+    } };
+
+    ghost invariant = { λ o. IsOutbox (take o.posted o.heads) (length o.words.items) o.taken o.gone ×
+        (o.posted ≤ 2) × (length o.heads ≡ 2) };
+}
+
+impl Outbox {
+    /// No letters.
+    pub(crate) fn new() -> Outbox
+        ensures { result ≡ record { letters = []; slots = 2 } }
+    {
+        Outbox {
+            heads: [(0, LetterHead::default()); MOST_LETTERS],
+            posted: 0,
+            taken: 0,
+            words: ArrayVec::new(),
+            gone: 0,
+        }
+    }
+
+    /// Drops all letters.
+    #[inline(always)]
+    pub(crate) fn clear(&mut self)
+        ensures { self.new ≡ record { letters = []; slots = 2 } }
+    {
+        if self.posted > 0 {
+            self.posted = 0;
+            self.taken = 0;
+            self.words.clear();
+            self.gone = 0;
+        }
+    }
+
+    /// Posts a letter to a processor.
+    #[inline(always)]
+    pub(crate) fn post(&mut self, to: u8, head: LetterHead, words: &[u64])
+        requires slots { 0 < self.old.slots }
+        requires words { length words.now ≡ word_count head.content }
+        ensures { self.new ≡ record {
+          letters = self.old.letters ++ (to, letter_with words.now head) ∷ [];
+          slots = self.old.slots - 1;
+        } }
+    {
+        let count = head.word_count();
+        prove!(words.len() == count);
+        self.heads[self.posted] = (to, head);
+        self.posted += 1;
+        self.words.try_extend_from_slice(words).unwrap();
+    }
+
+    /// Whether no letter is left.
+    #[inline(always)]
+    pub(crate) fn is_empty(&self) -> bool
+        ensures { IsTrue result ↔ (self.now.letters ≡ []) }
+    {
+        self.taken == self.posted
+    }
+
+    /// The first letter that is left, with the processor that it goes to.
+    #[inline(always)]
+    pub(crate) fn first(&self) -> Option<(u8, LetterRef<'_>)>
+        ensures { result ≡ slice_get self.now.letters 0 }
+    {
+        if self.taken == self.posted {
+            return None;
+        }
+        let (to, head) = &self.heads[self.taken];
+        let end = self.gone + head.word_count();
+        Some((*to, LetterRef::new(head, &self.words[self.gone..end])))
+    }
+
+    /// Takes out the first letter that is left, if there is one.
+    #[inline(always)]
+    pub(crate) fn drop_first(&mut self)
+        ensures letters { self.new.letters ≡ drop 1 self.old.letters }
+        ensures slots { self.new.slots ≡ self.old.slots }
+    {
+        if self.taken < self.posted {
+            self.gone += self.heads[self.taken].1.word_count();
+            self.taken += 1;
+        }
+    }
+
+    // There are not more of them than an event posts.
+    fn few(&self)
+        ensures { length self.now.letters ≤ 2 }
+    {
+        prove!(self.posted <= MOST_LETTERS);
+    }
+
+    /// All letters that are left, with copies of their words.
+    pub(crate) fn into_letters(mut self) -> Letters
+        ensures { result.items ≡ self.letters }
+    {
+        self.few();
+        let mut letters = Letters::new();
+        'letters: while let Some((to, letter)) = self.first() {
+            letters.push((to, letter.to_letter()));
+            self.drop_first();
+        }
+        letters
+    }
+}

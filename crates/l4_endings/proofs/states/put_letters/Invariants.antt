@@ -1,0 +1,11 @@
+use Rattle.std.proofs.Common.{◌≡◌, ℕ, List}
+use Rattle.l4_choices.specs.Alike.{contents}
+use Rattle.l4_states.specs.Codes.{chained, content_code}
+use Rattle.l4_codes.specs.Written.{with_numbers}
+use Rattle.l4_endings.proofs.states.put_letters.Given as goal
+
+-- With the letters that are left it is the code of all.
+abbrev pub invariant-loop-letter : goal.invariant-loop-letter
+invariant-loop-letter l =
+    (rest : List ℕ) → with_numbers l.code (chained content_code (contents l.letter-iterator) rest)
+    ≡ with_numbers l.fn.code (chained content_code (contents l.fn.letters) rest)

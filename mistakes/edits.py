@@ -10,6 +10,8 @@ DEFINITIONS = "definitions"
 FUNCTION = re.compile(r"\s*(?:pub(?:\([^)]*\))?\s+)?(?:const\s+)?fn\s+(\w+)")
 MODULE = re.compile(r"^[a-z_]\w*::")
 IMPL = re.compile(r"impl(?:<[^{]*?>)?\s+(?:[\w:<>', ]+\s+for\s+)?(\w+)")
+# The functions of a generic type with one type put in.
+OF_ONE = re.compile(r"impl (\w+)<([A-Z]\w*)")
 
 
 class Edit:
@@ -106,7 +108,7 @@ def head_of(rows):
 
 def paths_of(home):
     """The functions of a crate with a body of their own: the path of each, and by which path the prover is asked for it. One that a trait asks for is
-    asked for by its module."""
+    asked for by its module, one of a generic type with one type put in by both types."""
     found = []
     for file in sorted((home / "src").rglob("*.rt")):
         text, module = file.read_text(), "::".join(file.relative_to(home / "src").with_suffix("").parts)
@@ -116,7 +118,10 @@ def paths_of(home):
             if FUNCTION.match(rows[row]) and "trait" not in head:
                 name = function_at(text, end - 2)
                 path = f"{module}::{name}".removeprefix("lib::")
-                found.append((path, module if " for " in head else name if "::" in name else path))
+                asked = module if " for " in head else name if "::" in name else path
+                if " for " not in head and (one := OF_ONE.match(head)):
+                    asked = f"{one[1]}+{one[2]}::{name.split('::')[-1]}"
+                found.append((path, asked))
     return found
 
 

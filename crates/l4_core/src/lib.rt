@@ -24,4 +24,5 @@ pub mod event_buffer;
 mod known;
 mod outbox;
 mod places;
+mod posted_words;
 pub mod processor;

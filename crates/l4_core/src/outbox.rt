@@ -3,14 +3,10 @@ ghost use Rattle.std.specs.Prelude.{◌≡◌, ◌∷◌, ◌++◌, ◌-◌, ◌
 ghost use Rattle.l4_types.specs.LetterHeads.{letter_with, word_count};
 
 use crate::event_buffer::{Letters, MOST_LETTERS};
-use arrayvec::ArrayVec;
+use crate::posted_words::PostedWords;
 use l4_types::letter_ref::LetterRef;
 use l4_types::letters::LetterHead;
-use l4_types::messages::MOST_WORDS;
 use std::marker::Model;
-
-// So many words the letters of an event have at most.
-const MOST_POSTED_WORDS: usize = MOST_LETTERS * MOST_WORDS;
 
 /// The letters of an event, each with the processor that it goes to. Their words stand in one row:
 /// a letter is moved often, and mostly has few words.
@@ -22,7 +18,7 @@ pub(crate) struct Outbox {
     posted: usize,
     taken: usize,
     // The words of all letters that were posted. The first `gone` are those of letters taken out.
-    words: ArrayVec<u64, MOST_POSTED_WORDS>,
+    words: PostedWords,
     gone: usize,
 }
 
@@ -34,11 +30,11 @@ impl Model for Outbox {
     ghost Value = { Letters };
 
     ghost view = { λ o. record {
-      letters = posted_in (drop o.taken (take o.posted o.heads)) (drop o.gone o.words.items);
+      letters = posted_in (drop o.taken (take o.posted o.heads)) (drop o.gone o.words);
       slots = 2 - o.posted;
     } };
 
-    ghost invariant = { λ o. IsOutbox (take o.posted o.heads) (length o.words.items) o.taken o.gone ×
+    ghost invariant = { λ o. IsOutbox (take o.posted o.heads) (length o.words) o.taken o.gone ×
         (o.posted ≤ 2) × (length o.heads ≡ 2) };
 }
 
@@ -51,7 +47,7 @@ impl Outbox {
             heads: [(0, LetterHead::default()); MOST_LETTERS],
             posted: 0,
             taken: 0,
-            words: ArrayVec::new(),
+            words: PostedWords::new(),
             gone: 0,
         }
     }
@@ -83,7 +79,7 @@ impl Outbox {
         prove!(words.len() == count);
         self.heads[self.posted] = (to, head);
         self.posted += 1;
-        self.words.try_extend_from_slice(words).unwrap();
+        self.words.append(words);
     }
 
     /// Whether no letter is left.
@@ -104,7 +100,10 @@ impl Outbox {
         }
         let (to, head) = &self.heads[self.taken];
         let end = self.gone + head.word_count();
-        Some((*to, LetterRef::new(head, &self.words[self.gone..end])))
+        Some((
+            *to,
+            LetterRef::new(head, &self.words.as_slice()[self.gone..end]),
+        ))
     }
 
     /// Takes out the first letter that is left, if there is one.

@@ -132,8 +132,9 @@ pub(crate) fn wide_delivery<'a>(head: &WideHead, words: &'a [u64]) -> DeliveryRe
     }
 }
 
-/// The step that no record fits at an index. It is rare, so it is not inlined.
-#[inline(never)]
+/// The step that no record fits at an index. Inlined, though it is rare: a step that a call returns
+/// lies in memory, and so does each step that may be it.
+#[inline(always)]
 pub(crate) fn wide_step<'a>(wide: &[Step<WideHead>], words: &'a [u64], index: usize) -> StepRef<'a>
     requires known { index < length wide.now }
     requires within { All (IsWide (length words.now)) wide.now }

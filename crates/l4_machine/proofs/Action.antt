@@ -1,5 +1,5 @@
 -- What a station does is what happens in the core run.
-use Rattle.std.proofs.Common.{◌≡◌, ◌≢◌, ℕ, zero, suc, ◌+◌, ◌<◌, ◌≤◌, ◌^◌, Bool, true, false, cond, Option, Some, None, List, [], ◌∷◌, ◌++◌, map, length, get_or, set, refl, ap, sym, ◌∙◌, subst, arith, inl, inr}
+use Rattle.std.proofs.Common.{◌≡◌, ◌≢◌, ℕ, zero, suc, ◌+◌, ◌<◌, ◌≤◌, ◌^◌, Bool, true, false, cond, Some, None, List, [], ◌∷◌, ◌++◌, map, length, get_or, set, refl, ap, sym, ◌∙◌, subst, arith, inl, inr}
 use Rattle.std.specs.Prelude.{slice_get, ◌==◌, OnOk, Result, Ok, Err}
 use Rattle.std.specs.List.{range_with_len}
 use Rattle.std.specs.Option.{option_map}
@@ -9,13 +9,13 @@ use Rattle.std.proofs.lemmas.List.{length-map, get_or-map, get_or-set_same, map-
 use Rattle.std.proofs.lemmas.Option.{slice_get-map}
 use Rattle.l4_model.specs.Machine.{Machine}
 use Rattle.l4_model.specs.World.{changed}
-use Rattle.l4_model.proofs.Chains.{get-changed_same, set_changed, length-changed}
+use Rattle.l4_model.proofs.Chains.{get-changed_same, set_changed}
 use Rattle.l4_core_model.specs.Letters.{Letter}
 use Rattle.l4_core_model.specs.Local.{Local}
 use Rattle.l4_core_model.specs.Acts.{Work}
 use Rattle.l4_core_model.specs.Turns.{can_stamp, turn, advance}
 use Rattle.l4_core_model.specs.Mail.{handle}
-use Rattle.l4_core_model.specs.Runs.{System, letters, posted, taken, Action, Handles, Turns, Ticks, Happened, Event, done, happens, Run, then_event, core_run, opening_run, is_empty, IsMachine}
+use Rattle.l4_core_model.specs.Runs.{System, letters, taken, Action, Handles, Turns, Ticks, Happened, Event, done, happens, Run, then_event, core_run, opening_run, is_empty, IsMachine}
 use Rattle.l4_core_model.specs.Schedules.{first_poster, turn_of, next_turn, or_stays, attempts}
 use Rattle.l4_core_model.specs.Laws.{IsCoreRun}
 use Rattle.l4_split.specs.Laws.{IsLawfulRun}

@@ -1,9 +1,9 @@
 -- An inbox, where a letter comes or is taken out.
-use Rattle.std.proofs.Common.{◌≡◌, ◌≢◌, ◌⊎◌, inl, inr, ℕ, zero, suc, ◌+◌, ◌-◌, ◌*◌, ◌%◌, ◌^◌, ◌<◌, ◌≤◌, Bool, true, false, Option, None, Some, List, [], ◌∷◌, ◌++◌, map, length, drop, get_or, set, replicate, refl, ap, sym, ◌∙◌, subst, arith, lt_trans, ⊎_elim, true≢false, bit_or, bit_and, w64}
+use Rattle.std.proofs.Common.{◌≡◌, ◌≢◌, ◌⊎◌, inl, inr, ℕ, zero, suc, ◌+◌, ◌-◌, ◌*◌, ◌%◌, ◌^◌, ◌<◌, ◌≤◌, Bool, true, false, None, List, [], ◌∷◌, ◌++◌, length, drop, get_or, set, replicate, refl, ap, sym, ◌∙◌, subst, arith, lt_trans, ⊎_elim, true≢false, bit_or, bit_and, w64}
 use Rattle.std.specs.Prelude.{slice_get, ◌==◌}
 use Rattle.std.specs.Int.{bit_at}
 use Rattle.std.specs.Int.Count.{count_trailing_zeros}
-use Rattle.std.proofs.lemmas.Bool.{cases_eq, cases_lt, eqb-true, eqb-false, lt-ltb}
+use Rattle.std.proofs.lemmas.Bool.{cases_eq, cases_lt, eqb-true, eqb-false}
 use Rattle.std.proofs.lemmas.List.{get_or_past}
 use Rattle.std.proofs.lemmas.Nat.Bits.{bit_at_set_same, bit_at_set_other, bit_at_clear_same, bit_at_clear_other, bit_at-zero, bit_at-trailing_zeros}
 use Rattle.l4_model.specs.World.{changed}

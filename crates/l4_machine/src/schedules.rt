@@ -48,14 +48,14 @@ fn choice_of(run: &Scheduler<'_>, entry: Entry) -> Option<Choice>
 }
 
 /// Does what an entry asks for, if it can be done.
-pub(crate) fn take(run: &mut Scheduler<'_>, entry: Entry) -> Result<(), NoMemory>
+pub(crate) fn take(run: &mut Scheduler<'_>, entry: &Entry) -> Result<(), NoMemory>
     requires run { HasRun (under_way run.old) }
     requires few { length (under_way run.old).order < 2 ^ 61 }
-    requires processor { is_entry run.old.machine.now (entry_from entry) ≡ true }
-    ensures { OnOk result (GoesOn (after_entry (entry_from entry)) (under_way run.old)
+    requires processor { is_entry run.old.machine.now (entry_from entry.now) ≡ true }
+    ensures { OnOk result (GoesOn (after_entry (entry_from entry.now)) (under_way run.old)
         (under_way run.new)) }
 {
-    match choice_of(run, entry) {
+    match choice_of(run, *entry) {
         Some(choice) => run.attempt(entry.processor(), choice),
         None => Ok(()),
     }
@@ -79,7 +79,7 @@ fn take_all(run: &mut Scheduler<'_>, machine: &Machine, entries: &[Entry]) -> Re
         if !entry.is_of(machine) {
             return Err(RunFault::Schedule(place + 1));
         }
-        take(run, *entry)?;
+        take(run, entry)?;
     }
     Ok(())
 }

@@ -58,7 +58,7 @@ impl<'m> Walk<'m> {
         requires lawful { is_entry self.old.machine (entry_from entry) ≡ true }
         ensures { OnOk result (GoesOn (after_entry (entry_from entry)) self.old self.new) }
     {
-        take(&mut self.scheduler, entry)
+        take(&mut self.scheduler, &entry)
     }
 
     /// A processor, by its number.

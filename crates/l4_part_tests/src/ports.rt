@@ -17,7 +17,10 @@ pub(crate) fn send(port: &mut Port, to: u8, stamp: u64) -> bool
         return false;
     }
     let content = Content::Gone(GlobalId::default());
-    port.post(to, Letter::new(LetterHead { stamp, content }, &[]));
+    let Some(letter) = Letter::new(LetterHead { stamp, content }, &[]) else {
+        return false;
+    };
+    port.post(to, letter);
     true
 }
 

@@ -137,15 +137,6 @@ fn told(first: &str, words: &str) -> Option<Content> {
     }
 }
 
-// A letter of this content, if its message is to have so many words.
-fn letter(stamp: u64, content: Content, words: &[u64]) -> Option<Letter> {
-    let head = LetterHead { stamp, content };
-    if head.word_count() != words.len() {
-        return None;
-    }
-    Some(Letter::new(head, words))
-}
-
 // A letter with this stamp:
 //
 //     waits LINE, now LINE    a send has begun, for ever or without time; the line is the one
@@ -160,7 +151,8 @@ fn read_letter(alloc: Global, stamp: u64, text: &str) -> Result<Letter, Fail> {
     let (first, words) = text.split_once(' ').ok_or("the words of a letter")?;
     if first != "waits" && first != "now" {
         let content = told(first, words).ok_or("a letter")?;
-        return Ok(letter(stamp, content, &[]).ok_or("a letter without a message")?);
+        let head = LetterHead { stamp, content };
+        return Ok(Letter::new(head, &[]).ok_or("a letter without a message")?);
     }
     let delivery = delivery(alloc, words)?.ok_or("a line of a delivery")?;
     let content = Content::Send {
@@ -169,7 +161,8 @@ fn read_letter(alloc: Global, stamp: u64, text: &str) -> Result<Letter, Fail> {
         message: MessageRef::from(&delivery.message).head(),
         zero_timeout: first == "now",
     };
-    Ok(letter(stamp, content, delivery.message.words()).ok_or("a letter with its message")?)
+    let head = LetterHead { stamp, content };
+    Ok(Letter::new(head, delivery.message.words()).ok_or("a letter with its message")?)
 }
 
 // Appends the line of a step.

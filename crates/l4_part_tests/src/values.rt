@@ -145,6 +145,8 @@ fn there_is_room_for_steps_and_letters(rt: HostRuntime) {
     let mut letters: ArrayVec<(u8, Letter), 2> = ArrayVec::new();
     let content = Content::Gone(GlobalId::default());
     let head = LetterHead { stamp: 4, content };
-    letters.push((1, Letter::new(head, &[])));
+    let letter = Letter::new(head, &[]).expect(&rt, "a letter without words");
+    assert!(rt; Letter::new(head, &[1]).is_none());
+    letters.push((1, letter));
     assert!(rt; steps.len() == 1 && letters.len() == 1);
 }

@@ -2,7 +2,6 @@
 use Rattle.std.proofs.Common.{◌≡◌, ℕ, ◌+◌, ◌<◌, ◌≤◌, Some, List, [], ◌∷◌, ◌++◌, length, refl, ap, ◌∙◌, subst, sym, arith, length-append}
 use Rattle.std.specs.Prelude.{◌≢◌}
 use Rattle.l4_merge.specs.Transitions.{Transition}
-use Rattle.l4_merge.specs.LocalTraces.{HasTurned}
 use Rattle.l4_core_model.specs.Letters.{Letter}
 use Rattle.l4_merge.proofs.Worked.{turned_trans}
 use Rattle.l4_proc.specs.Working.{BeginWithMail, IsIdle, past, turns_of, HasGoneOn, HasTakenUpTo, HasTurnedMailFirst, ExtendsOn, IsStopped}

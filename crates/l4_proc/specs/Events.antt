@@ -1,5 +1,5 @@
 -- One event of a processor at work.
-use Rattle.std.specs.Prelude.{◌≡◌, ℕ, ◌++◌, false, IsSome, Option, Some, None, List, map}
+use Rattle.std.specs.Prelude.{◌≡◌, ℕ, ◌++◌, false, IsSome, Option, Some, None, List}
 use Rattle.l4_core_model.specs.Letters as letters
 use Rattle.l4_core_model.specs.Mail.{handle}
 use Rattle.l4_core_model.specs.Turns.{turn, can_stamp}

@@ -1,5 +1,5 @@
 -- What does a processor's work, with the port that is its own, and what the two have done so far.
-use Rattle.std.specs.Prelude.{◌≡◌, ◌≢◌, ℕ, ◌-◌, ◌<◌, ◌++◌, [], Bool, true, is_some, slice_index_or, Option, Some, None, List, length, map, take}
+use Rattle.std.specs.Prelude.{◌≡◌, ◌≢◌, ℕ, ◌-◌, ◌<◌, ◌++◌, [], Bool, true, is_some, slice_index_or, Option, Some, None, List, length, take}
 use Rattle.l4_merge.specs.LocalTraces.{LocalTrace}
 use Rattle.l4_core_model.specs.Letters.{Letter}
 use Rattle.l4_core.specs.Processor.{Processor}

@@ -1,5 +1,5 @@
 //! The list of a schedule: its items, and the entries that they spell.
-ghost use Rattle.std.specs.Prelude.{◌≡◌, ◌≤◌, ◌⊎◌, ◌==◌, ◌++◌, ◌∷◌, [], ℕ, List, IfOk, IfErr};
+ghost use Rattle.std.specs.Prelude.{◌≡◌, ◌<◌, ◌≤◌, ◌⊎◌, ◌+◌, ◌==◌, ◌++◌, ◌∷◌, [], ℕ, List, IfOk, IfErr};
 ghost use Rattle.std.specs.Prelude.{MatchOption, OnOk, Ok, Err, None, Some, length, count_by, map};
 ghost use Rattle.std.specs.Prelude.{true};
 ghost use Rattle.std.specs.Option.{option_map};
@@ -20,6 +20,9 @@ use l4_words::lines::{find_byte, split_once};
 use l4_words::numbers::decimal;
 use std::alloc::Global;
 use std::marker::Model;
+
+// So many commas can be counted in a byte.
+const CHUNK: usize = 255;
 
 /// The entries of a schedule, one for each item of its list.
 ///
@@ -71,14 +74,29 @@ pub(crate) fn item_count(list: &[u8]) -> usize
     }
 }
 
-// A loop that adds, since the compiler counts several bytes at once in it.
 fn comma_count(list: &[u8]) -> usize
     ensures value { result ≡ count_by (λ byte. byte == 44) list.now }
     ensures limit { result ≤ length list.now }
 {
     let mut count = 0;
-    for byte in list {
-        count += usize::from(*byte == b',');
+    let mut rest = list;
+    'chunks: while rest.len() > CHUNK {
+        let (chunk, behind) = rest.split_at(CHUNK);
+        count += usize::from(commas_in(chunk));
+        rest = behind;
+    }
+    count + usize::from(commas_in(rest))
+}
+
+// A loop that adds up to a byte, since the compiler counts sixteen bytes at once in it.
+fn commas_in(chunk: &[u8]) -> u8
+    requires { length chunk.now ≤ 255 }
+    ensures value { result ≡ count_by (λ byte. byte == 44) chunk.now }
+    ensures limit { result ≤ length chunk.now }
+{
+    let mut count = 0;
+    for byte in chunk {
+        count += u8::from(*byte == b',');
     }
     count
 }
@@ -127,19 +145,29 @@ impl<'a> Items<'a> {
             }
         }
     }
+
+    // The next item as a number, where it is one digit with a comma behind it. Else the item stays.
+    #[inline(always)]
+    fn next_digit(&mut self) -> Option<u8>
+        ensures { MatchOption result (self.new ≡ self.old) (λ digit.
+            (digit < 10) × (self.old ≡ ((48 + digit) ∷ []) ∷ self.new)) }
+    {
+        match self.rest {
+            Some([digit @ b'0'..=b'9', b',', rest @ ..]) => {
+                self.rest = Some(rest);
+                Some(digit - b'0')
+            }
+            _ => None,
+        }
+    }
 }
 
-// The first item of a list, and what follows its comma. None where there is no comma. Mostly an
-// item is one byte.
-#[inline(always)]
+// The first item of a list, and what follows its comma. None where there is no comma.
 fn split_item(list: &[u8]) -> Option<(&[u8], &[u8])>
     ensures { MatchOption result (items_left (Some list.now) ≡ list.now ∷ [])
         (λ split. items_left (Some list.now) ≡ split.0.now ∷ items_left (Some split.1.now)) }
 {
-    match list {
-        [byte, b',', rest @ ..] if *byte != b',' => Some((&list[..1], rest)),
-        _ => split_once(b',', list),
-    }
+    split_once(b',', list)
 }
 
 // The entries of a list that is not too long. Room is made for `room` of them at once.
@@ -157,13 +185,41 @@ fn entries_of(
 {
     let mut items = Items::of(list);
     let mut entries = room_for(alloc, room)?;
+    read_turns(machine, &mut items, &mut entries)?;
     while let Some(item) = items.next() {
         match machine_entry(machine, item) {
             Some(entry) => push(&mut entries, entry)?,
             None => return Err(RunFault::Schedule(entries.len() + 1)),
         }
+        read_turns(machine, &mut items, &mut entries)?;
     }
     Ok(entries)
+}
+
+// Appends the turns of the next items, as long as each is one digit. Mostly all items but the last
+// are.
+#[inline(always)]
+fn read_turns(
+    machine: &Machine,
+    items: &mut Items<'_>,
+    entries: &mut Vec<Entry>,
+) -> Result<(), RunFault>
+    requires { length entries.old.items + length items.old ≤ most_events }
+    ensures ok { OnOk result
+        (read_items machine.now (map entry_from entries.new.items) items.new ≡
+        read_items machine.now (map entry_from entries.old.items) items.old) }
+    ensures count { OnOk result (length entries.new.items + length items.new ≤ most_events) }
+    ensures fewer { OnOk result (length items.new ≤ length items.old) }
+    ensures err { IfErr result (λ fault. (fault ≡ OutOfMemory) ⊎
+        (read_items machine.now (map entry_from entries.old.items) items.old ≡ Err fault)) }
+{
+    'turns: while let Some(cpu) = items.next_digit() {
+        if cpu >= machine.cpus() {
+            return Err(RunFault::Schedule(entries.len() + 1));
+        }
+        push(entries, Entry::Turn(cpu))?;
+    }
+    Ok(())
 }
 
 // An empty list with room for so many entries.
@@ -180,14 +236,10 @@ fn push(entries: &mut Vec<Entry>, entry: Entry) -> Result<(), NoMemory>
     Ok(())
 }
 
-// The entry that an item spells, where it is one of the machine. Most items are one digit.
+// The entry that an item spells, where it is one of the machine.
 fn machine_entry(machine: &Machine, item: &[u8]) -> Option<Entry>
     ensures { option_map entry_from result ≡ machine_entry machine.now item.now }
 {
-    if let [digit @ b'0'..=b'9'] = item {
-        let cpu = digit - b'0';
-        return (cpu < machine.cpus()).then_some(Entry::Turn(cpu));
-    }
     entry_of(item).filter(|entry| entry.is_of(machine))
 }
 

@@ -117,6 +117,8 @@ fn write_name_line(keyword: &[u8], name: Name, line: &mut [u8]) -> usize
     write_bytes(keyword, line, start)
 }
 
+// Writes the line of a delivery. Inlined, since a step that is passed on lies in memory as a whole.
+#[inline(always)]
 fn write_delivery(delivery: &DeliveryRef<'_>, line: &mut [u8]) -> usize
     requires { LONGEST_LINE ≤ length line.old }
     ensures within { result ≤ length line.new }

@@ -59,6 +59,6 @@ impl<'a> LetterRef<'a> {
     pub fn to_letter(&self) -> Letter
         ensures { result ≡ self.now }
     {
-        Letter::new(*self.head, self.words)
+        Letter::with(*self.head, self.words)
     }
 }

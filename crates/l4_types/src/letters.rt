@@ -1,5 +1,5 @@
 //! The letters that processors send each other.
-ghost use Rattle.std.specs.Prelude.{◌≡◌, ◌<◌, length};
+ghost use Rattle.std.specs.Prelude.{◌≡◌, ◌<◌, ◌↔◌, IfSome, IsSome, length};
 ghost use Rattle.l4_model.specs.Words.{register_count};
 ghost use Rattle.l4_types.specs.LetterHeads.{letter_with, word_count};
 
@@ -155,9 +155,21 @@ impl Model for Letter {
 }
 
 impl Letter {
-    /// The letter of this head, whose message has these words.
+    /// The letter of this head, whose message has these words. None where the head says that there
+    /// are more words or fewer.
+    pub fn new(head: LetterHead, words: &[u64]) -> Option<Letter>
+        ensures some { IfSome result (λ letter. letter ≡ letter_with words.now head) }
+        ensures when { IsSome result ↔ (length words.now ≡ word_count head.content) }
+    {
+        if words.len() != head.word_count() {
+            return None;
+        }
+        Some(Letter::with(head, words))
+    }
+
+    // The letter of this head with its words.
     #[inline(always)]
-    pub fn new(head: LetterHead, words: &[u64]) -> Letter
+    pub(crate) fn with(head: LetterHead, words: &[u64]) -> Letter
         requires { length words.now ≡ word_count head.content }
         ensures { result ≡ letter_with words.now head }
     {
@@ -183,7 +195,7 @@ impl Letter {
     pub fn copy(&self) -> Letter
         ensures { result ≡ self.now }
     {
-        Letter::new(self.head, self.words.as_slice())
+        Letter::with(self.head, self.words.as_slice())
     }
 
     /// The stamp of the event that posted it, below 2^62.
@@ -206,6 +218,6 @@ impl Default for Letter {
 
     /// The value of an unused slot in an array.
     fn default() -> Letter {
-        Letter::new(LetterHead::default(), &[])
+        Letter::with(LetterHead::default(), &[])
     }
 }

@@ -162,8 +162,12 @@ impl Message {
     pub fn copy(&self) -> Message
         ensures { result ≡ self.now }
     {
-        let mut words = ArrayVec::new();
-        words.try_extend_from_slice(&self.words).unwrap();
-        Message { words, ..*self }
+        Message::copied(
+            self.label,
+            self.propagated,
+            self.words(),
+            self.shown,
+            self.actual,
+        )
     }
 }

@@ -1,5 +1,5 @@
 //! Writes the words of a line from its last to its first, each with the space before it.
-ghost use Rattle.std.specs.Prelude.{◌≡◌, ◌≤◌, ◌+◌, ◌*◌, true, ◌++◌, codes, decimal, flat_map, length, drop};
+ghost use Rattle.std.specs.Prelude.{◌≡◌, ◌<◌, ◌≤◌, ◌+◌, ◌*◌, true, ◌++◌, codes, decimal, flat_map, length, drop};
 ghost use Rattle.std.specs.List.{list_all};
 ghost use Rattle.l4_model.specs.Words.{is_global};
 ghost use Rattle.l4_words.specs.Numbers.{hexadecimal, is_word};
@@ -26,9 +26,27 @@ pub const NAME_BYTES: usize = 43;
 /// The most bytes of a space and a word in hexadecimal.
 pub const WORD_BYTES: usize = 17;
 
-// Writes half a thread id in decimal just before `end` in the line. Returns where it starts.
-#[tactic(auto, using(crate::proofs::Lengths::at_most_10))]
+// Writes half a thread id in decimal just before `end` in the line. Returns where it starts. Inlined
+// for numbers of one digit, which most versions are.
+#[inline(always)]
+#[tactic(auto, using(crate::proofs::Lengths::one_digit))]
 fn write_half(half: u32, line: &mut [u8], end: usize) -> usize
+    requires room { HALF_BYTES ≤ end }
+    requires within { end ≤ length line.old }
+    ensures room { end ≤ result + HALF_BYTES }
+    ensures within { result ≤ end }
+    ensures written { drop result line.new ≡ decimal half ++ drop end line.old }
+{
+    if half < 10 {
+        return write_byte(b'0' + half as u8, line, end);
+    }
+    write_digits_of_half(half, line, end)
+}
+
+// The same, whatever the number.
+#[inline(never)]
+#[tactic(auto, using(crate::proofs::Lengths::at_most_10))]
+fn write_digits_of_half(half: u32, line: &mut [u8], end: usize) -> usize
     requires room { HALF_BYTES ≤ end }
     requires within { end ≤ length line.old }
     ensures room { end ≤ result + HALF_BYTES }
@@ -69,9 +87,8 @@ pub fn write_thread(thread: GlobalId, line: &mut [u8], end: usize) -> usize
 }
 
 /// Writes a space and the name of a send, `N.V#K`, just before `end` in the line. Returns where
-/// they start.
-#[inline]
-#[tactic(auto, using(crate::proofs::Lengths::at_most_20))]
+/// they start. Inlined: it takes the name apart, and a name that is passed on whole lies in memory.
+#[inline(always)]
 pub fn write_name(name: Name, line: &mut [u8], end: usize) -> usize
     requires room { NAME_BYTES ≤ end }
     requires within { end ≤ length line.old }
@@ -80,9 +97,24 @@ pub fn write_name(name: Name, line: &mut [u8], end: usize) -> usize
     ensures written { drop result line.new ≡ codes " " ++ name_word name ++ drop end line.old }
     ensures spelled { is_name name ≡ true }
 {
-    let k = write_digits(name.k(), line, end);
-    let hash = write_byte(b'#', line, k);
-    write_thread(name.thread(), line, hash)
+    write_send(name.thread(), name.k(), line, end)
+}
+
+// The same for the k-th send of a thread.
+#[tactic(auto, using(crate::proofs::Lengths::at_most_20))]
+fn write_send(thread: GlobalId, k: u64, line: &mut [u8], end: usize) -> usize
+    requires positive { 0 < k }
+    requires room { NAME_BYTES ≤ end }
+    requires within { end ≤ length line.old }
+    ensures room { end ≤ result + NAME_BYTES }
+    ensures within { result ≤ end }
+    ensures written { drop result line.new ≡
+        codes " " ++ name_word (record { thread = thread; k = k }) ++ drop end line.old }
+    ensures spelled { is_name (record { thread = thread; k = k }) ≡ true }
+{
+    let number = write_digits(k, line, end);
+    let hash = write_byte(b'#', line, number);
+    write_thread(thread, line, hash)
 }
 
 /// Writes a space and a word in hexadecimal just before `end` in the line. Returns where they

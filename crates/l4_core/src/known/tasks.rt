@@ -21,8 +21,8 @@ use l4_types::message_ref::{MessageHead, MessageRef};
 use l4_types::owed::Owed;
 use l4_types::steps::{Name, OrderKind};
 
-/// What a lawful letter asks for. Places are those of the threads. A message stays in its letter,
-/// since it is large.
+/// What a lawful letter asks for. Places are those of the threads. The words of a message stay in
+/// the letter.
 #[derive(Drop)]
 pub(crate) enum Task<'a> {
     /// A send has arrived for a receiver of this processor.

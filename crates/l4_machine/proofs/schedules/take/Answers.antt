@@ -7,7 +7,7 @@ use Rattle.l4_machine.proofs.schedules.take.Goals as goal
 
 pub returns-in-Some : goal.returns-in-Some
 returns-in-Some c =
-    let entry = entry_from c.args.entry in
+    let entry = entry_from c.args.entry.now in
     let choice = c.in-Some.choice in
     let cpu = c.processor.result in
     let old = under_way c.args.run.now in
@@ -17,4 +17,4 @@ returns-in-Some c =
     (entry_tried entry cpu choice old new c.processor.ensures c.in-Some.ensures.asks) c.attempt.ensures
 
 pub returns-in-None : goal.returns-in-None
-returns-in-None c = entry_untried (entry_from c.args.entry) (under_way c.args.run.now) c.in-None.ensures.asks
+returns-in-None c = entry_untried (entry_from c.args.entry.now) (under_way c.args.run.now) c.in-None.ensures.asks

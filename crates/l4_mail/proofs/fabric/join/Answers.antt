@@ -1,7 +1,7 @@
 use Rattle.std.proofs.Common.{◌≡◌, ◌<◌, length, get_or, subst, refl, arith}
 use Rattle.l4_mail.specs.Fabrics.{AreJoined}
 use Rattle.l4_mail.proofs.Growing.{joined_more, all_joined, few_back, few_ends, out_then_in, in_then_out, own_place, stands_there}
-use Rattle.l4_mail.proofs.Unlinked.{first_joined, own_way}
+use Rattle.l4_mail.proofs.Unlinked.{first_joined}
 use Rattle.l4_mail.proofs.fabric.join.Goals as goal
 
 pub lay-requires-clause-few : goal.lay-requires-clause-few
@@ -34,6 +34,3 @@ returns c =
 
 pub loop-port-init : goal.loop-port-init
 loop-port-init c = first_joined c.args.room c.args.cpu c.args.ports.now _ c.requires.members refl c.new.ensures.items c.new-2.ensures.items
-
-pub invariant_of-next-2-clause-ways : goal.invariant_of-next-2-clause-ways
-invariant_of-next-2-clause-ways c = λ e. own_way _ _ _ _ c.in_ok-push.ensures.items c.in_ok-push-2.ensures.items (c.loop-port.next.ways e)

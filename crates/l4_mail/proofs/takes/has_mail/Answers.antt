@@ -1,7 +1,7 @@
 use Rattle.std.proofs.Common.{◌<◌, ◌∙◌, length, arith, rules}
 use Rattle.std.proofs.Math.Seq.{map-set_same}
 use Rattle.l4_mail.specs.Ends.{kept}
-use Rattle.l4_mail.proofs.Looking.{none_taken_set, here_before, none_here_at_all, none_at}
+use Rattle.l4_mail.proofs.Looking.{none_taken_set, here_before, none_at}
 use Rattle.l4_mail.proofs.takes.has_mail.Goals as goal
 
 pub returns-then-has_mail-clause-taken : goal.returns-then-has_mail-clause-taken
@@ -25,7 +25,3 @@ loop-from-preserved c =
       same_kept = map-set_same kept _ _ _ c.index-inlets-from.result c.has_mail.ensures.kept ∙ c.loop-from.invariant.same_kept;
       none_so_far = here_before _ _ _ lt (c.has_mail.ensures.here.0 (search rules)) c.loop-from.invariant.none_so_far;
     }
-
-pub returns-clause-here : goal.returns-clause-here
-returns-clause-here c =
-    (λ no. none_here_at_all _ _ (let t = c.loop-from-test.false in let e = c.loop-from.auto.inlets in omega arith) c.loop-from.invariant.none_so_far, λ none. search)

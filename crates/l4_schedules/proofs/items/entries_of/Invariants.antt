@@ -1,4 +1,4 @@
-use Rattle.std.proofs.Common.{◌≡◌, ◌≤◌, ◌+◌, length}
+use Rattle.std.proofs.Common.{◌≡◌, ◌≤◌, ◌+◌, [], length}
 use Rattle.std.specs.Prelude.{map}
 use Rattle.l4_machine.specs.Entries.{entry_from, most_events}
 use Rattle.l4_schedules.specs.Items.{items_of, read_items}
@@ -6,7 +6,7 @@ use Rattle.l4_schedules.proofs.items.entries_of.Given as goal
 
 abbrev pub invariant-loop-item : goal.invariant-loop-item
 invariant-loop-item l = record {
-  whole : read_items l.machine (map entry_from l.entries.items) l.items ≡ read_items l.machine (map entry_from l.initial.entries.items) (items_of l.list);
+  whole : read_items l.machine (map entry_from l.entries.items) l.items ≡ read_items l.machine [] (items_of l.list);
   counted : length l.entries.items + length l.items ≤ most_events;
 }
 

@@ -12,5 +12,5 @@ returns c =
     let at : slice_get (take o.posted o.heads) o.taken ≡ Some p = first-at o.heads o.posted o.taken c.index-self-self.result is.0.some is.1 is.2 c.if-self.false in
     let count : o.gone + c.word_count.result - o.gone ≡ word_count p.1.content = omega (arith, c.word_count.ensures) in
     rw (← c.self.view_is)
-    (ap (λ (l : _). Some (p.0, l)) (c.new.ensures ∙ ap (λ (n : ℕ). letter_with (take n (drop o.gone c.deref.result.now)) p.1) count ∙ ap (λ (ws : List ℕ). letter_with (take (word_count p.1.content) (drop o.gone ws)) p.1) c.deref.ensures.0)
-    ∙ sym (first-posted (take o.posted o.heads) o.words.items o.taken o.gone p is.0 at))
+    (ap (λ (l : _). Some (p.0, l)) (c.new.ensures ∙ ap (λ (n : ℕ). letter_with (take n (drop o.gone c.as_slice.result.now)) p.1) count ∙ ap (λ (ws : List ℕ). letter_with (take (word_count p.1.content) (drop o.gone ws)) p.1) c.as_slice.ensures)
+    ∙ sym (first-posted (take o.posted o.heads) o.words o.taken o.gone p is.0 at))

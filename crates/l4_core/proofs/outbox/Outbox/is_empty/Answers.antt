@@ -8,6 +8,6 @@ returns c =
     let o = c.self.inside in
     let is = c.self.invariant in
     let many = posted-count o.heads o.posted is.1 is.2 in
-    let left = none-left (take o.posted o.heads) (drop o.gone o.words.items) o.taken is.0.some in
+    let left = none-left (take o.posted o.heads) (drop o.gone o.words) o.taken is.0.some in
     rw (← c.self.view_is)
     ((λ all. left.0 (eqb-true o.taken o.posted all ∙ sym many)), (λ none. eq-eqb o.taken o.posted (left.1 none ∙ many)))

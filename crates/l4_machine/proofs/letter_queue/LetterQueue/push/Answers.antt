@@ -1,7 +1,6 @@
-use Rattle.std.proofs.Common.{◌≡◌, ◌++◌, ◌∷◌, ◌-◌, ◌<◌, [], List, drop, ℕ, arith, ap, length, subst, sym, ◌∙◌}
-use Rattle.std.proofs.lemmas.Grind.{common_steps}
+use Rattle.std.proofs.Common.{◌≡◌, ◌++◌, ◌∷◌, ◌-◌, [], List, drop, ap, ◌∙◌}
 use Rattle.l4_core_model.specs.Letters.{Letter}
-use Rattle.l4_types.specs.LetterHeads.{letter_with, letters_in}
+use Rattle.l4_types.specs.LetterHeads.{letters_in}
 use Rattle.l4_machine.proofs.LetterQueues.{queued-more, words-more}
 use Rattle.l4_machine.proofs.letter_queue.LetterQueue.push.Goals as goal
 

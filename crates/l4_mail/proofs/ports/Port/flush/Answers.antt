@@ -1,6 +1,6 @@
-use Rattle.std.proofs.Common.{◌<◌, ◌≤◌, length, refl, arith}
+use Rattle.std.proofs.Common.{◌<◌, length, refl, arith}
 use Rattle.l4_mail.proofs.Rows.{set_as_before}
-use Rattle.l4_mail.proofs.Whole.{outlets_changed, moved_before, all_moved}
+use Rattle.l4_mail.proofs.Whole.{outlets_changed, moved_before}
 use Rattle.l4_mail.proofs.ports.Port.flush.Goals as goal
 
 pub loop-end-preserved : goal.loop-end-preserved
@@ -13,8 +13,3 @@ loop-end-preserved c =
 
 pub returns-clause-same : goal.returns-clause-same
 returns-clause-same c = outlets_changed _ _ _ refl refl refl c.loop-end.invariant.same
-
-pub returns-clause-moved : goal.returns-clause-moved
-returns-clause-moved c =
-    let le : length c.loop-end.end-items ≤ c.loop-end.end-index = (let t = c.loop-end-test.false in let e = c.loop-end.auto.end-items in omega arith) in
-    all_moved c.args.self.now _ _ c.loop-end.invariant.same c.loop-end.invariant.moved le

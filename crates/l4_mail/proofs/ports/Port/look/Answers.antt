@@ -3,18 +3,12 @@ use Rattle.l4_mail.specs.Ends.{ring_in}
 use Rattle.l4_mail.proofs.Looking.{none_kept_here, none_kept_before}
 use Rattle.l4_mail.proofs.Readying.{not_true}
 use Rattle.l4_mail.proofs.Unlinked.{ways_kept}
-use Rattle.l4_mail.proofs.Whole.{items_there, looked_at, none_there, mail_is_here}
+use Rattle.l4_mail.proofs.Whole.{items_there, none_there, mail_is_here}
 use Rattle.l4_mail.proofs.ports.Port.look.Goals as goal
-
-pub returns-clause-same : goal.returns-clause-same
-returns-clause-same c = looked_at c.args.self.now _ _ _ refl refl refl c.deref_mut.ensures.value c.has_mail-has_mail.ensures.taken c.has_mail-has_mail.ensures.kept
 
 pub returns-clause-none : goal.returns-clause-none
 returns-clause-none c = λ no. none_there c.args.self.now _ c.deref_mut.ensures.value
     (none_kept_before _ _ c.has_mail-has_mail.ensures.kept (none_kept_here _ (c.has_mail-has_mail.ensures.here.0 no)))
-
-pub returns-clause-here : goal.returns-clause-here
-returns-clause-here c = mail_is_here c.args.self.now _ _ _ c.deref_mut.ensures.value c.has_mail-has_mail.ensures.taken c.has_mail-has_mail.ensures.here
 
 pub invariant_of-self : goal.invariant_of-self
 invariant_of-self c =

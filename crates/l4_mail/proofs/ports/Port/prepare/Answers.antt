@@ -4,7 +4,7 @@ use Rattle.l4_mail.specs.Ends.{waits}
 use Rattle.l4_mail.proofs.Readying.{all_ready, not_true}
 use Rattle.l4_mail.proofs.Unlinked.{ways_before}
 use Rattle.l4_mail.proofs.Rows.{set_as_before, room_before}
-use Rattle.l4_mail.proofs.Whole.{outlets_changed, rooms_reserved, moved_before, all_moved}
+use Rattle.l4_mail.proofs.Whole.{outlets_changed, rooms_reserved, moved_before}
 use Rattle.l4_mail.proofs.ports.Port.prepare.Goals as goal
 
 pub returns-in_err-make_ready-clause-same : goal.returns-in_err-make_ready-clause-same
@@ -26,11 +26,6 @@ pub returns-clause-room : goal.returns-clause-room
 returns-clause-room c =
     let le : length c.loop-end.end-items ≤ c.loop-end.end-index = (let t = c.loop-end-test.false in let e = c.loop-end.auto.end-items in omega arith) in
     rooms_reserved c.args.self.now _ 2 _ c.loop-end.invariant.same c.loop-end.invariant.room_so_far le
-
-pub returns-clause-moved : goal.returns-clause-moved
-returns-clause-moved c =
-    let le : length c.loop-end.end-items ≤ c.loop-end.end-index = (let t = c.loop-end-test.false in let e = c.loop-end.auto.end-items in omega arith) in
-    all_moved c.args.self.now _ _ c.loop-end.invariant.same c.loop-end.invariant.moved le
 
 pub invariant_of-self : goal.invariant_of-self
 invariant_of-self c = record {

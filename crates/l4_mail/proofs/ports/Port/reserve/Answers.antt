@@ -1,6 +1,6 @@
-use Rattle.std.proofs.Common.{◌<◌, ◌≤◌, length, refl, arith}
+use Rattle.std.proofs.Common.{◌<◌, length, refl, arith}
 use Rattle.l4_mail.proofs.Rows.{set_as_before, room_before}
-use Rattle.l4_mail.proofs.Whole.{outlets_changed, rooms_reserved}
+use Rattle.l4_mail.proofs.Whole.{outlets_changed}
 use Rattle.l4_mail.proofs.Unlinked.{ways_before}
 use Rattle.l4_mail.proofs.ports.Port.reserve.Goals as goal
 
@@ -17,11 +17,6 @@ loop-end-preserved c =
 
 pub returns-clause-same : goal.returns-clause-same
 returns-clause-same c = outlets_changed _ _ _ refl refl refl c.loop-end.invariant.same
-
-pub returns-clause-room : goal.returns-clause-room
-returns-clause-room c =
-    let le : length c.loop-end.end-items ≤ c.loop-end.end-index = (let t = c.loop-end-test.false in let e = c.loop-end.auto.end-items in omega arith) in
-    rooms_reserved c.args.self.now _ 2 _ c.loop-end.invariant.same c.loop-end.invariant.room_so_far le
 
 pub invariant_of-self-in-Break-1 : goal.invariant_of-self-in-Break-1
 invariant_of-self-in-Break-1 c = record {

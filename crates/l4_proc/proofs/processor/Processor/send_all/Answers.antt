@@ -1,4 +1,4 @@
-use Rattle.std.proofs.Common.{ap, map, refl, ◌∙◌}
+use Rattle.std.proofs.Common.{refl, ◌∙◌}
 use Rattle.l4_proc.proofs.Readying.{whole_kept}
 use Rattle.l4_proc.proofs.processor.Processor.send_all.Goals as goal
 

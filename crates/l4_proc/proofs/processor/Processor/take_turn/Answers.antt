@@ -1,7 +1,7 @@
 use Rattle.std.proofs.Common.{refl, ap, ◌∙◌}
 use Rattle.l4_proc.specs.declared.worker.Worker.{Worker}
 use Rattle.std.proofs.lemmas.Result.{err_from_is_err_and}
-use Rattle.l4_proc.proofs.Turning.{same_port, letters_have_room, letters_have_ways, refused_stopped, refused_taken, tried_turn, turn_taken, unready_taken, was_idle}
+use Rattle.l4_proc.proofs.Turning.{same_port, letters_have_room, letters_have_ways, refused_stopped, refused_taken, tried_turn, turn_taken, unready_taken}
 use Rattle.l4_proc.proofs.processor.Processor.take_turn.Goals as goal
 
 pub returns-in_err-get_ready-clause-err : goal.returns-in_err-get_ready-clause-err
@@ -45,13 +45,3 @@ returns-clause-ok c =
     c.in_ok-get_ready.ensures.ok t.done t.happened t.ended c.send_all.ensures.port
     (c.send_all.ensures.core ∙ ap (λ (w : Worker). w.core) t.is) (c.send_all.ensures.hand ∙ ap (λ (w : Worker). w.hand) t.is)
     c.send_all.ensures.log (same_port c.send_all.new.self.port) refl
-
-pub returns-in_err-get_ready-clause-nothing : goal.returns-in_err-get_ready-clause-nothing
-returns-in_err-get_ready-clause-nothing c =
-    let p = err_from_is_err_and c.from_residual.result c.from_residual.ensures.1 in
-    rw (p.1, p.2) (λ is. absurd cc)
-
-pub returns-in_err-take_turn-clause-nothing : goal.returns-in_err-take_turn-clause-nothing
-returns-in_err-take_turn-clause-nothing c =
-    let p = err_from_is_err_and c.from_residual-in_err-take_turn.result c.from_residual-in_err-take_turn.ensures.1 in
-    rw (p.1, p.2) (was_idle c.args.self.now c.get_ready.new.self _ c.in_ok-get_ready.ensures.ok c.in_err-take_turn.ensures.why)

@@ -14,7 +14,7 @@ use Rattle.l4_core_model.proofs.Changed.{run-last}
 use Rattle.l4_audit.specs.declared.reasons.StepFault.{StepFault}
 use Rattle.l4_audit.specs.declared.reasons.StepFault.TheVariants.{NoMemory, Refused}
 use Rattle.l4_audit.specs.Auditing.{Auditing, IsPassed, begins}
-use Rattle.l4_audit.specs.Audits.{Blames, IsReached, fault_at}
+use Rattle.l4_audit.specs.Audits.{Blames, fault_at}
 use Rattle.l4_audit.specs.Taking.{Explains}
 use Rattle.l4_audit.proofs.Auditing.{begun_more}
 use Rattle.l4_audit.proofs.Reasoning.{is_impossible}
@@ -72,11 +72,3 @@ whole (x ∷ xs) = ap (λ ys. x ∷ ys) (whole xs)
 
 pub take_whole : {A : Type 0} (xs : List A) (n : ℕ) → n ≡ length xs → take n xs ≡ xs
 take_whole xs n e = ap (λ k. take k xs) e ∙ whole xs
-
-pub all_taken : (m : Machine) (steps : List Step) (n : ℕ) (a : Auditing) → Replayed m steps n a → n ≡ length steps → IsReached m steps a
-all_taken m steps n a r e =
-    record {
-      machine = r.machine;
-      reached_by = ap (reached m) (sym (take_whole steps n e)) ∙ r.before;
-      begun = r.begun ∙ ap (filter_map begun_name) (take_whole steps n e);
-    }

@@ -69,9 +69,6 @@ waits_is m w t is = rw is (guard_bind (is_ready t.now.phase) (receive_of (act_of
 obeys : (m : Machine) (w : World) (t : Found) → found m w t.declared.id ≡ Some t → is_none (after_obey m w t.declared.id) ≡ not (may_obey m t.now.order)
 obeys m w t is = rw is (bind_bind t.now.order (λ order. place_of m order.target) _ ∙ ap not (obeys_as m t.now.order))
 
-what_same : (n : ℕ) → (n == n) ≡ true
-what_same n = eqb_same n
-
 orders_is : (m : Machine) (w : World) (t : Found) → found m w t.declared.id ≡ Some t →
     list_all (λ step. is_none (next m w step)) (orders t.declared.id (order_of (act_of m t))) ≡ not (is_ready t.now.phase && is_some (order_of (act_of m t)))
 orders_is m w t is = by (order_of (act_of m t)) refl

@@ -36,14 +36,6 @@ pub kept_no : {A : Type 0} (p : ℕ × A → Bool) (xs : List A) (i : ℕ) (x : 
     new ++ filter p (enumerate_from (i + 1 + 1) (drop (i + 1) xs)) ≡ old ++ filter p (enumerate_from (i + 1) (drop i xs))
 kept_no p xs i x old new at not_kept is = kept_next p xs i x old new at (rw not_kept is)
 
--- The next place is written.
-pub written_next : {A B : Type 0} (f : ℕ × A → List B) (xs : List A) (i : ℕ) (x : A) (old new : List B) → slice_get xs i ≡ Some x →
-    new ≡ old ++ f (i, x) →
-    new ++ flat_map f (enumerate_from (i + 1) (drop (i + 1) xs)) ≡ old ++ flat_map f (enumerate_from i (drop i xs))
-written_next {A} f xs i x old new at is =
-    ap (λ n. n ++ flat_map f (enumerate_from (i + 1) (drop (i + 1) xs))) is ∙ append_assoc old (f (i, x)) _
-    ∙ ap (λ (l : List A). old ++ flat_map f (enumerate_from i l)) (sym (left-next xs i x at))
-
 range_suc : (a n : ℕ) → range_with_len a (suc n) ≡ range_with_len a n ++ (a + n) ∷ []
 range_suc a zero = ap (λ (x : ℕ). x ∷ []) (sym (add-zero a))
 range_suc a (suc n) =

@@ -1,11 +1,11 @@
 -- What is written one after the other.
-use Rattle.std.proofs.Common.{◌≡◌, ℕ, zero, suc, ◌+◌, ◌/◌, ◌%◌, ◌<◌, ◌≤◌, Bool, true, false, cond, ◌==◌, List, [], ◌∷◌, ◌++◌, length, get_or, drop, Result, Ok, Err, OnOk, refl, sym, ap, ◌∙◌, subst, arith, append_assoc}
+use Rattle.std.proofs.Common.{◌≡◌, ℕ, zero, suc, ◌+◌, ◌/◌, ◌%◌, ◌<◌, ◌≤◌, Bool, true, false, cond, ◌==◌, List, [], ◌∷◌, ◌++◌, length, get_or, drop, Result, Ok, Err, OnOk, refl, sym, ap, ◌∙◌, arith, append_assoc}
 use Rattle.std.proofs.Math.Seq.{drop-cons}
-use Rattle.std.proofs.lemmas.List.{append-nil, drop_all}
+use Rattle.std.proofs.lemmas.List.{drop_all}
 use Rattle.std.proofs.lemmas.Bool.{lt-ltb, le-ltb, eqb-true, eq-eqb}
-use Rattle.l4_states.specs.Bytes.{bytes_from, put_by, put_number, longest_run, tokens_from, put_tokens, Zeros}
+use Rattle.l4_states.specs.Bytes.{put_by, put_number}
 use Rattle.l4_states.specs.Codes.{chained, each, length_code, number_code, sized}
-use Rattle.l4_codes.specs.Written.{Written, with_numbers, Writes, zero_bytes, zeros_told, room, IsLeft}
+use Rattle.l4_codes.specs.Written.{Written, with_numbers, Writes, room, IsLeft}
 
 -- A value, and then another
 pub then : (f g : List ℕ → List ℕ) (a b c : Written) → Writes f a b → Writes g b c → Writes (λ rest. f (g rest)) a c
@@ -56,44 +56,6 @@ over number left old new small is rest = by is.more is.same
         ∙ sym (ap (λ b. new ++ cond b (left ∷ rest) ((left % 128 + 128) ∷ put_by more (left / 128) rest)) (lt-ltb left 128 small))
         ∙ same rest
 
--- Zeros
-
-zeros_in_front : (count n : ℕ) (rest : List ℕ) → bytes_from count (suc n ∷ rest) ≡ zero_bytes count ++ put_number (suc n) (bytes_from 0 rest)
-zeros_in_front zero n rest = refl
-zeros_in_front (suc count) n rest = refl
-
-pub no_more : (w : Written) → with_numbers w [] ≡ (zeros_told w).bytes
-no_more w = by w.zeros
-  where
-    by : (count : ℕ) → w.bytes ++ bytes_from count [] ≡ w.bytes ++ zero_bytes count
-    by zero = refl
-    by (suc count) = refl
-
--- A number that is not 0 was written behind them.
-pub another : (w : Written) (bytes : List ℕ) (n : ℕ) → (n ≡ 0 → ⊥) →
-    ((rest : List ℕ) → bytes ++ rest ≡ (zeros_told w).bytes ++ put_number n rest) → Writes (number_code n) w (record { bytes = bytes; zeros = 0 })
-another w bytes zero some same rest = absurd (some refl)
-another w bytes (suc n) some same rest =
-    same (bytes_from 0 rest) ∙ append_assoc w.bytes (zero_bytes w.zeros) (put_number (suc n) (bytes_from 0 rest))
-    ∙ ap (λ bs. w.bytes ++ bs) (sym (zeros_in_front w.zeros n rest))
-
--- One more zero
-pub full_run : (w : Written) → w.zeros ≡ 255 → Writes (number_code 0) w (record { bytes = (zeros_told w).bytes; zeros = 1 })
-full_run w full rest = by w.zeros full
-  where
-    by : (count : ℕ) → count ≡ 255 → (w.bytes ++ zero_bytes count) ++ bytes_from 1 rest ≡ w.bytes ++ bytes_from count (0 ∷ rest)
-    by count e = subst (λ z. (w.bytes ++ zero_bytes z) ++ bytes_from 1 rest ≡ w.bytes ++ bytes_from z (0 ∷ rest)) (sym e)
-        (append_assoc w.bytes (0 ∷ 255 ∷ []) (bytes_from 1 rest))
-
-pub longer_run : (w : Written) → (w.zeros ≡ 255 → ⊥) → Writes (number_code 0) w (record { bytes = w.bytes; zeros = w.zeros + 1 })
-longer_run w other rest = by (w.zeros == longest_run) refl
-  where
-    by : (b : Bool) → (w.zeros == longest_run) ≡ b → with_numbers (record { bytes = w.bytes; zeros = w.zeros + 1 }) rest ≡ with_numbers w (0 ∷ rest)
-    by true e = absurd (other (eqb-true w.zeros longest_run e))
-    by false e =
-        ap (λ z. w.bytes ++ bytes_from z rest) (let s : w.zeros + 1 ≡ suc w.zeros = omega arith in s)
-        ∙ ap (λ b. w.bytes ++ put_tokens (cond b (Zeros longest_run ∷ tokens_from 1 rest) (tokens_from (suc w.zeros) rest))) (sym e)
-
 -- Lists
 
 -- One of a list was written, and the others are left.
@@ -116,19 +78,6 @@ pub each_over : {A : Type 0} (code : A → List ℕ → List ℕ) (all : List �
 each_over code all xs i a c none same rest =
     ap (λ ys. with_numbers c (each code ys rest)) (sym (drop_all i xs none)) ∙ same rest
 
--- One of a list that is read from its front was written, behind those before it.
-pub chained_on : {A : Type 0} (code : A → List ℕ → List ℕ) (before xs : List A) (x : A)
-    (a b c d : Written) →
-    ((left : List A) (rest : List ℕ) →
-    with_numbers b (chained code left rest) ≡ with_numbers a (chained code (before ++ left) rest)) →
-    Writes (number_code 1) b c → Writes (code x) c d → xs ≡ before ++ x ∷ [] →
-    (left : List A) (rest : List ℕ) →
-    with_numbers d (chained code left rest) ≡ with_numbers a (chained code (xs ++ left) rest)
-chained_on code before xs x a b c d same one value is left rest =
-    value (chained code left rest) ∙ one (code x (chained code left rest)) ∙ same (x ∷ left) rest
-    ∙ ap (λ ys. with_numbers a (chained code ys rest))
-    (sym (append_assoc before (x ∷ []) left) ∙ ap (λ ys. ys ++ left) (sym is))
-
 -- The first of those that were left was written.
 pub first_told : {A : Type 0} (code : A → List ℕ → List ℕ) (xs ys : List A) (x : A)
     (all : List A) (a b c d : Written) →
@@ -138,17 +87,6 @@ pub first_told : {A : Type 0} (code : A → List ℕ → List ℕ) (xs ys : List
 first_told code xs ys x all a b c d same one value is rest =
     value (chained code ys rest) ∙ one (code x (chained code ys rest))
     ∙ ap (λ zs. with_numbers b (chained code zs rest)) (sym is) ∙ same rest
-
--- All of it was written, and none is left.
-pub all_told : {A E : Type 0} (r : Result (Unit {0}) E) (code : A → List ℕ → List ℕ)
-    (before all : List A) (a b c : Written) →
-    ((left : List A) (rest : List ℕ) →
-    with_numbers b (chained code left rest) ≡ with_numbers a (chained code (before ++ left) rest)) →
-    OnOk r (Writes (number_code 0) b c) → before ≡ all → OnOk r (Writes (chained code all) a c)
-all_told (Ok t) code before all a b c same end is = λ rest.
-    end rest ∙ same [] rest
-    ∙ ap (λ ys. with_numbers a (chained code ys rest)) (append-nil before ∙ is)
-all_told (Err e) code before all a b c same end is = tt
 
 -- The length of a list that has the usual one
 

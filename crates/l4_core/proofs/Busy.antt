@@ -19,17 +19,10 @@ pub no_duty : (p : Processor) (o : Option (ℕ × Duty)) → IsFound o p → is_
 no_duty p None found e = found
 no_duty p (Some x) found e = cc
 
-due_is : (o q : Option ℕ) → is_some o ≡ true → true ≡ is_some (first_some (option_map ByDue o ∷ option_map ByReady q ∷ []))
-due_is None q e = cc
-due_is (Some i) q e = refl
-
 ready_is : (o q : Option ℕ) → is_some o ≡ false → is_some q ≡ is_some (first_some (option_map ByDue o ∷ option_map ByReady q ∷ []))
 ready_is None None e = refl
 ready_is None (Some i) e = refl
 ready_is (Some i) q e = cc
-
-pub with_due : (p : Processor) → HasNoDuty p.machine p.cpu p.local → is_some (due_block p.local.clock p.local.lists.armed) ≡ true → true ≡ is_some (turns.choice p.machine p.cpu p.local)
-with_due p none e = due_is _ (slice_get p.local.lists.ready 0) e ∙ sym (ap is_some (chooses_other p.machine p.cpu p.local none))
 
 pub with_ready : (p : Processor) → HasNoDuty p.machine p.cpu p.local → is_some (due_block p.local.clock p.local.lists.armed) ≡ false → is_some (slice_get p.local.lists.ready 0) ≡ is_some (turns.choice p.machine p.cpu p.local)
 with_ready p none e = ready_is _ (slice_get p.local.lists.ready 0) e ∙ sym (ap is_some (chooses_other p.machine p.cpu p.local none))

@@ -9,7 +9,6 @@ use Rattle.l4_model.specs.Rules.{Sends, ipc_act, request, ran, advanced, failed}
 use Rattle.l4_model.specs.Effects.{runs, begins, waits, fails, decided, refused, receives, goes_on, delivered, asked, orders, obeyed}
 use Rattle.l4_types.specs.Codes.{code_of}
 use Rattle.l4_types.specs.LetterView.{decision_of}
-use Rattle.l4_script.specs.Scripts.{instr_of}
 use Rattle.l4_core_model.specs.Plain as plain
 use Rattle.l4_core_model.specs.Acts.{split_receiver}
 use Rattle.l4_core_model.specs.Letters.{Result, Delivered, Refused, TimedOut, Nobody, Cancelled, Dropped}
@@ -18,9 +17,9 @@ use Rattle.l4_core_model.specs.Mail.{is_ordering}
 use Rattle.l4_thread.specs.Changes.{change_of}
 use Rattle.l4_thread.specs.Ipcs.{passes}
 use Rattle.l4_thread.specs.declared.changes.Change.{Change}
-use Rattle.l4_thread.specs.declared.changes.Change.TheVariants.{Run, Fail, EndSend, GiveOrder, Obey}
+use Rattle.l4_thread.specs.declared.changes.Change.TheVariants.{Fail, EndSend, GiveOrder, Obey}
 use Rattle.tcb_arena.specs.Blocks.{is_ready as is_ready_in}
-use Rattle.l4_core.specs.Changing.{asks_for_life, ends_send, forgets_order, IsFitting}
+use Rattle.l4_core.specs.Changing.{forgets_order, IsFitting}
 use Rattle.l4_core.specs.Settled.{IsSent, MaySend, IsOwn, IsSettled}
 use Rattle.l4_core.proofs.Settling.{Fits}
 
@@ -249,19 +248,13 @@ ended_send (Refused Dropped) now t e = by (is_deleted t.phase) e
     by true e = cc
     by false e = cc
 
--- A living thread has no send, unless the change ends it.
-gone_by : (change : Change) (t : Thread) → IsFitting change t → asks_for_life change ≡ true → ends_send change ≡ false → is_some t.send ≡ true → ⊥
-gone_by change t f life idle e = let dead = f.idle idle e in let alive = f.living life in let wrong : true ≡ false = sym dead ∙ alive in cc
-
 pub calm-change : (change : Change) (now : ℕ) (t : Thread) → IsFitting change t → is_some (change_of change now t).send ≡ true → MaySend (change_of change now t).phase
-calm-change (Run instr) now t f e = absurd (gone_by (Run instr) t f refl refl e)
 calm-change (Fail error) now t f e = calm-fails (code_of error) t (f.idle refl) e
 calm-change (EndSend decision) now t f e = absurd (ended_send (decision_of decision) now t e)
-calm-change (GiveOrder order) now t f e = absurd (gone_by (GiveOrder order) t f refl refl e)
+calm-change (GiveOrder order) now t f e = let dead = f.idle refl e in let alive = f.living refl in let wrong : true ≡ false = sym dead ∙ alive in cc
 calm-change Obey now t f e = calm-obeyed t (f.idle refl) e
 
 pub keeps-change : (change : Change) (now : ℕ) (t : Thread) → IsFitting change t → Keeps t (change_of change now t)
-keeps-change (Run instr) now t f = keeps-runs (instr_of instr) t (f.living refl)
 keeps-change (Fail error) now t f = keeps-fails (code_of error) t
 keeps-change (EndSend decision) now t f = keeps-ended (decision_of decision) now t
 keeps-change (GiveOrder order) now t f = keeps-orders order t (f.living refl)
@@ -336,11 +329,17 @@ next-ended (Refused Cancelled) now t h = λ e. absurd (next-fails 6 (decided t) 
 next-ended (Refused Dropped) now t h = λ e. absurd (next-was_dropped t e)
 
 pub next-change : (change : Change) (now : ℕ) (t : Thread) → IsFitting change t → HasNext t → HasNext (change_of change now t)
-next-change (Run instr) now t f h = λ e. absurd (next-runs (instr_of instr) t e)
 next-change (Fail error) now t f h = λ e. absurd (next-fails (code_of error) t e)
 next-change (EndSend decision) now t f h = next-ended (decision_of decision) now t h
 next-change (GiveOrder order) now t f h = λ e. f.next refl
 next-change Obey now t f h = λ e. absurd (next-obeyed t e)
+
+-- A thread runs an instruction.
+
+pub fits-runs : (m : Machine) (cpu : ℕ) (l : Local) (i : ℕ) (instr : Instr) → IsSettled m cpu l → IsOwn m cpu i → (thread l i).phase ≡ Ready → is_ready_in l.lists i ≡ false → Fits m cpu l i (runs instr (thread l i))
+fits-runs m cpu l i instr s own ready unready =
+    fits-keeps m cpu l i (runs instr (thread l i)) s own unready (unqueued m cpu l i s own.own (ready_not_sends _ ready))
+    (λ e. absurd (ready_not_sends _ ready (s.sending i own.own e))) (λ e. absurd (next-runs instr (thread l i) e)) (keeps-runs instr (thread l i) (ap is_deleted ready))
 
 -- An ipc begins a phase.
 

@@ -21,10 +21,10 @@ use Rattle.l4_types.specs.LetterHeads.{content_with, letter_with, message_with}
 use Rattle.l4_types.specs.LetterView.{cause_of_withdrawal, refusal_of_send}
 use Rattle.l4_core_model.specs.Letters.{refusal_of}
 use Rattle.l4_core.specs.declared.known.tasks.Task.{Task}
-use Rattle.l4_core.specs.declared.known.tasks.Task.TheVariants.{Arrive, End, Refuse, Leave, NoteGone, Obey, FinishOrder}
+use Rattle.l4_core.specs.declared.known.tasks.Task.TheVariants.{Arrive, End, NoteGone, Obey, FinishOrder}
 use Rattle.l4_core.specs.declared.known.tasks.Task.TheVariants as tasks
 use Rattle.l4_core.specs.Processor.{Processor, with_local}
-use Rattle.l4_core.specs.Tasks.{does_task, refusal_for, refused_if, task_of, IsArrival, IsCaller, IsSplit, IsTask}
+use Rattle.l4_core.specs.Tasks.{does_task, refusal_for, refused_if, task_of, IsArrival, IsCaller, IsSplit}
 use Rattle.l4_core.specs.EventBuffers.{EventBuffer, IsOpen}
 use Rattle.l4_core.specs.Turning.{Does, IsEvent, IsFree, IsNewSender, work}
 use Rattle.l4_core_model.proofs.Changed.{get-changed}
@@ -132,26 +132,9 @@ handle_is : (m : Machine) (cpu : ℕ) (l : Local) (words : List ℕ) (head : Let
 handle_is m cpu l words head =
     handled_is m cpu words head.content (opened head.stamp l) ∙ ap (option_map (λ t. does_task m cpu t (opened head.stamp l))) (task_stamped m cpu l (next_stamp head.stamp l) words head.content)
 
--- What a letter asks for is found exactly where it is lawful.
-pub unlawful : (p : Processor) (words : List ℕ) (head : LetterHead) → None ≡ task_of p.machine p.cpu p.local words head.content → handle p.machine p.cpu p.local (letter_with words head) ≡ None
-unlawful p words head e = handle_is p.machine p.cpu p.local words head ∙ ap (option_map (λ t. does_task p.machine p.cpu t (opened head.stamp p.local))) (sym e)
-
 pub lawful : (p : Processor) (words : List ℕ) (head : LetterHead) (task : Task) → Some task ≡ task_of p.machine p.cpu p.local words head.content →
     handle p.machine p.cpu p.local (letter_with words head) ≡ Some (does_task p.machine p.cpu task (opened head.stamp p.local))
 lawful p words head task e = handle_is p.machine p.cpu p.local words head ∙ ap (option_map (λ t. does_task p.machine p.cpu t (opened head.stamp p.local))) (sym e)
-
-pub task_kept : (p q : Processor) (task : Task) (stamp : ℕ) → IsTask task p → q ≡ with_local p (record p.local { stamp = stamp }) → IsTask task q
-task_kept p q task stamp t is = subst (IsTask task) (sym is) (by task t)
-  where
-    by : (task : Task) → IsTask task p → IsTask task (with_local p (record p.local { stamp = stamp }))
-    by (Arrive r i name to message zero_timeout) t = record { receiver = t.receiver; sender = record { within = t.sender.within; foreign = t.sender.foreign }; free = t.free; actual = t.actual }
-    by (End i decision) t = record { own = t.own; split = t.split }
-    by (Refuse i refusal) t = record { within = t.within; sends = t.sends }
-    by Leave t = tt
-    by (NoteGone i) t = record { within = t.within; foreign = t.foreign }
-    by (Obey j i caller what) t = record { own = t.own; caller = record { within = t.caller.within; foreign = t.caller.foreign } }
-    by (FinishOrder i) t = record { own = t.own; waits = t.waits }
-    by (tasks.Retarget j o) t = t
 
 pub handled_event : (p q r : Processor) (words : List ℕ) (head : LetterHead) (task : Task) (before after : EventBuffer) (stamp : ℕ) → Some task ≡ task_of p.machine p.cpu p.local words head.content →
     q ≡ with_local p (record p.local { stamp = next_stamp head.stamp p.local }) → stamp ≡ next_stamp head.stamp p.local → IsOpen before → Does (does_task q.machine q.cpu task) q r before after →

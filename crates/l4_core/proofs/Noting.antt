@@ -141,7 +141,3 @@ covered-asked d z p q i CancelSend other c lt there is = covered-changed d z p q
 covered-asked d z p q i CancelReceive other c lt there is = covered-changed d z p q i (asked CancelReceive) c lt (λ own. there) refl (inr refl) is
 covered-asked d z p q i CancelBoth other c lt there is = covered-changed d z p q i (asked CancelBoth) c lt (λ own. there) refl (inr refl) is
 covered-asked d z p q i Delete other c lt there is = absurd (other refl)
-
--- The same sets.
-pub covered-same : (d e z y : List ℕ) (p : Processor) → d ≡ e → z ≡ y → IsCovered e y p → IsCovered d z p
-covered-same d e z y p duties zeros c = subst (λ x. IsCovered x z p) (sym duties) (subst (λ x. IsCovered e x p) (sym zeros) c)

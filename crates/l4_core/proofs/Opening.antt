@@ -34,10 +34,6 @@ range-push n =
     let f : suc n ≡ n + 1 = omega arith in
     ap (λ k. range_with_len 0 n ++ k ∷ []) e ∙ range-push_at 0 n ∙ ap (range_with_len 0) f
 
-pub length-replicate : {A : Type 0} (n : ℕ) (x : A) → length (replicate n x) ≡ n
-length-replicate zero x = refl
-length-replicate (suc n) x = ap suc (length-replicate n x)
-
 in_range : (s n b : ℕ) → list_any (λ k. b == k) (range_with_len s n) ≡ true → b < s + n
 in_range s zero b e = cc
 in_range s (suc n) b e = by (b == s) (eqb-true b s) e (in_range (s + 1) n b)
@@ -74,11 +70,6 @@ not_yet m cpu n = by (list_any (λ k. n == k) (filter (is_own m cpu) (range_with
     by : (b : Bool) → (b ≡ true → n < 0 + n) → b ≡ false
     by true f = absurd (let h = f refl in omega arith)
     by false f = refl
-
-pub get-replicate : {A : Type 0} (n : ℕ) (x : A) (i : ℕ) → slice_index_or (replicate n x) i x ≡ x
-get-replicate zero x i = refl
-get-replicate (suc n) x zero = refl
-get-replicate (suc n) x (suc i) = get-replicate n x i
 
 pub replicate-map : {A B : Type 0} (x : B) (ys : List A) → replicate (length ys) x ≡ map (λ y. x) ys
 replicate-map x [] = refl

@@ -1,12 +1,12 @@
 -- The letters of an event, where one more is posted or one is taken out.
-use Rattle.std.proofs.Common.{◌≡◌, ◌↔◌, ℕ, zero, suc, ◌+◌, ◌-◌, ◌*◌, ◌<◌, ◌≤◌, Option, Some, None, List, get_or, [], ◌∷◌, ◌++◌, length, take, drop, set, refl, ap, sym, ◌∙◌, subst, arith}
+use Rattle.std.proofs.Common.{◌≡◌, ◌↔◌, ℕ, ◌+◌, ◌-◌, ◌<◌, ◌≤◌, Some, None, List, get_or, [], ◌∷◌, ◌++◌, length, take, drop, set, refl, ap, sym, ◌∙◌, arith}
 use Rattle.std.specs.Prelude.{slice_get}
 use Rattle.std.proofs.lemmas.Option.{slice_get-get_or}
 use Rattle.std.proofs.lemmas.List.{append-nil, drop-append-le, get_or-take, length-append, length-drop, length-take-le, length_push, take_more_set}
 use Rattle.l4_core_model.specs.Letters.{Letter}
 use Rattle.l4_types.specs.declared.letters.LetterHead.{LetterHead}
 use Rattle.l4_types.specs.LetterHeads.{letter_with, posted_in, word_count, words_by}
-use Rattle.l4_types.proofs.LetterRows.{as-many, by-first, by-none, by-push, by-rest, words-first, words-push}
+use Rattle.l4_types.proofs.LetterRows.{as-many, by-first, by-push, by-rest, words-first, words-push}
 use Rattle.l4_core.specs.Outboxes.{IsOutbox}
 
 abbrev pub Posted : Type 0
@@ -103,6 +103,3 @@ module _ (heads : List Posted) (words : List ℕ) (taken gone : ℕ) (p : Posted
       let few = is.few in
       let first = words-first head_of seen heads taken p at in
       record { some = within; whole = omega (arith, whole, first); few = few }
-
-pub none-posted : (heads : List Posted) (words : List ℕ) (taken gone : ℕ) → slice_get heads taken ≡ None → slice_get (posted_in (drop taken heads) (drop gone words)) 0 ≡ None
-none-posted heads words taken gone none = ap (λ (ps : List (ℕ × Letter)). slice_get ps 0) (by-none head_of seen heads (drop gone words) taken none)

@@ -36,10 +36,6 @@ none_dead m r (Some send) e = by r.now.phase (is_zero send.period) e (may_still_
 dead_refuses_none : (m : Machine) (l : Local) (i : ℕ) → is_deleted (thread l i).phase ≡ true → first_refusable m l i ≡ None
 dead_refuses_none m l i e = find_none (λ w. zero_refusable m (held m l i) (thread l w.block).send) (plain.list_of l.lists i) (λ w. none_dead m (held m l i) (thread l w.block).send e)
 
-first_waits : (ws : List plain.Waiting) → (slice_get ws 0 >>= λ first. Some (RefusesFirst first.block)) ≡ option_map RefusesFirst (plain.first_taken AnyThread ws)
-first_waits [] = refl
-first_waits (w ∷ ws) = refl
-
 -- The other duties, of which those of a deleted thread come first.
 
 abbrev alive : (own : Option Duty) (cancels delivers closes : Option Duty) (zero : Option plain.Waiting) → Option Duty

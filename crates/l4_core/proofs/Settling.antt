@@ -8,7 +8,7 @@ use Rattle.l4_model.specs.Machine.{Machine}
 use Rattle.l4_model.specs.World.{Phase, Ready, Sending, Receiving, Ordering, Ended, Deleted, Thread, Owed, changed, opening_thread, is_ready}
 use Rattle.l4_core_model.specs.Plain as plain
 use Rattle.l4_core.specs.PhaseLists.{enters_lists}
-use Rattle.l4_core_model.specs.Local.{Local, declared, is_own, thread, changes, comes_to, keeps_beside, relists, readied}
+use Rattle.l4_core_model.specs.Local.{Local, declared, is_own, thread, changes, comes_to, keeps_beside, relists}
 use Rattle.l4_core_model.specs.Acts.{split_receiver}
 use Rattle.l4_core_model.specs.Mail.{is_ordering}
 use Rattle.l4_core_model.specs.Turns.{has_told, clock_is}
@@ -379,14 +379,6 @@ settled-changed m cpu l i f s c =
     }
 
 -- A thread is settled in its phase.
-
-readied-cases : (p : Phase) (i j : ℕ) (ready : List ℕ) → list_any (λ b. j == b) (readied p i ready) ≡ true → (list_any (λ b. j == b) ready ≡ true) ⊎ ((j ≡ i) × (p ≡ Ready))
-readied-cases Ready i j ready e = ⊎_elim (λ h. inl h) (λ h. inr (same j i h, refl)) (any-push (λ b. j == b) ready i e)
-readied-cases Sending i j ready e = inl e
-readied-cases (Receiving receive since) i j ready e = inl e
-readied-cases Ordering i j ready e = inl e
-readied-cases Ended i j ready e = inl e
-readied-cases Deleted i j ready e = inl e
 
 put-cases : (x : ℕ × ℕ) (j : ℕ) (es : List (ℕ × ℕ)) → list_any (λ (e : ℕ × ℕ). j == e.1) (plain.put_entry x es) ≡ true → (list_any (λ (e : ℕ × ℕ). j == e.1) es ≡ true) ⊎ ((j == x.1) ≡ true)
 put-cases x j [] h = by (j == x.1) h

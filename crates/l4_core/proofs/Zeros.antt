@@ -9,7 +9,7 @@ use Rattle.l4_model.specs.Effects.{turns}
 use Rattle.l4_core_model.specs.Plain as plain
 use Rattle.l4_core_model.specs.Plain.{Plain}
 use Rattle.l4_core_model.specs.Local.{Local, thread, changes, comes_to, keeps_beside, relists}
-use Rattle.l4_core_model.specs.Turns.{clock_is, has_told}
+use Rattle.l4_core_model.specs.Turns.{has_told}
 use Rattle.l4_core_model.proofs.Fit.{get_cases}
 use Rattle.l4_core_model.proofs.Changed.{same_nat}
 use Rattle.l4_core.specs.Places.{has}
@@ -106,9 +106,6 @@ zeros-removed z e l place c is free o h = by (cases_eq o place)
     by : (o ≡ place) ⊎ (o ≡ place → ⊥) → first_zero l (plain.list_of l.lists o) ≡ None
     by (inl same) = subst (λ p. first_zero l (plain.list_of l.lists p) ≡ None) (sym same) free
     by (inr apart) = c o (sym (whole (has z o)) ∙ ap (λ b. has z o && not b) (sym (ne_eqb o place apart)) ∙ sym (is o) ∙ h)
-
-pub zeros-clocked : (z : List ℕ) (to : ℕ) (l : Local) → CoversZeros z l → CoversZeros z (clock_is to l)
-zeros-clocked z to l c = c
 
 pub zeros-stamped : (z : List ℕ) (s : ℕ) (l : Local) → CoversZeros z l → CoversZeros z (record l { stamp = s })
 zeros-stamped z s l c = c

@@ -1,10 +1,10 @@
 -- Where a send goes to nobody.
-use Rattle.std.proofs.Common.{◌≡◌, ℕ, true, Some, None, refl}
+use Rattle.std.proofs.Common.{◌≡◌, true, None, refl}
 use Rattle.l4_model.specs.Words.{Id, NilThread, AnyThread, AnyLocalThread, LocalThread, GlobalThread}
 use Rattle.l4_model.specs.Machine.{Machine}
-use Rattle.l4_model.specs.World.{World, is_deleted}
+use Rattle.l4_model.specs.World.{World}
 use Rattle.l4_model.specs.Conditions.{found_by, is_no_destination}
-use Rattle.l4_core_model.specs.Local.{Local, thread, held, destination_place}
+use Rattle.l4_core_model.specs.Local.{destination_place}
 
 -- snobody
 pub nowhere_is : (m : Machine) (w : World) (to : Id) → destination_place m to ≡ None → (to ≡ NilThread → ⊥) → is_no_destination to (found_by m w to) ≡ true
@@ -13,10 +13,3 @@ nowhere_is m w AnyThread h not_nil = refl
 nowhere_is m w AnyLocalThread h not_nil = refl
 nowhere_is m w (LocalThread word) h not_nil = refl
 nowhere_is m w (GlobalThread t) h not_nil = rw h
-
-deleted_is : (m : Machine) (l : Local) (r : ℕ) (to : Id) → destination_place m to ≡ Some r → is_deleted (thread l r).phase ≡ true → is_no_destination to (Some (held m l r)) ≡ true
-deleted_is m l r NilThread h gone = cc
-deleted_is m l r AnyThread h gone = refl
-deleted_is m l r AnyLocalThread h gone = refl
-deleted_is m l r (LocalThread word) h gone = refl
-deleted_is m l r (GlobalThread t) h gone = gone

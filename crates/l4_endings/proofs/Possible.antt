@@ -1,14 +1,13 @@
 -- Which choices can be made.
-use Rattle.std.proofs.Common.{◌≡◌, ℕ, ◌+◌, ◌*◌, ◌/◌, ◌%◌, ◌<◌, ◌≤◌, Bool, true, false, cond, ◌&&◌, not, Option, None, Some, List, [], ◌∷◌, length, refl, ap, sym, subst, ◌∙◌, arith}
-use Rattle.std.specs.Prelude.{IfSome, is_some, slice_get, nat_lt, ◌==◌}
+use Rattle.std.proofs.Common.{◌≡◌, ℕ, ◌+◌, ◌*◌, ◌/◌, ◌%◌, ◌<◌, ◌≤◌, Bool, true, false, cond, ◌&&◌, not, Option, None, Some, List, [], ◌∷◌, length, refl, ap, sym, ◌∙◌, arith}
+use Rattle.std.specs.Prelude.{is_some, slice_get, nat_lt, ◌==◌}
 use Rattle.std.specs.Option.{option_map}
 use Rattle.std.proofs.lemmas.Bool.{eq-eqb, le-ltb, lt-ltb, ne_eqb}
 use Rattle.std.proofs.lemmas.Option.{slice_get_within}
 use Rattle.std.proofs.Math.Nat.{div-lt_iff_lt-mul}
-use Rattle.l4_model.specs.Words.{clock_limit, period_limit}
+use Rattle.l4_model.specs.Words.{clock_limit}
 use Rattle.l4_model.specs.Machine.{Machine}
 use Rattle.l4_model.specs.Conditions.{◌>>=◌}
-use Rattle.l4_model.proofs.Chains.{some_is}
 use Rattle.l4_core_model.specs.Letters.{Letter}
 use Rattle.l4_core_model.specs.Local.{Local}
 use Rattle.l4_core_model.specs.Mail.{handle}
@@ -18,14 +17,11 @@ use Rattle.l4_core_model.specs.Runs.{System, letters, Handles, Turns, Ticks, Hap
 use Rattle.l4_core_model.specs.Schedules.{least_deadline}
 use Rattle.l4_split.specs.Laws.{LettersAreLawful}
 use Rattle.l4_choices.specs.Entries.{Entry, TickOf, LetterOf, CoreOf}
-use Rattle.l4_states.specs.Choices.{after_entry, choice, choice_of, IsNear}
+use Rattle.l4_states.specs.Choices.{after_entry, choice, choice_of}
 
 is_some_map : {A B : Type 0} (f : A → B) (o : Option A) → is_some (option_map f o) ≡ is_some o
 is_some_map f None = refl
 is_some_map f (Some x) = refl
-
-system_of : Happened → System
-system_of h = h.system
 
 module _ (m : Machine) (g : System) (cpu : ℕ) where
   -- A letter where there is one, for it can be handled.
@@ -190,16 +186,3 @@ module _ (m : Machine) (g : System) (cpus cpu k : ℕ) (l : Local)
 pub entry_same : (m : Machine) (cpus number : ℕ) → cpus ≡ m.cpus →
     choice_of cpus (number / (cpus + 2)) (number % (cpus + 2)) ≡ choice m number
 entry_same m cpus number same = ap (λ n. choice_of n (number / (n + 2)) (number % (n + 2))) same
-
--- What is read of a processor says that its least deadline is near.
-pub near_here : (g : System) (cpu : ℕ) (l : Local) (least : Option ℕ) →
-    slice_get g.locals cpu ≡ Some l →
-    least ≡ option_map (λ e. e.0) (slice_get l.lists.armed 0) →
-    IfSome least (λ deadline. deadline < l.clock + period_limit) → IsNear g cpu
-near_here g cpu l least there is near k deadline at first =
-    let same : l ≡ k = some_is l k (sym there ∙ at) in
-    let least_is : least ≡ Some deadline
-    = is ∙ sym (ap (λ (o : Option Local). o >>= λ n. option_map (λ e. e.0) (slice_get n.lists.armed 0))
-    there) ∙ first in
-    subst (λ (n : Local). deadline < n.clock + period_limit) same
-    (subst (λ (o : Option ℕ). IfSome o (λ d. d < l.clock + period_limit)) least_is near)

@@ -12,7 +12,7 @@ use Rattle.std.proofs.lemmas.Option.{slice_get-get_or}
 use Rattle.l4_core_model.specs.Local.{opening_local}
 use Rattle.l4_core_model.specs.Runs.{Event, IsMachine, System, Run, opening_run, opening_system}
 use Rattle.l4_choices.specs.Entries.{Entry}
-use Rattle.l4_machine.specs.Entries.{after_entry as after_entry_of_run, is_entry, is_entry_of}
+use Rattle.l4_machine.specs.Entries.{after_entry as after_entry_of_run}
 use Rattle.l4_machine.specs.Stations.{Station}
 use Rattle.l4_machine.specs.UnderWay.{UnderWay, GoesOn, HasRun, IsRun}
 use Rattle.l4_states.specs.Choices.{after_choices, after_entry, choice, choice_of, state_after, state_in, IsEarly, IsNear, LeadsEarly}
@@ -213,14 +213,6 @@ none_above m s w e walked above =
     by (Some h) is =
         let b = number_below m walked.run.system h e (locals_of_run m walked.run w walked.is) is in
         absurd (omega (arith, b, above))
-
-pub lawful_here : (m : Machine) (s : List ℕ) (w : UnderWay) (cpus : ℕ) (entry : Entry) →
-    IsWalked m s w → cpus ≡ m.cpus → is_entry_of cpus entry ≡ true →
-    is_entry w.machine entry ≡ true
-lawful_here m s w cpus entry walked same lawful =
-    ap (λ n. is_entry_of n entry)
-    (ap (λ (n : Machine). n.cpus) walked.is.machine ∙ sym same)
-    ∙ lawful
 
 -- A processor of a run has a local state.
 pub local_here : (m : Machine) (r : Run) (w : UnderWay) (cpu : ℕ) → IsRun m r w → cpu < m.cpus →

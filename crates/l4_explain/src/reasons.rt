@@ -4,18 +4,19 @@ ghost use Rattle.std.specs.String.{string_bytes};
 ghost use Rattle.l4_audit.specs.declared.reasons.Reason.{Reason as Told};
 ghost use Rattle.l4_explain.specs.Reasons.{has_word, reason_text, sentence, value_text};
 ghost use Rattle.l4_explain.specs.declared.reasons.Value.TheVariants.{Order};
-ghost use Rattle.l4_reports.specs.ReportLines.{id_word, state_word};
+ghost use Rattle.l4_reports.specs.ReportLines.{state_word};
 ghost use Rattle.l4_trace.specs.Lines.{order_kind_word};
 ghost use Rattle.l4_types.specs.ReportView.{state_of_view};
 ghost use Rattle.l4_types.specs.StepView.{order_kind_of};
 
 use l4_audit::reasons::Reason;
+use l4_reports::report_lines::spelled_state;
 use l4_thread::orders::PendingOrder;
 use l4_types::errors::NoMemory;
-use l4_types::ids::{GlobalId, Kind, ThreadId};
+use l4_types::ids::{GlobalId, ThreadId};
 use l4_types::reports::State;
 use l4_types::steps::OrderKind;
-use l4_words::spelling::{push_numbers, push_thread, push_word};
+use l4_words::spelling::{push_id, push_thread, push_word};
 use std::alloc::AllocError;
 
 /// What stands behind the words of a reason.
@@ -151,27 +152,7 @@ fn push_state(text: &mut String, state: State) -> Result<(), AllocError>
     ensures { OnOk result (string_bytes text.new ≡
         string_bytes text.old ++ codes " " ++ state_word (state_of_view state)) }
 {
-    match state {
-        State::Ready => text.push_str(" ready"),
-        State::Sending => text.push_str(" sending"),
-        State::Receiving => text.push_str(" receiving"),
-        State::Ordering => text.push_str(" ordering"),
-        State::Ended => text.push_str(" ended"),
-        State::Deleted => text.push_str(" deleted"),
-    }
-}
-
-fn push_id(text: &mut String, id: ThreadId) -> Result<(), AllocError>
-    ensures { OnOk result (string_bytes text.new ≡
-        string_bytes text.old ++ codes " " ++ id_word id) }
-{
-    match id.kind() {
-        Kind::Nil => text.push_str(" nil"),
-        Kind::Any => text.push_str(" any"),
-        Kind::AnyLocal => text.push_str(" anylocal"),
-        Kind::Local => write!(text, " #{:x}", id.raw()),
-        Kind::Global { number, version } => push_numbers(text, number, version),
-    }
+    write!(text, " {}", spelled_state(state))
 }
 
 fn push_order(text: &mut String, asked: &PendingOrder) -> Result<(), AllocError>

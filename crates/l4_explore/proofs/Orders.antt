@@ -73,14 +73,7 @@ pub before_last : (s : List ℕ) (x y : ℕ) → x < y → IsBefore (s ++ x ∷ 
 before_last s x y l =
     inr (omega (arith, length-append s (x ∷ []), length-append s (y ∷ [])), lower_last s x y l)
 
-pub before_longer : (s : List ℕ) (x : ℕ) → IsBefore s (s ++ x ∷ [])
-before_longer s x = inl (omega (arith, length-append s (x ∷ [])))
-
 -- Schedules that are not later
-
-pub not_after_before : (s t u : List ℕ) → IsNotAfter s t → IsBefore t u → IsBefore s u
-not_after_before s t u (inl e) b = rw e b
-not_after_before s t u (inr a) b = before_trans s t u a b
 
 pub before_not_after : (s t u : List ℕ) → IsBefore s t → IsNotAfter t u → IsBefore s u
 before_not_after s t u a (inl e) = rw (← e) a

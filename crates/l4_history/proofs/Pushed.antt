@@ -2,7 +2,7 @@
 use Rattle.std.proofs.Common.{◌≡◌, ℕ, ◌+◌, ◌-◌, ◌<◌, ◌≤◌, Bool, Option, List, [], ◌∷◌, ◌++◌, length, take, drop, refl, ap, ap₂, arith, sym, append-nil, append_assoc, ◌∙◌, subst}
 use Rattle.std.specs.Prelude.{All, IfSome, slice_get, Some, None}
 use Rattle.std.proofs.lemmas.List.{take_all, drop_at, length-append, length_push, map-append}
-use Rattle.std.proofs.lemmas.List.Elements.{All-nil, All-push, All-weaker}
+use Rattle.std.proofs.lemmas.List.Elements.{All-push, All-weaker}
 use Rattle.l4_model.specs.Rules.{received_tag}
 use Rattle.l4_model.specs.Steps as steps
 use Rattle.l4_model.specs.Words.{GlobalId, global_id}
@@ -21,9 +21,9 @@ use Rattle.l4_history.specs.declared.records.OfThread.{OfThread}
 use Rattle.l4_history.specs.declared.records.OfSend.{OfSend}
 use Rattle.l4_history.specs.declared.records.OfSend.TheVariants as send
 use Rattle.l4_history.specs.declared.records.Record.{Record}
-use Rattle.l4_history.specs.Rows.{AreRows, IsBody, IsBodyOf, IsHead, IsHeadOf, IsName, IsOfKind, IsRecord, IsTick, IsWide, IsWideHeadOf, Told, delivery_at, delivery_by, head_delivery, name_at, plain_step, send_step, step_at, thread_step, told, wide_at, wide_delivery}
+use Rattle.l4_history.specs.Rows.{AreRows, IsBody, IsBodyOf, IsHead, IsHeadOf, IsName, IsOfKind, IsRecord, IsWide, IsWideHeadOf, Told, delivery_at, delivery_by, head_delivery, name_at, plain_step, send_step, step_at, thread_step, told, wide_at, wide_delivery}
 use Rattle.l4_history.specs.Sent.{sent}
-use Rattle.l4_history.specs.Slots.{HasSlot, IsSlot, Keeps, thread_at}
+use Rattle.l4_history.specs.Slots.{HasSlot, Keeps, thread_at}
 use Rattle.l4_history.proofs.Kept.{told-kept}
 
 pub same-slots : (slots : List GlobalId) → Keeps slots slots
@@ -138,13 +138,6 @@ pub send-told : (slots slots' : List GlobalId) → Keeps slots slots' → (recor
     told slots' records' heads wide words ≡ told slots records heads wide words ++ send_step kind name ∷ []
 send-told slots slots' keeps records records' heads wide words kind name slot k are has same e =
     rw e (record-told slots slots' keeps records heads wide words (record { kind = Send kind; slot = slot; number = k }) (send_step kind name) are (ap (send_step kind) (name-told slots' name slot k has same)))
-
--- A tick was stored.
-pub tick-told : (slots : List GlobalId) (records records' : List Record) (heads : List Head) (wide : List (Step WideHead)) (words : List ℕ) (cpu clock : ℕ) →
-    AreRows slots records heads wide words → records' ≡ records ++ record { kind = Tick; slot = cpu; number = clock } ∷ [] →
-    told slots records' heads wide words ≡ told slots records heads wide words ++ steps.Tick cpu clock ∷ []
-tick-told slots records records' heads wide words cpu clock are e =
-    rw e (record-told slots slots (same-slots slots) records heads wide words (record { kind = Tick; slot = cpu; number = clock }) (steps.Tick cpu clock) are refl)
 
 not_both : {A : Type 0} (o : Option A) (x : A) → o ≡ None → o ≡ Some x → ⊥
 not_both o x e f = cc

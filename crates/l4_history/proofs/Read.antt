@@ -1,5 +1,5 @@
 -- The first elements of a list, read one by one.
-use Rattle.std.proofs.Common.{◌≡◌, ◌⊎◌, ◌∙◌, ℕ, ◌+◌, ◌-◌, ◌<◌, ◌≤◌, Option, None, List, [], ◌∷◌, ◌++◌, length, take, drop, get_or, ap, ap₂, sym, subst, inl, inr, append_assoc, append-nil, arith}
+use Rattle.std.proofs.Common.{◌≡◌, ◌⊎◌, ◌∙◌, ℕ, ◌+◌, ◌-◌, ◌<◌, ◌≤◌, Option, None, List, [], ◌∷◌, ◌++◌, length, take, drop, get_or, ap, ap₂, sym, subst, inl, inr, append_assoc, arith}
 use Rattle.std.specs.Prelude.{slice_get, Some, IfSome}
 use Rattle.std.proofs.lemmas.List.{drop_more, get_or-take, length-take-le}
 use Rattle.std.proofs.lemmas.Option.{get_or_from_slice_get, slice_get_cases}
@@ -38,9 +38,3 @@ more_behind h i first old reserved new within (more, grown) same told = by (slic
         subst (λ (o : Option Step). IfSome o (λ step. new ≡ record { steps = reserved.steps ++ step ∷ []; room = reserved.room - 1 })) at told in
         (more ++ x ∷ [], ap (λ (t : Told). t.steps) pushed ∙ ap (λ (xs : List Step). xs ++ x ∷ []) (same ∙ grown) ∙ append_assoc first.steps more (x ∷ []))
     by (inr past) = let least : length h ≤ i = past.0 in absurd (omega arith)
-
-pub none_behind : (xs : List Step) → HasMore xs xs
-none_behind xs = ([], sym (append-nil xs))
-
-pub same_behind : (first old new : List Step) → HasMore first old → new ≡ old → HasMore first new
-same_behind first old new (more, grown) same = (more, same ∙ grown)

@@ -1,7 +1,7 @@
 -- From what an audit tells of steps to what it shows of a trace.
 use Rattle.std.proofs.Common.{◌≡◌, ℕ, Bool, true, Option, Some, None, List, [], ◌++◌, length, sym, ap, subst, ◌∙◌}
 use Rattle.std.specs.Prelude.{◌↔◌, filter_map, if◌then◌else◌}
-use Rattle.l4_model.specs.History.{IsHistory, reached, refused_place, view, waiting}
+use Rattle.l4_model.specs.History.{reached, refused_place, view, waiting}
 use Rattle.l4_model.specs.Machine.{Machine}
 use Rattle.l4_model.specs.Steps.{Step}
 use Rattle.l4_model.specs.Still.{IsStill}
@@ -53,9 +53,6 @@ place_by shown m h account a (Some r) stopped told = told.refused ∙ sym stoppe
 
 pub place_is : (shown : Shown) (m : Machine) (h : List Step) (account : Account) → IsAccount shown m h account → account.refused ≡ refused_place m h
 place_is shown m h account is = place_by shown m h account is.at is.refusal is.stopped is.told
-
-pub history_is : (shown : Shown) (m : Machine) (h : List Step) (account : Account) → IsAccount shown m h account → account.refused ≡ None → IsHistory m h
-history_is shown m h account is none = (tells_first_fault m h).history.0 (sym (place_is shown m h account is) ∙ none)
 
 -- All steps are possible.
 

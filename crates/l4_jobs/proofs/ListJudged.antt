@@ -1,12 +1,12 @@
 -- The lint of a machine text and of a list for it.
-use Rattle.std.proofs.Common.{◌≡◌, ℕ, ◌+◌, Bool, Option, Some, None, Result, Ok, Err, List, [], ◌++◌, length, take, refl, ap, sym, subst, inl, inr, ◌∙◌}
+use Rattle.std.proofs.Common.{◌≡◌, ℕ, ◌+◌, Bool, Option, Some, Result, Ok, Err, List, ◌++◌, length, take, refl, ap, sym, subst, inl, inr, ◌∙◌}
 use Rattle.std.specs.Prelude.{◌⊎◌, ◌==◌, IfErr, IfSome, if◌then◌else◌}
 use Rattle.std.specs.declared.io.ErrorKind.{ErrorKind}
 use Rattle.l4_model.specs.Machine.{Machine}
 use Rattle.l4_lint.specs.Doubts.{lint_text}
 use Rattle.l4_lint.specs.Faults.{faults_of}
 use Rattle.l4_lint.specs.Spelling.{status_of}
-use Rattle.l4_schedules.specs.Faulty.{Fault as ListFault, faults_text, file_faults, list_faults}
+use Rattle.l4_schedules.specs.Faulty.{Fault as ListFault, faults_text, file_faults}
 use Rattle.l4_schedules.specs.InFiles.{most_bytes}
 use Rattle.l4_schedules.proofs.Faulting.{faults_as_much}
 use Rattle.l4_script.specs.Texts.{machine_of_text}
@@ -33,14 +33,6 @@ pub file_told : (m : Machine) (gives : Gives) (text slice old new : List ℕ) (n
 file_told m gives text slice old new none (all, given, much) same written is =
     let alike : file_faults m slice ≡ file_faults m all = ap (file_faults m) same ∙ faults_as_much m all text much in
     (all, given, written ∙ ap (λ (found : List ListFault). old ++ faults_text found) alike, is ∙ ap (λ (found : List ListFault). length found == 0) alike)
-
-pub list_told : (m : Machine) (list : List ℕ) (gives : Gives) (old new : List ℕ) (none : Bool) → list_name list ≡ None →
-    new ≡ old ++ faults_text (list_faults m list) → none ≡ (length (list_faults m list) == 0) →
-    (read : List ℕ) × IsRead (list_name list) gives read × (new ≡ old ++ faults_text (asked_faults m list read))
-    × (none ≡ (length (asked_faults m list read) == 0))
-list_told m list gives old new none by_itself written is =
-    subst (λ (name : Option (List ℕ)). (read : List ℕ) × IsRead name gives read × (new ≡ old ++ faults_text (named_faults m name list read))
-    × (none ≡ (length (named_faults m name list read) == 0))) (sym by_itself) ([], tt, written, is)
 
 pub named_told : (m : Machine) (list name : List ℕ) (gives : Gives) (old new : List ℕ) (none : Bool) → list_name list ≡ Some name →
     (read : List ℕ) × gives (Ok read) × (new ≡ old ++ faults_text (file_faults m read)) × (none ≡ (length (file_faults m read) == 0)) →

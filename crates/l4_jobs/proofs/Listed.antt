@@ -1,5 +1,5 @@
 -- The schedule that is asked for, by a list or by a file that it names.
-use Rattle.std.proofs.Common.{◌≡◌, ℕ, ◌+◌, Some, None, Result, Ok, Err, List, take, ap, sym, subst, inl, inr, ◌∙◌}
+use Rattle.std.proofs.Common.{◌≡◌, ℕ, ◌+◌, None, Result, Ok, Err, List, take, ap, sym, subst, inl, inr, ◌∙◌}
 use Rattle.std.specs.Prelude.{◌⊎◌, IfErr}
 use Rattle.std.specs.declared.io.ErrorKind.{ErrorKind}
 use Rattle.l4_model.specs.Machine.{Machine}
@@ -7,10 +7,8 @@ use Rattle.l4_choices.specs.Entries.{Entry}
 use Rattle.l4_machine.specs.declared.outcome.RunFault.{RunFault}
 use Rattle.l4_machine.specs.declared.outcome.RunFault.TheVariants.{NoMemory as RunOutOfMemory}
 use Rattle.l4_schedules.specs.InFiles.{most_bytes, schedule_in_file}
-use Rattle.l4_schedules.specs.Items.{schedule_of}
 use Rattle.l4_schedules.proofs.Beginnings.{as_much}
-use Rattle.l4_commands.specs.Files.{list_name}
-use Rattle.l4_jobs.specs.Jobs.{IsListFault, IsScheduleFault, asked_schedule, fault_of_result, fault_of_run, named_schedule, replayed}
+use Rattle.l4_jobs.specs.Jobs.{IsListFault, fault_of_result, fault_of_run, replayed}
 use Rattle.l4_jobs.specs.declared.fault.Fault.{Fault}
 use Rattle.l4_jobs.specs.declared.fault.Fault.TheVariants.{NoMemory as OutOfMemory}
 
@@ -41,20 +39,3 @@ list_fault m name gives text slice (Ok x) e is read same faulty = tt
 list_fault m name gives text slice (Err f) e is read same (inl none) = inl (is ∙ ap fault_of_run none)
 list_fault m name gives text slice (Err f) e is read same (inr faulty) =
     inr (subst (IsListFault m name gives) (sym is) (file_faulty m name gives text slice e read same faulty))
-
--- The list itself, and the file that it names.
-
-pub list_asked : (m : Machine) (list text : List ℕ) → list_name list ≡ None → asked_schedule m list text ≡ schedule_of m list
-list_asked m list text none = ap (λ name. named_schedule m name list text) none
-
-pub file_asked : (m : Machine) (list text name : List ℕ) → list_name list ≡ Some name → asked_schedule m list text ≡ schedule_in_file m text
-file_asked m list text name is = ap (λ name. named_schedule m name list text) is
-
-pub list_faulty : (m : Machine) (list : List ℕ) (gives : Gives) (f : RunFault) → list_name list ≡ None → schedule_of m list ≡ Err f →
-    IsScheduleFault m list (list_name list) gives (fault_of_run f)
-list_faulty m list gives f none faulty =
-    subst (λ name. IsScheduleFault m list name gives (fault_of_run f)) (sym none) (ap (λ r. fault_of_result (replayed m None r)) faulty)
-
-pub named_faulty : (m : Machine) (list name : List ℕ) (gives : Gives) (f : Fault) → list_name list ≡ Some name → IsListFault m name gives f →
-    IsScheduleFault m list (list_name list) gives f
-named_faulty m list name gives f is = subst (λ n. IsScheduleFault m list n gives f) (sym is)

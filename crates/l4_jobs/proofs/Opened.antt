@@ -126,13 +126,6 @@ pub trace_refused : {File : Type 0} (opens : List ℕ → Result File ErrorKind 
 trace_refused opens gives job machine name kind f is refused unread =
     subst (λ n. IsFaultBehind opens gives n job machine f) (sym is) (inl (kind, refused, unread))
 
--- The machine text was opened.
-pub done_on_file : {File : Type 0} (opens : List ℕ → Result File ErrorKind → Type 0) (gives : File → Gives) (job : Job) (trace : Gives) (file : File)
-    (out : Takes) (keeps : Type 0) (status : ℕ) → opens (file_of job) (Ok file) →
-    IsDone job (gives file) trace out keeps status → IsDone job (FileGives opens gives (file_of job)) trace out keeps status
-done_on_file opens gives job trace file out keeps status o (text, read, lines, given, t, s, wrote, kept) =
-    (text, read, lines, (file, o, given), t, s, wrote, kept)
-
 -- What was reported for one reader is also reported for a reader that may give more.
 pub not_done_more : (job : Job) (machine wider trace : Gives) (is_fault is_other : Fault → Type 0) (out : Takes) (keeps : Type 0) (faults : Takes) →
     ((text : List ℕ) → machine (Ok text) → wider (Ok text)) → ((f : Fault) → is_fault f → is_other f) →

@@ -1,5 +1,5 @@
 -- What is recorded of a run, and what is shown of it.
-use Rattle.std.proofs.Common.{◌≡◌, ℕ, ◌<◌, ◌≤◌, Bool, true, false, Option, Some, None, Result, Ok, Err, List, [], ◌++◌, refl, ap, sym, subst, inl, inr, ◌∙◌, arith}
+use Rattle.std.proofs.Common.{◌≡◌, ℕ, ◌<◌, ◌≤◌, Bool, true, false, Option, Some, None, Result, Ok, Err, List, [], ◌++◌, refl, ap, sym, subst, inl, inr, ◌∙◌}
 use Rattle.std.specs.Prelude.{◌⊎◌, IfSome, IsSomeAnd, MatchResult, is_err}
 use Rattle.std.specs.declared.io.ErrorKind.{ErrorKind}
 use Rattle.l4_model.specs.History.{reached}
@@ -20,8 +20,6 @@ use Rattle.l4_jobs.specs.Reading.{IsReadAs}
 use Rattle.l4_jobs.specs.Recording.{IsMade, IsNotRecorded, IsRecordDone, IsRecordFault, IsRecorded, IsUnwritten}
 use Rattle.l4_jobs.specs.Streams.{FileGives}
 use Rattle.l4_schedules.specs.InFiles.{schedule_in_file}
-use Rattle.l4_types.specs.declared.reports.Ending.{Ending}
-use Rattle.l4_types.specs.declared.reports.Ending.TheVariants.{Quiet, Spent}
 use Rattle.l4_jobs.specs.FaultLines.{IsReported}
 use Rattle.l4_jobs.specs.declared.fault.Fault.{Fault}
 use Rattle.l4_jobs.specs.declared.fault.Fault.TheVariants as fault
@@ -108,31 +106,6 @@ shown_alone printed m list text lines others status other a b =
       shows_alone printed m a.run lines others a.shows (subst (λ r. Shows printed m r others) same b.shows),
       b.status_is ∙ ap (λ r. status_at_rest (at_rest m r.system)) same ∙ sym a.status_is,
     )
-
--- Its exit status
-
-ending_status : (ending : Ending) (status : ℕ) → status ≡ status_of_ending ending → (status ≡ 0) ⊎ (status ≡ 3)
-ending_status Quiet status is = inl is
-ending_status Spent status is = inr is
-
-made_status : (r : Recording) (machine : Gives) (lines text : List ℕ) (status : ℕ) → IsMade (job_of r) machine lines text status →
-    (status ≡ 0) ⊎ (status ≡ 3)
-made_status r machine lines text status made = ending_status made.recorded.findings.ending status made.recorded.status_is
-
-pub known_status : (r : Recording) (machine : Gives) (lines text : List ℕ) (status : ℕ) → IsMade (job_of r) machine lines text status →
-    (status ≡ 0) ⊎ (status ≡ 1) ⊎ (status ≡ 3)
-known_status r machine lines text status made = by (made_status r machine lines text status made)
-  where
-    by : (status ≡ 0) ⊎ (status ≡ 3) → (status ≡ 0) ⊎ (status ≡ 1) ⊎ (status ≡ 3)
-    by (inl is) = inl is
-    by (inr is) = inr (inr is)
-
-pub never_1 : (r : Recording) (machine : Gives) (lines text : List ℕ) (status : ℕ) → IsMade (job_of r) machine lines text status → status ≡ 1 → ⊥
-never_1 r machine lines text status made one = by (made_status r machine lines text status made)
-  where
-    by : (status ≡ 0) ⊎ (status ≡ 3) → ⊥
-    by (inl is) = absurd (omega (arith, is, one))
-    by (inr is) = absurd (omega (arith, is, one))
 
 -- What was recorded is done.
 

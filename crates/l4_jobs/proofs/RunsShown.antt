@@ -1,5 +1,5 @@
 -- What is written of an outcome is what is shown of its core run.
-use Rattle.std.proofs.Common.{◌≡◌, ℕ, ◌<◌, Bool, true, false, Option, Some, None, Result, Ok, Err, List, ◌++◌, refl, ap, sym, subst, inl, inr, ◌∙◌}
+use Rattle.std.proofs.Common.{◌≡◌, ℕ, ◌<◌, Bool, true, false, Option, Some, None, Result, Ok, Err, List, ◌++◌, refl, ap, sym, inl, inr, ◌∙◌}
 use Rattle.std.specs.Prelude.{◌⊎◌, ◌↔◌, ◌==◌, ◌||◌, if◌then◌else◌, nat_lt}
 use Rattle.std.proofs.lemmas.Bool.{eqb-true, ltb-true, or_cases}
 use Rattle.l4_model.specs.Machine.{Machine}
@@ -11,9 +11,8 @@ use Rattle.l4_machine.specs.Entries.{turns_fault}
 use Rattle.l4_machine.specs.Outcomes.{Findings, IsFoundFor, IsOutcomeOf, in_order}
 use Rattle.l4_machine.specs.declared.outcome.RunFault.{RunFault}
 use Rattle.l4_machine.specs.declared.outcome.RunFault.TheVariants.{Turns}
-use Rattle.l4_rounds.specs.ThenRest.{rest_fault, then_rest}
 use Rattle.l4_trace.specs.Lines.{trace_of}
-use Rattle.l4_jobs.specs.Jobs.{IsOutcomeOfAny, IsReplayAsked, IsRunAsked, IsRunShown, IsWritten, Shows, asked_schedule, gone_on, lines_of_outcome, lines_of_run, replayed, status_at_rest, status_of_ending, unless_fault}
+use Rattle.l4_jobs.specs.Jobs.{IsOutcomeOfAny, IsReplayAsked, IsRunAsked, IsRunShown, IsWritten, Shows, asked_schedule, gone_on, lines_of_outcome, lines_of_run, replayed, status_at_rest, status_of_ending}
 use Rattle.l4_types.specs.declared.reports.Ending.{Ending}
 use Rattle.l4_types.specs.declared.reports.Ending.TheVariants.{Quiet, Spent}
 use Rattle.l4_jobs.specs.Extras.{behind}
@@ -97,16 +96,6 @@ rest_shown printed m rest list text entries o lines status is outcome written en
     by (Ok r) at outcome =
         shown printed m (IsReplayAsked m rest list text) r o lines status (ap (replayed m rest) is ∙ at) outcome written ending
     by (Err f) at outcome = absurd outcome
-
--- What becomes of entries that go on
-pub rest_outcome : (m : Machine) (entries : List Entry) (turns : ℕ) (o : Findings) → rest_fault m entries turns ≡ None →
-    IsOutcomeOf m (then_rest m entries turns) o → IsOutcomeOfAny m (gone_on m (Some turns) entries) o
-rest_outcome m entries turns o right is =
-    subst (λ (f : Option RunFault). IsOutcomeOfAny m (unless_fault f (then_rest m entries turns)) o) (sym right) is
-
-pub rest_faulty : (m : Machine) (entries : List Entry) (turns : ℕ) (f : RunFault) → rest_fault m entries turns ≡ Some f →
-    gone_on m (Some turns) entries ≡ Err f
-rest_faulty m entries turns f is = ap (λ (g : Option RunFault). unless_fault g (then_rest m entries turns)) is
 
 pub any_possible : (m : Machine) (g : Result Run RunFault) (o : Findings) → IsOutcomeOfAny m g o → IsHistory m o.history
 any_possible m (Ok r) o is = is.is_true.possible

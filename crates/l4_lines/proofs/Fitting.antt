@@ -18,10 +18,6 @@ first_line line rest text is =
     by [] none count = absurd (omega (arith, count, ap length none))
     by (next ∷ parts) some count = refl
 
--- A text that is no ended line has none.
-pub no_line : (text : List ℕ) → parts_of text ≡ text ∷ [] → lines_of text ≡ []
-no_line text is = ap without_last is
-
 -- There is a first line that is asked for where a text has one.
 found_among : (asked : List ℕ) (parts : List (List ℕ)) →
     is_some (find (fits_line asked) (without_last parts)) ≡ is_among asked parts

@@ -1,7 +1,7 @@
 -- The doubts of a text, line by line.
 use Rattle.std.proofs.Common.{◌≡◌, ℕ, ◌+◌, List, [], ◌∷◌, ◌++◌, length, refl, ap, sym, ◌∙◌, arith}
 use Rattle.std.specs.Prelude.{◌==◌, count_by}
-use Rattle.std.proofs.lemmas.List.{append_assoc, append-nil}
+use Rattle.std.proofs.lemmas.List.{append_assoc}
 use Rattle.std.proofs.lemmas.List.Splits.{length-slice_split}
 use Rattle.l4_model.specs.Machine.{Machine}
 use Rattle.l4_words.specs.Lines.{parts_of}
@@ -33,14 +33,4 @@ one_more m begun number found new whole line rest text is adds all =
     ∙ append_assoc found here behind
     ∙ ap (λ (lines : List (List ℕ)). found ++ doubts_from m lines begun number)
     (sym (first_line line rest text is))
-    ∙ all
-
--- Where no line is left, all doubts were found.
-pub no_more : (m : Machine) (begun number : ℕ) (found whole : List Doubtful) (text : List ℕ) →
-    parts_of text ≡ text ∷ [] → found ++ doubts_from m (lines_of text) begun number ≡ whole →
-    found ≡ whole
-no_more m begun number found whole text is all =
-    sym (append-nil found)
-    ∙ ap (λ (lines : List (List ℕ)). found ++ doubts_from m lines begun number)
-    (sym (ap without_last is))
     ∙ all

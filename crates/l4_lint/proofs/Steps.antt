@@ -1,18 +1,9 @@
 -- Reading a text line by line.
-use Rattle.std.proofs.Common.{◌≡◌, ℕ, ◌+◌, Bool, true, false, cond, List, [], ◌∷◌, ◌++◌, length, Result, Err, refl, sym, ap, ◌∙◌, append-nil}
-use Rattle.std.specs.Prelude.{◌==◌, ◌≢◌}
+use Rattle.std.proofs.Common.{◌≡◌, ℕ, ◌+◌, Bool, true, false, cond, List, [], ◌∷◌, ◌++◌, sym, ap, ◌∙◌, append-nil}
 use Rattle.l4_words.specs.Lines.{parts_of}
 use Rattle.l4_words.proofs.Parts.{has_part}
-use Rattle.l4_script.specs.declared.text.fault.TextFaultKind.{TextFaultKind}
-use Rattle.l4_script.specs.declared.text.fault.TextFaultKind.TheVariants.{NoMemory}
-use Rattle.l4_script.specs.Judged.{Judged, Fails}
 use Rattle.l4_lint.specs.Reading.{Reader}
-use Rattle.l4_lint.specs.Faults.{Fault, ended, unended, step, followed, faults_from}
-
--- A kind that is not want of memory is the text's.
-pub is_the_texts : {Y : Type 0} (kind : TextFaultKind) (part : Judged Y) → kind ≢ NoMemory → Fails kind part → part ≡ Err kind
-is_the_texts NoMemory part other h = absurd (other refl)
-is_the_texts kind part other h = h
+use Rattle.l4_lint.specs.Faults.{Fault, step, followed, faults_from}
 
 faults_first : (whole : List (List ℕ)) (line : List ℕ) (parts : List (List ℕ)) (next : List ℕ) (others : List (List ℕ)) (r : Reader) (number : ℕ) → parts ≡ next ∷ others
     → faults_from whole (line ∷ parts) r number ≡ followed (step number r line) (λ after. faults_from whole parts after (number + 1))
@@ -25,10 +16,6 @@ pub faults_next : (whole : List (List ℕ)) (line rest : List ℕ) (parts : List
 faults_next whole line rest parts r number e =
     let more = has_part rest in
     ap (λ (ps : List (List ℕ)). faults_from whole ps r number) e ∙ faults_first whole line (parts_of rest) more.0 more.1 r number more.2
-
-pub faults_last : (whole : List (List ℕ)) (rest : List ℕ) (r : Reader) (number : ℕ) → parts_of rest ≡ rest ∷ []
-    → faults_from whole (parts_of rest) r number ≡ cond (length rest == 0) (ended whole r.stage r.faulty number) (unended number rest ∷ [])
-faults_last whole rest r number e = ap (λ (ps : List (List ℕ)). faults_from whole ps r number) e
 
 -- What was found, and what follows, behind one more line.
 pub going : (whole : List (List ℕ)) (line rest : List ℕ) (parts : List (List ℕ)) (r r' : Reader) (number : ℕ) (found found' total : List Fault) (on : Bool)

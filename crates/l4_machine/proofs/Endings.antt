@@ -4,15 +4,14 @@ use Rattle.std.specs.Prelude.{slice_get, filter, not, ◌==◌}
 use Rattle.std.specs.List.{list_all}
 use Rattle.std.specs.Option.{option_map}
 use Rattle.std.proofs.lemmas.Bool.{eq-eqb, and_from, and_parts}
-use Rattle.std.proofs.lemmas.Option.{slice_get_within, slice_get-map}
+use Rattle.std.proofs.lemmas.Option.{slice_get_within}
 use Rattle.l4_model.specs.Machine.{Machine}
 use Rattle.l4_core_model.specs.Turns.{is_busy}
 use Rattle.l4_core_model.specs.Runs.{Posted, System, processors, letters, is_between, is_empty, local_at_rest, at_rest}
-use Rattle.l4_core_model.specs.Schedules.{least_deadline}
 use Rattle.l4_merge.proofs.Lists.{slice_get_none}
 use Rattle.l4_merge.proofs.Processors.{all_processors, each_processor}
 use Rattle.l4_machine.specs.Stations.{Station}
-use Rattle.l4_machine.specs.UnderWay.{letters_at, deadline_at, AreResting, IsSystem}
+use Rattle.l4_machine.specs.UnderWay.{letters_at, AreResting, IsSystem}
 use Rattle.l4_machine.proofs.Action.{local_at, letters_here}
 
 -- Where no pair has letters, none is under way.
@@ -80,15 +79,3 @@ are_resting m g ss i rest cpu s at =
       unarmed = is_unarmed (λ e. e.0) s.core.local.lists.armed own.1;
       no_mail = λ from. sym (letters_here m g ss from cpu s i at) ∙ no_letters_then g.mail parts.1 from cpu;
     }
-
--- Deadlines
-
-pub deadline_here : (m : Machine) (g : System) (ss : List Station) (cpu : ℕ) → IsSystem m g ss → least_deadline g cpu ≡ deadline_at (slice_get ss cpu)
-deadline_here m g ss cpu i = by (slice_get ss cpu) refl
-  where
-    locals : slice_get g.locals cpu ≡ option_map (λ (s : Station). s.core.local) (slice_get ss cpu)
-    locals = ap (λ ls. slice_get ls cpu) i.locals ∙ slice_get-map (λ (s : Station). s.core.local) ss cpu
-
-    by : (o : Option Station) → slice_get ss cpu ≡ o → least_deadline g cpu ≡ deadline_at o
-    by None at = let here = locals ∙ ap (option_map (λ (s : Station). s.core.local)) at in rw here refl
-    by (Some s) at = let here = locals ∙ ap (option_map (λ (s : Station). s.core.local)) at in rw here refl

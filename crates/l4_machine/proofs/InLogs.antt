@@ -1,5 +1,5 @@
 -- The logs of all processors, by their numbers.
-use Rattle.std.proofs.Common.{◌≡◌, ℕ, zero, suc, ◌+◌, ◌<◌, Bool, true, cond, Option, Some, None, List, [], ◌∷◌, ◌++◌, map, length, get_or, drop, refl, ap, sym, ◌∙◌, subst, arith}
+use Rattle.std.proofs.Common.{◌≡◌, ℕ, zero, suc, ◌+◌, ◌<◌, true, cond, Option, Some, None, List, [], ◌∷◌, ◌++◌, map, length, get_or, drop, refl, ap, sym, ◌∙◌, subst, arith}
 use Rattle.std.specs.Prelude.{slice_get, ◌==◌}
 use Rattle.std.specs.List.{flat_map}
 use Rattle.std.proofs.lemmas.Option.{slice_get-get_or}
@@ -11,9 +11,6 @@ use Rattle.l4_proc.specs.declared.processor.Processor.{Processor}
 use Rattle.l4_machine.specs.Gathers.{with_number, events_of, past_of}
 
 -- A search from some place on
-
-abbrev pub has_number : (cpu : ℕ) → Processor → Bool
-has_number cpu p = p.worker.core.cpu == cpu
 
 pub from_place : (ps : List Processor) (place : ℕ) (d : Processor) → place < length ps → drop place ps ≡ get_or ps place d ∷ drop (place + 1) ps
 from_place [] place d lt = absurd (omega arith)

@@ -1,17 +1,17 @@
 -- An inbox, where a letter comes or is taken out.
-use Rattle.std.proofs.Common.{◌≡◌, ◌≢◌, ◌⊎◌, inl, inr, ℕ, zero, suc, ◌+◌, ◌-◌, ◌*◌, ◌%◌, ◌^◌, ◌<◌, ◌≤◌, Bool, true, false, None, List, [], ◌∷◌, ◌++◌, length, drop, get_or, set, replicate, refl, ap, sym, ◌∙◌, subst, arith, lt_trans, ⊎_elim, true≢false, bit_or, bit_and, w64}
+use Rattle.std.proofs.Common.{◌≡◌, ◌≢◌, ◌⊎◌, inl, inr, ℕ, zero, suc, ◌+◌, ◌-◌, ◌*◌, ◌%◌, ◌^◌, ◌<◌, ◌≤◌, Bool, true, false, None, List, [], ◌∷◌, ◌++◌, length, drop, get_or, set, refl, ap, sym, ◌∙◌, subst, arith, lt_trans, ⊎_elim, true≢false, bit_or, bit_and, w64}
 use Rattle.std.specs.Prelude.{slice_get, ◌==◌}
 use Rattle.std.specs.Int.{bit_at}
 use Rattle.std.specs.Int.Count.{count_trailing_zeros}
 use Rattle.std.proofs.lemmas.Bool.{cases_eq, cases_lt, eqb-true, eqb-false}
 use Rattle.std.proofs.lemmas.List.{get_or_past}
-use Rattle.std.proofs.lemmas.Nat.Bits.{bit_at_set_same, bit_at_set_other, bit_at_clear_same, bit_at_clear_other, bit_at-zero, bit_at-trailing_zeros}
+use Rattle.std.proofs.lemmas.Nat.Bits.{bit_at_set_same, bit_at_set_other, bit_at_clear_same, bit_at_clear_other, bit_at-trailing_zeros}
 use Rattle.l4_model.specs.World.{changed}
 use Rattle.l4_model.proofs.Chains.{set_changed}
 use Rattle.l4_core_model.specs.Letters.{Letter}
 use Rattle.l4_core_model.specs.Runs.{is_empty}
 use Rattle.l4_core_model.proofs.Changed.{get-changed}
-use Rattle.l4_machine.specs.Posters.{mark, AreEmpty, IsFirstFilled, MarksPosters}
+use Rattle.l4_machine.specs.Posters.{mark, IsFirstFilled, MarksPosters}
 
 -- What is read of a queue.
 pub queue_read : (qs : List (List Letter)) (i : ℕ) (old : List Letter) → i < length qs → old ≡ get_or qs i old → get_or qs i [] ≡ old
@@ -63,14 +63,6 @@ no_mark (l ∷ ls) is = cc
 is_mark : (ls : List Letter) → mark ls ≡ 1 → is_empty ls ≡ false
 is_mark [] is = cc
 is_mark (l ∷ ls) is = refl
-
-nothing_marked : (i n : ℕ) → get_or {A = List Letter} (replicate n []) i [] ≡ []
-nothing_marked i zero = refl
-nothing_marked zero (suc n) = refl
-nothing_marked (suc i) (suc n) = nothing_marked i n
-
-pub marks_none : (n : ℕ) → MarksPosters 0 (replicate n [])
-marks_none n from lt = bit_at-zero from ∙ sym (ap mark (nothing_marked from n))
 
 -- A letter comes from one poster.
 abbrev pub with_last : Letter → List Letter → List Letter
@@ -126,13 +118,6 @@ module _ (qs : List (List Letter)) (word from : ℕ) (old new : List Letter) (b 
   one_dropped some =
       subst (MarksPosters word) (sym (queue_written (drop 1) qs from old new within at rest))
       (marks_stay qs word from within (λ none. something_there new b is some (sym left_there ∙ none)) marks)
-
--- The lowest poster has the lowest mark.
-pub are_empty : (qs : List (List Letter)) (word : ℕ) → length qs ≤ 64 → word ≡ 0 → MarksPosters word qs → AreEmpty qs
-are_empty qs word few none marks i = ⊎_elim
-    (λ lt. no_mark (get_or qs i []) (sym (marks i lt) ∙ ap (λ w. bit_at w i) none ∙ bit_at-zero i))
-    (λ beyond. get_or_past qs i [] (omega (arith, few, beyond)))
-    (cases_lt i 64)
 
 pub is_first : (qs : List (List Letter)) (word : ℕ) → length qs ≤ 64 → 0 < word → word < 18446744073709551616 → MarksPosters word qs →
     IsFirstFilled qs (count_trailing_zeros 64 word)

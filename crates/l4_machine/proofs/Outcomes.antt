@@ -5,17 +5,14 @@ use Rattle.std.specs.List.{AllByRecursion}
 use Rattle.std.proofs.lemmas.List.{take_all}
 use Rattle.l4_model.specs.Machine.{Machine}
 use Rattle.l4_model.specs.World.{World}
-use Rattle.l4_model.specs.History.{IsHistory, IsFirstFault, reached, view, waiting as undecided_sends}
+use Rattle.l4_model.specs.History.{IsHistory, IsFirstFault, reached, view}
 use Rattle.l4_model.specs.Steps.{Step}
 use Rattle.l4_model.specs.Laws.{IsLawful}
-use Rattle.l4_model.proofs.Chains.{some_is}
 use Rattle.l4_core_model.specs.Local.{Local}
 use Rattle.l4_core_model.specs.Runs.{Run, told, at_rest}
 use Rattle.l4_split.specs.Laws.{AreAllHandled, IsLawfulRun, IsToldAtHome, IsUndeleted, home_reports, home_waiting}
 use Rattle.l4_types.specs.declared.reports.Ending.TheVariants.{Quiet}
 use Rattle.l4_types.specs.ReportView.{report_of_view}
-use Rattle.l4_audit.specs.declared.audit.Audit.{Audit}
-use Rattle.l4_audit.specs.Audits.{Passes}
 use Rattle.l4_machine.specs.declared.outcome.CompactOutcome.{CompactOutcome}
 use Rattle.l4_proc.specs.declared.processor.Processor.{Processor}
 use Rattle.l4_machine.specs.Gathered.{IsGathered}
@@ -28,31 +25,6 @@ no_fault m h place is f =
     let least = f.is_longest (length h) (omega arith) (subst (IsHistory m) (sym all) is) in
     let within = f.within in
     omega arith
-
-pub is_outcome : (m : Machine) (h : List Step) (o : CompactOutcome) (audit : Audit) (r : Run) → IsSound m r → h ≡ told r.events → steps_of o.history ≡ h →
-    Passes m h audit → o.waiting.items ≡ audit.waiting.items → o.threads.items ≡ audit.threads.items → o.turns ≡ length r.events →
-    (o.ending ≡ Quiet) ↔ (at_rest m r.system ≡ true) → IsOutcomeOf m r (compact_findings_of o)
-is_outcome m h o audit r sound told_is steps passes waiting threads turns quiet = record {
-  is_true = record {
-    possible = subst (IsHistory m) (sym same) sound.possible;
-    lawful = subst (IsLawful m) (sym same) sound.lawful;
-    waiting = λ w is. waiting ∙ p.waiting_are ∙ ap (λ v. undecided_sends m v (steps_of o.history)) (world w is);
-    threads = λ w is. ap (map report_of_view) threads ∙ p.threads ∙ ap (view m) (world w is);
-    still = λ e w is. sound.still (quiet.0 e) w (ap (λ xs. reached m xs) (sym same) ∙ is);
-  };
-  history = same;
-  turns = turns;
-  quiet = quiet;
-}
-  where
-    same : steps_of o.history ≡ told r.events
-    same = steps ∙ told_is
-
-    p : Passes m (steps_of o.history) audit
-    p = subst (λ xs. Passes m xs audit) (sym steps) passes
-
-    world : (w : World) → reached m (steps_of o.history) ≡ Some w → p.world ≡ w
-    world w is = some_is p.world w (sym p.reached_by ∙ is)
 
 -- The same where no audit was made, but the processors were asked.
 pub is_outcome_at_home : (m : Machine) (locals : List Local) (h : List Step) (o : CompactOutcome) (r : Run) → IsSound m r → r.system.locals ≡ locals → AreAllHandled r.system →

@@ -7,18 +7,16 @@ use Rattle.std.proofs.lemmas.Bool.Decides.{nat_tests}
 use Rattle.std.proofs.lemmas.List.{length-map}
 use Rattle.l4_model.specs.Machine.{Machine}
 use Rattle.l4_model.specs.Conditions.{◌>>=◌}
-use Rattle.l4_core_model.specs.Runs.{Event, Action, Happened, Ticks, happens, Run, opening_run}
+use Rattle.l4_core_model.specs.Runs.{Event, Action, Happened, happens, Run, opening_run}
 use Rattle.l4_core_model.specs.Schedules.{attempts, entry_of, or_stays, replay}
-use Rattle.l4_choices.specs.Entries.{Entry, TickOf, entry_event, replays, replay_entries, widened}
+use Rattle.l4_choices.specs.Entries.{Entry, entry_event, replays, replay_entries, widened}
 use Rattle.l4_choices.proofs.Widened.{widened_replays}
 use Rattle.l4_machine.specs.declared.entries.Entry as code
-use Rattle.l4_machine.specs.declared.outcome.RunFault.{RunFault}
 use Rattle.l4_machine.specs.declared.outcome.RunFault.TheVariants.{Turns, Schedule}
 use Rattle.l4_machine.specs.declared.station.Choice.{Choice}
-use Rattle.l4_machine.specs.Entries.{after_entry, entries_fault, entry_from, fault_of, is_entry, first_stranger, most_entries, most_events, numbered, processor_of, schedule_fault}
-use Rattle.l4_machine.specs.UnderWay.{UnderWay, deadline_at, IsSystem, IsRun, GoesOn}
-use Rattle.l4_machine.specs.Stations.{Station, action}
-use Rattle.l4_machine.proofs.Endings.{deadline_here}
+use Rattle.l4_machine.specs.Entries.{after_entry, entries_fault, entry_from, is_entry, first_stranger, most_events, numbered, processor_of}
+use Rattle.l4_machine.specs.UnderWay.{UnderWay, IsRun, GoesOn}
+use Rattle.l4_machine.specs.Stations.{action}
 
 -- The order has as many as there are events.
 pub as_many : (m : Machine) (r : Run) (u : UnderWay) → IsRun m r u → length u.order ≡ length r.events
@@ -102,10 +100,6 @@ stranger_here m entries place other few within strange so_far =
 
 -- What an entry asks for.
 
-pub tick_asks : (m : Machine) (r : Run) (ss : List Station) (cpu : ℕ) (d : Option ℕ) → IsSystem m r.system ss →
-    deadline_at (slice_get ss cpu) ≡ d → entry_event m r.system (TickOf cpu) ≡ option_map (Ticks cpu) d
-tick_asks m r ss cpu d i is = ap (option_map (Ticks cpu)) (deadline_here m r.system ss cpu i ∙ is)
-
 -- In each run that has come to where its processors are, it asks for this.
 abbrev pub Asks : UnderWay → Entry → Option Choice → Type 0
 Asks u entry c =
@@ -141,18 +135,3 @@ pub numbers_replayed : (m : Machine) (schedule : List ℕ) (entries : List Entry
 numbers_replayed m schedule entries same =
     ap (replay_entries m) (same ∙ numbered_widened schedule)
     ∙ widened_replays m (map entry_of schedule) (opening_run m)
-
-few_fault : (m : Machine) (entries : List Entry) → length entries ≤ most_entries →
-    fault_of most_entries m entries ≡ fault_of most_events m entries
-few_fault m entries few =
-    let under : nat_lt most_entries (length entries) ≡ false = grind (arith, nat_tests, few) in
-    let over : nat_lt most_events (length entries) ≡ false = grind (arith, nat_tests, few) in
-    let judged : Option RunFault = option_map Schedule (first_stranger m 1 entries) in
-    ap (λ b. if b then Some Turns else judged) (under ∙ sym over)
-
--- There are no more of them than there may be of the others.
-pub numbers_judged : (m : Machine) (schedule : List ℕ) (entries : List Entry) → length schedule ≤ most_entries →
-    entries ≡ map numbered schedule → schedule_fault m schedule ≡ entries_fault m entries
-numbers_judged m schedule entries few same =
-    let count : length (map numbered schedule) ≡ length schedule = length-map schedule numbered in
-    few_fault m (map numbered schedule) (omega (arith, count, few)) ∙ sym (ap (entries_fault m) same)

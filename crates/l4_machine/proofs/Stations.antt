@@ -13,7 +13,7 @@ use Rattle.l4_core.specs.Turning.{work}
 use Rattle.l4_proc.specs.declared.stops.Stop.TheVariants as stop
 use Rattle.l4_proc.specs.declared.worker.Worker.{Worker}
 use Rattle.l4_proc.specs.Events.{event_in_hand, stamp_in_hand, HasNone}
-use Rattle.l4_proc.specs.Logs.{events, HasBegun, HasLetters, IsClosed}
+use Rattle.l4_proc.specs.Logs.{events, HasBegun, IsClosed}
 use Rattle.l4_proc.specs.Working.{with_in_hand, HasTakenTurn, HasTickedTo, IsSameWorker}
 use Rattle.l4_proc.proofs.Logging.{begun_closed, begun_events, logged, same_closed, same_events, IsLogged}
 use Rattle.l4_machine.specs.declared.station.Station as program
@@ -237,26 +237,6 @@ same_kept old new k same = record {
   empty = same.hand ∙ k.empty;
   closed = same_closed old.log new.log same.log k.closed;
   own = same.log.cpu ∙ k.own ∙ sym (ap (λ (c : Processor). c.cpu) same.core);
-}
-
-pub same_station : (old new : program.Station) → letters_in new.inbox ≡ letters_in old.inbox → IsSameWorker old.worker new.worker → IsSameStation old new
-same_station old new inbox same = record {
-  station = ap (λ c. record { core = c; inbox = letters_in new.inbox }) same.core ∙ ap (λ i. record { core = old.worker.core; inbox = i }) inbox;
-  events = same_events old.worker.log new.worker.log same.log;
-}
-
--- Letters were taken out of its log.
-pub letters_taken : (old new : program.Station) → letters_in new.inbox ≡ letters_in old.inbox → new.worker.core ≡ old.worker.core → HasLetters old.worker.log new.worker.log → IsSameStation old new
-letters_taken old new inbox core l = record {
-  station = ap (λ c. record { core = c; inbox = letters_in new.inbox }) core ∙ ap (λ i. record { core = old.worker.core; inbox = i }) inbox;
-  events = rw (l.cpu, l.ends, l.buffer) refl;
-}
-
-pub letters_kept : (old new : Worker) → Keeps old → new.core ≡ old.core → new.hand ≡ old.hand → HasLetters old.log new.log → Keeps new
-letters_kept old new k core hand l = record {
-  empty = hand ∙ k.empty;
-  closed = rw (l.buffer, l.ends) k.closed;
-  own = l.cpu ∙ k.own ∙ sym (ap (λ (c : Processor). c.cpu) core);
 }
 
 -- What stands at a place of a list.

@@ -148,10 +148,6 @@ length-replicate : {A : Type 0} (n : ℕ) (x : A) → length (replicate n x) ≡
 length-replicate zero x = refl
 length-replicate (suc n) x = ap suc (length-replicate n x)
 
-pub none_told : (events : List Event) → told (take 0 events) ≡ []
-none_told [] = refl
-none_told (x ∷ xs) = refl
-
 pub places_none : (events : List Event) (cpus : ℕ) → ArePlaces events 0 (replicate cpus 0) cpus
 places_none events cpus = record {
   size = length-replicate cpus 0;

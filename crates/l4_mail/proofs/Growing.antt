@@ -220,12 +220,6 @@ all_joined room n ports q q' h b =
           (end_case ports q' i x e);
     }
 
-pub none_members : {room : ℕ} → AreMembers room 0 []
-none_members = record { count = refl; each = λ i x e. absurd (let lt = slice_get_within [] i x e in omega arith); ways = λ i j x y e f ne. absurd (let lt = slice_get_within [] i x e in omega arith) }
-
-pub none_joined : {room : ℕ} (n : ℕ) (ports : List Port) (q : Port) → AreMembers room n ports → IsMember room 0 n q → AreJoined room n 0 ports q
-none_joined n ports q h m = record { count = h.count; next = m; joined = λ i x e lt. absurd (omega arith); later = λ i x e le. h.each i x e; ways = h.ways }
-
 -- An element of a list to which a function was applied.
 pub made_of : {A B : Type 0} (f : A → B) (l : List A) (i : ℕ) (b : B) → slice_get (map f l) i ≡ Some b → (a : A) × (slice_get l i ≡ Some a) × (f a ≡ b)
 made_of f [] i b e = absurd (let lt = slice_get_within [] i b e in omega arith)

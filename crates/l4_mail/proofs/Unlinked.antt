@@ -1,5 +1,5 @@
 -- A port that no way leads to or from.
-use Rattle.std.proofs.Common.{◌≡◌, ℕ, zero, suc, List, [], ◌∷◌, ◌++◌, length, map, get_or, refl, subst, sym, ap, ◌∙◌, arith, Bool, false, Option, Some, None}
+use Rattle.std.proofs.Common.{◌≡◌, ℕ, zero, suc, List, [], ◌∷◌, length, map, get_or, refl, subst, sym, ap, ◌∙◌, arith, Bool, false, Option, Some, None}
 use Rattle.std.specs.Vec.{with_items}
 use Rattle.std.proofs.lemmas.List.{with_items_is}
 use Rattle.std.proofs.lemmas.Option.{none-some}
@@ -32,19 +32,6 @@ pub ways_before : (p : Port) (items : List (Option Outlet)) → AreAsBefore p.ou
 ways_before p items h =
     let e : (with_items p.outlets items).items ≡ items = with_items_is p.outlets items (h.len ∙ sym p.outlets.ok.0) in
     ways_kept p.linked (map ring_out p.outlets.items) (map ring_out (with_items p.outlets items).items) (map ring_in p.inlets.items) (map ring_in p.inlets.items) (ap (map ring_out) e ∙ h.rings) refl p.ways
-
-none_more : {A B : Type 0} (f : Option A → Option B) → f None ≡ None → (l : List (Option A)) → ((k : ℕ) → get_or (map f l) k None ≡ None) → (k : ℕ) → get_or (map f (l ++ None ∷ [])) k None ≡ None
-none_more f e [] h zero = e
-none_more f e [] h (suc k) = refl
-none_more f e (x ∷ l) h zero = h zero
-none_more f e (x ∷ l) h (suc k) = none_more f e l (λ j. h (suc j)) k
-
--- A place for the processor itself.
-pub own_way : (outs outs' : List (Option Outlet)) (ins ins' : List (Option Inlet)) → outs' ≡ outs ++ None ∷ [] → ins' ≡ ins ++ None ∷ [] → HasNoWay (map ring_out outs) (map ring_in ins) → HasNoWay (map ring_out outs') (map ring_in ins')
-own_way outs outs' ins ins' o i h = record {
-  out = subst (λ (l : List (Option Outlet)). (to : ℕ) → get_or (map ring_out l) to None ≡ None) (sym o) (none_more ring_out refl outs h.out);
-  in_ = subst (λ (l : List (Option Inlet)). (from : ℕ) → get_or (map ring_in l) from None ≡ None) (sym i) (none_more ring_in refl ins h.in_);
-}
 
 -- The next port, before it has got a way.
 pub first_joined : (room n : ℕ) (ports : List Port) (q : Port) → AreMembers room n ports → q.cpu ≡ n → q.outlets.items ≡ [] → q.inlets.items ≡ [] → AreJoined room n 0 ports q

@@ -100,24 +100,6 @@ next_letter_taken old new olds items from end end' letter c o i e none same next
     (r ∙ ap ring_in at) (t ∙ ap (λ x. taken x ++ letter ∷ []) at)
     (subst (λ x. (kept x ≡ letter ∷ kept end') ⊎ ((kept x ≡ []) × (kept end' ≡ []))) at k))
 
--- The inlets were only looked at.
-only_looked : (old new : Port) (items : List (Option Inlet)) → new.cpu ≡ old.cpu → new.outlets ≡ old.outlets → new.inlets ≡ with_items old.inlets items
-    → NoneIsTaken old.inlets.items items → ((k : ℕ) → get_or (map kept items) k [] ≡ get_or (map kept old.inlets.items) k []) → IsAsBefore old new
-only_looked old new items c o i none same =
-    let e : new.inlets.items ≡ items = ap (λ v. v.items) i ∙ items_there old items none.rings in
-    record {
-      place = λ k. record { cpu = c k; outs = map ring_out (o k).items; ins = (ap (map ring_in) e ∙ none.rings) k };
-      posted = λ to. ap (λ v. get_or (map posted v.items) to []) o;
-      taken = λ k. ap (λ l. get_or (map taken l) k []) e ∙ ap (λ l. get_or l k []) none.taken;
-      kept = λ k. ap (λ l. get_or (map kept l) k []) e ∙ same k;
-      room = λ to. let e = ap (λ v. get_or (map room v.items) to 0) o in omega arith;
-    }
-
-pub looked_at : (old new : Port) (olds items : List (Option Inlet)) → new.cpu ≡ old.cpu → new.outlets ≡ old.outlets → new.inlets ≡ with_items old.inlets items
-    → olds ≡ old.inlets.items → NoneIsTaken olds items → map kept items ≡ map kept olds → IsAsBefore old new
-looked_at old new olds items c o i e none same =
-    only_looked old new items c o i (subst (λ l. NoneIsTaken l items) e none) (λ k. ap (λ l. get_or l k []) (same ∙ ap (map kept) e))
-
 pub none_there : (old : Port) (olds : List (Option Inlet)) → olds ≡ old.inlets.items → NoneIsKept olds → (from : ℕ) → kept_from old from ≡ []
 none_there old olds e none from = ap (λ l. get_or (map kept l) from []) (sym e) ∙ none from
 
@@ -146,10 +128,3 @@ moved_before l i y lt moved h k le = ⊎_elim
     (λ none. set_elsewhere waiting l i y k [] n ∙ none)
     (λ full. set_elsewhere free l i y k 0 n ∙ full))
     (eqb_tells k i)
-
-pub all_moved : (old : Port) (items : List (Option Outlet)) (i : ℕ) → AreAsBefore old.outlets.items items → HaveMoved items i → length items ≤ i
-    → (to : ℕ) → (get_or (map waiting (with_items old.outlets items).items) to [] ≡ []) ⊎ (get_or (map free (with_items old.outlets items).items) to 0 ≡ 0)
-all_moved old items i h moved le =
-    subst (λ l. (to : ℕ) → (get_or (map waiting l) to [] ≡ []) ⊎ (get_or (map free l) to 0 ≡ 0))
-    (sym (with_items_is old.outlets items (h.len ∙ sym old.outlets.ok.0)))
-    (λ to. ⊎_elim (λ lt. moved to (omega arith)) (λ ge. inl (read_beyond waiting items to [] ge)) (below_or to (length items)))

@@ -149,16 +149,6 @@ letters_go_elsewhere m cpu l event x machine lt is =
     all-map (λ (p : ℕ × Letter). IsElsewhere m cpu p.0) (λ (p : ℕ × Letter). (p.0 < m.cpus) × (p.0 ≢ cpu))
     (λ p elsewhere. (elsewhere.0 (all_homed m cpu machine lt), elsewhere.1)) x.letters (work_fits m cpu l event x is).goals
 
-pub letters_go_on_processors : (m : Machine) (cpu : ℕ) (l : Local) (event : LocalEvent) (x : Work) → IsMachine m → cpu < m.cpus →
-    work_of m cpu l event ≡ Some x → AllByRecursion (λ p. p.0 < m.cpus) x.letters
-letters_go_on_processors m cpu l event x machine lt is =
-    all-map (λ (p : ℕ × Letter). (p.0 < m.cpus) × (p.0 ≢ cpu)) (λ (p : ℕ × Letter). p.0 < m.cpus) (λ p elsewhere. elsewhere.0) x.letters
-    (letters_go_elsewhere m cpu l event x machine lt is)
-
 pub at_most_two_letters : (m : Machine) (cpu : ℕ) (l : Local) (event : LocalEvent) (x : Work) → IsMachine m → cpu < m.cpus →
     work_of m cpu l event ≡ Some x → length x.letters ≤ 2
 at_most_two_letters m cpu l event x machine lt is = let h = work_fits m cpu l event x is in omega (arith, h.of_letters)
-
-pub at_most_three_steps : (m : Machine) (cpu : ℕ) (l : Local) (event : LocalEvent) (x : Work) → IsMachine m → cpu < m.cpus →
-    work_of m cpu l event ≡ Some x → length x.steps ≤ 3
-at_most_three_steps m cpu l event x machine lt is = let h = work_fits m cpu l event x is in omega (arith, h.of_steps)

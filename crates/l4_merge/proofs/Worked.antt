@@ -4,9 +4,8 @@ use Rattle.std.specs.List.{AllByRecursion}
 use Rattle.std.proofs.lemmas.List.{append-nil, map-append}
 use Rattle.std.proofs.lemmas.List.Concat.{flat_map-append}
 use Rattle.l4_model.specs.Machine.{Machine}
-use Rattle.l4_core_model.specs.Letters.{Letter}
 use Rattle.l4_merge.specs.Transitions.{letter_of, Transition, is_turn, told_by, happened_by, posted_by, handled_by, letters_with, Does}
-use Rattle.l4_merge.specs.LocalTraces.{LocalTrace, Extends, HasTurned, Begins}
+use Rattle.l4_merge.specs.LocalTraces.{LocalTrace, Extends, HasTurned}
 use Rattle.l4_merge.proofs.Transitions.{lead-append}
 use Rattle.l4_merge.proofs.Mail.{letters_with-append}
 
@@ -112,9 +111,3 @@ pub transitions_of_both : (m : Machine) (cpu : ℕ) (old middle new : LocalTrace
     (turned_trans m cpu old middle new first then).worked.transitions ≡ first.worked.transitions ++ then.worked.transitions
 unfolding turned_trans worked_trans
 transitions_of_both m cpu old middle new first then = refl
-
--- Of the letters of a pair, those posted are those taken and those under way, and those taken are those handled and those in hand.
-pub handled_begin : (posted taken handled in_hand under_way : List Letter) → posted ≡ taken ++ under_way → taken ≡ handled ++ in_hand →
-    Begins handled posted
-handled_begin posted taken handled in_hand under_way all some =
-    record { rest = in_hand ++ under_way; is = all ∙ ap (λ ls. ls ++ under_way) some ∙ append_assoc handled in_hand under_way }

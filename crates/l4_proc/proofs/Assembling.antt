@@ -3,7 +3,7 @@ use Rattle.std.proofs.Common.{◌≡◌, ℕ, zero, suc, ◌<◌, true, Some, No
 use Rattle.std.specs.Prelude.{slice_get, is_some}
 use Rattle.std.specs.Option.{option_map}
 use Rattle.std.proofs.lemmas.Option.{slice_get-map}
-use Rattle.std.proofs.lemmas.List.{append-nil, length-append, length-map, map-append}
+use Rattle.std.proofs.lemmas.List.{append-nil, length-map, map-append}
 use Rattle.l4_model.specs.Machine.{Machine}
 use Rattle.l4_core_model.specs.Local.{opening_local}
 use Rattle.l4_merge.specs.LocalTraces.{empty_past, Extends}
@@ -36,9 +36,6 @@ has port to w = ap is_some w.1
 
 pub next_number : {room : ℕ} (n : ℕ) (done rest : List Port) (port : Port) → AreFresh room n (done ++ port ∷ rest) → port.cpu ≡ length done
 next_number n done rest port f = f.cpu (length done) port (seam done rest port)
-
-pub next_below : {room : ℕ} (n : ℕ) (done rest : List Port) (port : Port) → AreFresh room n (done ++ port ∷ rest) → port.cpu < n
-next_below n done rest port f = omega (arith, next_number n done rest port f, f.count, length-append done (port ∷ rest))
 
 pub next_port_of : {room : ℕ} (n : ℕ) (done rest : List Port) (port : Port) (c : cores.Processor) → AreFresh room n (done ++ port ∷ rest) → c.machine.cpus ≡ n →
     c.cpu ≡ port.cpu → IsPortOf port c

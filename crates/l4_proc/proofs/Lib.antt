@@ -2,7 +2,6 @@ pub mod Assembling
 pub mod EndRows
 pub mod Ends
 pub mod Going
-pub mod Handled
 pub mod Idling
 pub mod Joint
 pub mod Logging

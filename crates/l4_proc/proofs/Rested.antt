@@ -43,28 +43,11 @@ parted f olds news y x rest left all more is from before =
     ap (λ ys. ys ++ map f left) more ∙ append_assoc olds (y ∷ []) (map f left)
     ∙ ap (λ ys. olds ++ ys) (ap (λ z. z ∷ map f left) is ∙ ap (map f) (sym from)) ∙ before
 
--- One was put together more.
-pub joined : {A B : Type 0} (f : A → B) (olds news : List A) (x : A) (y : B) (rest left all : List B) → news ≡ olds ++ x ∷ [] → f x ≡ y → rest ≡ y ∷ left →
-    map f olds ++ rest ≡ all → map f news ++ left ≡ all
-joined f olds news x y rest left all more is from before =
-    ap (λ xs. map f xs ++ left) more ∙ ap (λ ys. ys ++ left) (map-append f olds (x ∷ [])) ∙ append_assoc (map f olds) (f x ∷ []) left
-    ∙ ap (λ ys. map f olds ++ ys) (ap (λ z. z ∷ left) is ∙ sym from) ∙ before
-
 -- There is room for one more.
 pub room_for : {A B : Type 0} (f : A → B) (xs : List B) (x : A) (rest left : List A) (all : List B) (len capacity : ℕ) → len ≡ length xs → rest ≡ x ∷ left →
     xs ++ map f rest ≡ all → length all ≤ capacity → len < capacity
 room_for f xs x rest left all len capacity is from before room =
     omega (arith, is, length-append xs (map f rest), ap length before, length-map rest f, ap length from, room)
-
-pub room_behind : {A B : Type 0} (f : A → B) (xs : List A) (y : B) (rest left all : List B) (len capacity : ℕ) → len ≡ length xs → rest ≡ y ∷ left →
-    map f xs ++ rest ≡ all → length all ≤ capacity → len < capacity
-room_behind f xs y rest left all len capacity is from before room =
-    omega (arith, is, length-append (map f xs) rest, ap length before, length-map xs f, ap length from, room)
-
-pub no_more_workers : (ports : List Port) (ws : List Worker) → AllZip IsWhole ports ws → ports ≡ [] → ws ≡ []
-no_more_workers [] [] whole is = refl
-no_more_workers [] (w ∷ ws) whole is = absurd whole
-no_more_workers (p ∷ ports) ws whole is = absurd cc
 
 pub no_more_ports : (ports : List Port) (ws : List Worker) → AllZip IsWhole ports ws → ws ≡ [] → ports ≡ []
 no_more_ports [] ws whole is = refl
@@ -77,10 +60,6 @@ no_items (x ∷ xs) is = absurd cc
 
 pub none_left : {A : Type 0} (q : VecDeque A Global) → deque_len q ≡ 0 → q.items ≡ []
 none_left q none = let size = q.ok.0 in no_items q.items (omega arith)
-
-pub rest_whole : (ports left : List Port) (ws more : List Worker) (port : Port) (w : Worker) → AllZip IsWhole ports ws → ports ≡ port ∷ left → ws ≡ w ∷ more →
-    IsWhole port w × AllZip IsWhole left more
-rest_whole ports left ws more port w whole is its = subst (λ (us : List Worker). AllZip IsWhole (port ∷ left) us) its (subst (λ (ps : List Port). AllZip IsWhole ps ws) is whole)
 
 -- A processor is whole with a port that has carried what its own had.
 whole_again : (old new : Port) (w : Worker) → account new ≡ account old → IsWhole old w → IsWhole new w
@@ -118,9 +97,6 @@ same_accounts olds news same = map_twice port_of account news ∙ same.accounts 
 
 pub one_again : (olds news : List Processor) → AreAsBefore olds news → AreOneFabric (map port_of olds) → AreOneFabric (map port_of news)
 one_again olds news same one = fabric_kept (map port_of olds) (map port_of news) (same_accounts olds news same) one
-
-pub nothing_changed : (ps : List Processor) → AreAsBefore ps ps
-nothing_changed ps = record { workers = refl; accounts = refl }
 
 -- What a caller has of it
 

@@ -22,12 +22,11 @@ use Rattle.l4_proc.specs.declared.worker.Worker.{Worker}
 use Rattle.l4_proc.specs.declared.processor.Processor.{Processor}
 use Rattle.l4_proc.specs.declared.stops.Stop.{Stop}
 use Rattle.l4_proc.specs.declared.stops.Stop.TheVariants as stop
-use Rattle.l4_core_model.specs.Turns.{turn}
 use Rattle.l4_proc.specs.Choices.{action_in}
-use Rattle.l4_proc.specs.Events.{event_in_hand, HasNone, HasPostedAll, IsRefused}
+use Rattle.l4_proc.specs.Events.{event_in_hand, HasPostedAll, IsRefused}
 use Rattle.l4_proc.specs.Logs.{all_steps, events, actions, HasBegun, HasEnded, HasLetters, IsSameLog}
 use Rattle.l4_proc.specs.Whole.{hand_from, handled_from, has_way, IsInHand, IsPortOf, IsWhole}
-use Rattle.l4_proc.specs.Working.{past, BeginWithMail, HasDone, HasTaken, HasTakenTurn, IsIdle, IsMailFirst, IsReady, IsSameWorker, IsStopped, IsUnready}
+use Rattle.l4_proc.specs.Working.{past, BeginWithMail, HasDone, HasTaken, HasTakenTurn, IsMailFirst, IsReady, IsSameWorker, IsStopped, IsUnready}
 use Rattle.l4_proc.proofs.Going.{same_whole}
 use Rattle.l4_proc.proofs.Logging.{begun_events, begun_actions, same_events, same_actions, logged}
 
@@ -126,16 +125,6 @@ refused_stopped old ready new stop.Used r port s why = tt
 refused_stopped old ready new stop.NoMemory r port s why = tt
 refused_stopped old ready new stop.Mail r port s why = rw (s.core, s.hand) why
 refused_stopped old ready new stop.Stamp r port s why = rw (s.core, s.hand) why
-
--- It finds nothing only where there was nothing before.
-pub was_idle : (old ready : Processor) (why : Stop) → IsReady old ready → IsRefused ready.worker.core ready.worker.hand why → why ≡ stop.Idle → IsIdle old
-was_idle old ready why r refused is =
-    let none : HasNone ready.worker.core ready.worker.hand = subst (IsRefused ready.worker.core ready.worker.hand) is refused in
-    let had = r.had none.empty in
-    record {
-      refused = record { empty = had.empty; none = subst (λ (c : cores.Processor). turn c.machine c.cpu c.local ≡ None) r.core none.none };
-      kept = had.kept;
-    }
 
 -- What it stopped for stays where core, letter in hand and port stay.
 pub still_stopped : (old new : Processor) (why : Stop) → new.port ≡ old.port → new.worker.core ≡ old.worker.core → new.worker.hand ≡ old.worker.hand →

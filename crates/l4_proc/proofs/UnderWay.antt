@@ -10,8 +10,8 @@ use Rattle.l4_model.proofs.Chains.{get-map, some_is}
 use Rattle.l4_model.proofs.Places.{and_true}
 use Rattle.l4_core_model.specs.Runs.{is_empty}
 use Rattle.l4_core_model.specs.Letters.{Letter}
-use Rattle.l4_mail.specs.Ends.{ring_in, ring_out}
-use Rattle.l4_mail.specs.Ports.{place, kept_from, fabric_size, IsApart, IsWay, AreOneFabric}
+use Rattle.l4_mail.specs.Ends.{ring_out}
+use Rattle.l4_mail.specs.Ports.{place, kept_from, fabric_size, IsWay, AreOneFabric}
 use Rattle.l4_mail.specs.Rests.{has_number, have_numbers, have_size, are_all, kept_between, under_way_from, under_way_below, under_way}
 use Rattle.l4_mail.specs.declared.ports.Port.{Port}
 use Rattle.l4_mail.proofs.Growing.{some_within}
@@ -180,12 +180,3 @@ none_listed ports one all none = all_told ports (length ports) (λ from lt. entr
     let h = port_of ports from (number_below ports (length ports) from (numbers_of ports all) lt) in
     let apart : h.at ≢ j = λ same. ne (sym h.number ∙ ap (λ (p : Port). p.cpu) (some_is h.port q (sym h.is ∙ ap (λ (k : ℕ). slice_get ports k) same ∙ e)) ∙ number) in
     ap (λ (k : ℕ). kept_from q k) (sym h.number) ∙ none h.at j h.port q apart h.is e)))
-
--- The port of the number that a way in comes from.
-pub port_with : (ports : List Port) (k j : ℕ) (port : Port) → are_all ports ≡ true → slice_get ports j ≡ Some port → IsApart (place port) →
-    k < length (map ring_in port.inlets.items) → HasPort ports k
-port_with ports k j port all at apart lt =
-    let size = size_at (length ports) ports j port (size_of ports all) at in
-    let same = apart.size in
-    let outs = length-map port.outlets.items ring_out in
-    port_of ports k (number_below ports (length ports) k (numbers_of ports all) (omega arith))

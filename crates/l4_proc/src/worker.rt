@@ -55,6 +55,30 @@ fn handle(
     }
 }
 
+// Handles a letter that has its own words. It is borrowed here, so that a turn without a letter makes
+// no room for one.
+#[inline(never)]
+fn handle_owned(
+    core: &mut Core<'_>,
+    letter: &Letter,
+    buffer: &mut EventBuffer<History>,
+) -> Result<u64, Stop>
+    requires open { IsOpen buffer.old }
+    ensures ok { IfOk result (λ stamp.
+        IsEvent
+        (handle core.old.machine core.old.cpu core.old.local
+        letter.now) core.old core.new buffer.old buffer.new stamp) }
+    ensures err { OnErr result ((core.new ≡ core.old) × (buffer.new ≡ buffer.old)) }
+    ensures mail { IsErrOf result Stop.Mail ↔
+        (handle core.old.machine core.old.cpu core.old.local letter.now ≡ None) }
+    ensures stamp { IsErrOf result Stop.Stamp ↔
+        (IsSome (handle core.old.machine core.old.cpu core.old.local letter.now) ×
+        (can_stamp core.old.local letter.now.stamp ≡ false)) }
+    ensures faults { IfErr result (λ stop. (stop ≡ Stop.Mail) ⊎ (stop ≡ Stop.Stamp)) }
+{
+    handle(core, &letter.borrowed(), buffer)
+}
+
 // Takes the core's own turn.
 fn turn(core: &mut Core<'_>, buffer: &mut EventBuffer<History>) -> Result<u64, Stop>
     requires open { IsOpen buffer.old }
@@ -201,7 +225,7 @@ impl<'m> Worker<'m> {
         self.core.facts();
         match &self.hand {
             Some((_, letter)) => {
-                let stamp = handle(&mut self.core, &letter.borrowed(), &mut self.log.buffer)?;
+                let stamp = handle_owned(&mut self.core, letter, &mut self.log.buffer)?;
                 self.hand = None;
                 Ok(stamp)
             }

@@ -1,39 +1,16 @@
 -- The core run that entries make, one after the other.
-use Rattle.std.proofs.Common.{◌≡◌, ℕ, ◌+◌, ◌<◌, ◌≤◌, Bool, true, false, Option, None, Some, List, length, take, drop, get_or, refl, ap, sym, ◌∙◌, arith}
-use Rattle.std.specs.Prelude.{if◌then◌else◌, nat_lt, slice_get, ◌||◌}
+use Rattle.std.proofs.Common.{◌≡◌, ℕ, ◌+◌, ◌<◌, ◌≤◌, Bool, true, false, None, Some, List, take, drop, get_or, refl, ap, sym, ◌∙◌, arith}
+use Rattle.std.specs.Prelude.{if◌then◌else◌, slice_get, ◌||◌}
 use Rattle.std.specs.List.{list_any, range_with_len}
-use Rattle.std.specs.Option.{option_map}
 use Rattle.std.proofs.lemmas.List.{take_all}
 use Rattle.std.proofs.lemmas.List.Folds.{list_any_at, list_any_more}
 use Rattle.std.proofs.lemmas.List.FromFn.{get_or-range_with_len, length-range_with_len}
 use Rattle.l4_model.specs.Machine.{Machine}
 use Rattle.l4_choices.specs.Entries.{Entry}
-use Rattle.l4_machine.specs.Entries.{entries_fault, first_stranger, is_entry, most_events}
-use Rattle.l4_machine.specs.declared.outcome.RunFault.TheVariants.{Schedule, Turns}
+use Rattle.l4_machine.specs.Entries.{first_stranger, is_entry}
 use Rattle.l4_machine.proofs.Replays.{rest_is}
 
 -- No more entries than there may be, each of them one of the machine.
-
-pub record AreEntries (m : Machine) (entries : List Entry) : Type 0 where
-  pub few : length entries ≤ most_events
-  pub lawful : first_stranger m 1 entries ≡ None
-
-pub are_entries : (m : Machine) (entries : List Entry) → entries_fault m entries ≡ None →
-    AreEntries m entries
-are_entries m entries none = by (nat_lt most_events (length entries)) refl none
-  where
-    lawful : (o : Option ℕ) → option_map Schedule o ≡ None → o ≡ None
-    lawful None is = refl
-    lawful (Some place) is = cc
-
-    by : (b : Bool) → nat_lt most_events (length entries) ≡ b →
-        (if b then Some Turns else option_map Schedule (first_stranger m 1 entries)) ≡ None →
-        AreEntries m entries
-    by true many none = cc
-    by false many none = record {
-      few = grind (arith, many);
-      lawful = lawful (first_stranger m 1 entries) none;
-    }
 
 pub record IsNext (m : Machine) (entries : List Entry) (place : ℕ) (entry : Entry) : Type 0 where
   pub own : is_entry m entry ≡ true

@@ -1,5 +1,5 @@
 -- The endings that are printed, one by one.
-use Rattle.std.proofs.Common.{◌≡◌, ℕ, ◌+◌, ◌<◌, true, false, cond, List, [], ◌∷◌, ◌++◌, length, take, get_or, refl, ap, sym, ◌∙◌, arith, append-nil, append_assoc, length-append}
+use Rattle.std.proofs.Common.{◌≡◌, ℕ, ◌+◌, ◌<◌, true, false, cond, List, [], ◌∷◌, ◌++◌, length, take, get_or, ap, sym, ◌∙◌, arith, append-nil, append_assoc, length-append}
 use Rattle.std.proofs.lemmas.List.Elements.{filter_more}
 use Rattle.l4_model.specs.Machine.{Machine}
 use Rattle.l4_choices.specs.Entries.{Entry}
@@ -38,11 +38,6 @@ pub record IsPrintedOn (text_of : TextOf) (m : Machine) (q : Question)
     (endings : List (List Entry)) (i count : ℕ) (before lines : List ℕ) : Type 0 where
   pub counted : count ≡ length (asked_of m q (take i endings))
   pub printed : lines ≡ before ++ numbered_text text_of 1 (asked_of m q (take i endings))
-
-pub none_printed : (text_of : TextOf) (m : Machine) (q : Question) (endings : List (List Entry))
-    (lines : List ℕ) → IsPrintedOn text_of m q endings 0 0 lines lines
-none_printed text_of m q endings lines =
-    record { counted = refl; printed = sym (append-nil lines) }
 
 pub left_out : (text_of : TextOf) (m : Machine) (q : Question) (endings : List (List Entry))
     (i count : ℕ) (e : List Entry) (before lines new : List ℕ) → i < length endings →

@@ -1,11 +1,12 @@
 -- The lines of a report.
 use Rattle.std.specs.Prelude.{ℕ, Bool, true, false, ◌==◌, if◌then◌else◌, List, [], ◌∷◌, ◌++◌, map, flat_map, codes, decimal}
-use Rattle.l4_model.specs.Words.{Id, NilThread, AnyThread, AnyLocalThread, LocalThread, GlobalThread}
+use Rattle.l4_model.specs.Words.{Id}
 use Rattle.l4_model.specs.World.{Name}
 use Rattle.l4_model.specs.History.{State, IsReady, IsSending, IsReceiving, IsOrdering, IsEnded, IsDeleted, Report}
 use Rattle.l4_types.specs.declared.reports.Ending.{Ending}
 use Rattle.l4_types.specs.declared.reports.Ending.TheVariants.{Quiet, Spent}
 use Rattle.l4_trace.specs.Lines.{hexadecimal, thread_word, name_word, line_of_words}
+pub use Rattle.l4_words.specs.Threads.{id_word}
 
 abbrev pub state_word : State → List ℕ
 state_word IsReady = codes "ready"
@@ -14,13 +15,6 @@ state_word IsReceiving = codes "receiving"
 state_word IsOrdering = codes "ordering"
 state_word IsEnded = codes "ended"
 state_word IsDeleted = codes "deleted"
-
-abbrev pub id_word : Id → List ℕ
-id_word NilThread = codes "nil"
-id_word AnyThread = codes "any"
-id_word AnyLocalThread = codes "anylocal"
-id_word (LocalThread word) = codes "#" ++ hexadecimal word
-id_word (GlobalThread t) = thread_word t
 
 -- Registers up to the last one that is not 0.
 abbrev pub before_set : ℕ → List ℕ → List ℕ

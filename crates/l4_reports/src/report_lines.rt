@@ -2,15 +2,15 @@
 ghost use Rattle.std.specs.Prelude.{◌≡◌, ◌<◌, ◌++◌, codes, decimal, map, flat_map, OnOk, OnErr};
 ghost use Rattle.std.specs.String.{string_bytes};
 ghost use Rattle.l4_types.specs.ReportView.{state_of_view, report_of_view};
-ghost use Rattle.l4_reports.specs.ReportLines.{state_word, id_word, shown_registers, thread_line};
+ghost use Rattle.l4_reports.specs.ReportLines.{state_word, shown_registers, thread_line};
 ghost use Rattle.l4_reports.specs.ReportLines.{waiting_line, ending_word, report_text};
 
 use l4_types::errors::NoMemory;
-use l4_types::ids::{Kind, ThreadId};
+use l4_types::ids::ThreadId;
 use l4_types::registers::MESSAGE_REGISTERS;
 use l4_types::reports::{Ending, State, ThreadView};
 use l4_types::steps::Name;
-use l4_words::spelling::{push_name, push_numbers, push_thread, push_words};
+use l4_words::spelling::{push_id, push_name, push_thread, push_words};
 use std::alloc::AllocError;
 
 /// Appends the report of a run: its threads in order of declaration, its undecided sends with their
@@ -100,20 +100,8 @@ fn push_send(text: &mut String, name: Name, destination: ThreadId) -> Result<(),
     Ok(())
 }
 
-fn push_id(text: &mut String, id: ThreadId) -> Result<(), AllocError>
-    ensures { OnOk result (string_bytes text.new ≡
-        string_bytes text.old ++ codes " " ++ id_word id) }
-{
-    match id.kind() {
-        Kind::Nil => text.push_str(" nil"),
-        Kind::Any => text.push_str(" any"),
-        Kind::AnyLocal => text.push_str(" anylocal"),
-        Kind::Local => write!(text, " #{:x}", id.raw()),
-        Kind::Global { number, version } => push_numbers(text, number, version),
-    }
-}
-
-fn spelled_state(state: State) -> &'static str
+/// The word of a state in a report.
+pub fn spelled_state(state: State) -> &'static str
     ensures { result.now ≡ state_word (state_of_view state) }
 {
     match state {

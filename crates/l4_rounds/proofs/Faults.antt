@@ -1,5 +1,5 @@
 -- Why there is no rest.
-use Rattle.std.proofs.Common.{◌≡◌, ℕ, ◌+◌, ◌<◌, ◌≤◌, Bool, true, false, cond, ◌||◌, Option, Some, None, List, [], ◌∷◌, ◌++◌, length, map, get_or, take, refl, ap, sym, ◌∙◌, arith}
+use Rattle.std.proofs.Common.{◌≡◌, ℕ, ◌+◌, ◌<◌, ◌≤◌, Bool, true, false, cond, ◌||◌, Some, None, List, [], ◌∷◌, ◌++◌, length, map, get_or, take, refl, ap, sym, ◌∙◌, arith}
 use Rattle.std.specs.Prelude.{◌==◌, nat_lt, slice_index_or}
 use Rattle.std.specs.Option.{option_map}
 use Rattle.std.proofs.lemmas.Bool.Decides.{nat_tests}
@@ -12,20 +12,8 @@ use Rattle.l4_machine.specs.declared.entries.Entry as code
 use Rattle.l4_machine.specs.declared.outcome.RunFault.TheVariants.{Turns, Schedule}
 use Rattle.l4_machine.specs.Entries.{entries_fault, entry_from, first_stranger, most_events, most_turns}
 use Rattle.l4_machine.proofs.Replays.{entry_at}
-use Rattle.l4_rounds.specs.ThenRest.{rest_fault, HaveRest}
+use Rattle.l4_rounds.specs.ThenRest.{HaveRest}
 use Rattle.l4_rounds.proofs.Rounds.{rest_few}
-
-pub turns_fault : (m : Machine) (es : List Entry) (turns : ℕ) →
-    (turns == 0 || nat_lt most_turns (length es + turns)) ≡ true → rest_fault m es turns ≡ Some Turns
-turns_fault m es turns out = ap (λ b. cond b (Some Turns) (option_map Schedule (first_stranger m 1 es))) out
-
-pub entries_few : (m : Machine) (es : List Entry) (turns : ℕ) → length es ≤ most_events →
-    (turns == 0 || nat_lt most_turns (length es + turns)) ≡ false →
-    rest_fault m es turns ≡ entries_fault m es
-entries_few m es turns few within =
-    let test : nat_lt most_events (length es) ≡ false = grind (arith, nat_tests, few) in
-    ap (λ b. cond b (Some Turns) (option_map Schedule (first_stranger m 1 es))) within
-    ∙ sym (ap (λ b. cond b (Some Turns) (option_map Schedule (first_stranger m 1 es))) test)
 
 pub no_fault : (m : Machine) (es : List Entry) → length es ≤ most_events → first_stranger m 1 es ≡ None →
     entries_fault m es ≡ None
@@ -33,16 +21,6 @@ no_fault m es few lawful =
     let test : nat_lt most_events (length es) ≡ false = grind (arith, nat_tests, few) in
     ap (λ b. cond b (Some Turns) (option_map Schedule (first_stranger m 1 es))) test
     ∙ ap (option_map Schedule) lawful
-
-pub no_turns : (m : Machine) (es : List Entry) → length es ≤ most_events → entries_fault m es ≡ Some Turns → ⊥
-no_turns m es few is =
-    let test : nat_lt most_events (length es) ≡ false = grind (arith, nat_tests, few) in
-    by (first_stranger m 1 es)
-    (sym (ap (λ b. cond b (Some Turns) (option_map Schedule (first_stranger m 1 es))) test) ∙ is)
-  where
-    by : (o : Option ℕ) → option_map Schedule o ≡ Some Turns → ⊥
-    by None is = cc
-    by (Some place) is = cc
 
 -- Where it is none of range, some turns are asked for, and not too many.
 pub in_range : (entries turns : ℕ) → (turns == 0 || nat_lt most_turns (entries + turns)) ≡ false →

@@ -3,15 +3,13 @@ use Rattle.std.proofs.Common.{◌≡◌, ℕ, suc, ◌+◌, ◌<◌, ◌≤◌, 
 use Rattle.std.specs.Prelude.{◌⊎◌, slice_get}
 use Rattle.std.specs.List.{range_with_len}
 use Rattle.std.specs.Option.{option_map}
-use Rattle.std.proofs.lemmas.Bool.Decides.{nat_tests}
 use Rattle.std.proofs.lemmas.List.{length-map, map_push}
 use Rattle.std.proofs.lemmas.List.FromFn.{map-range_with_len_more}
 use Rattle.l4_model.specs.Machine.{Machine}
-use Rattle.l4_model.specs.Words.{clock_limit}
 use Rattle.l4_model.specs.Conditions.{◌>>=◌}
 use Rattle.l4_core_model.specs.Local.{Local}
 use Rattle.l4_core_model.specs.Runs.{Run, System, Ticks, opening_run}
-use Rattle.l4_core_model.specs.Schedules.{attempts_all, earliest, earliest_of, least_deadline, round, rounds, ticks_to, turns_in_order, turns_of}
+use Rattle.l4_core_model.specs.Schedules.{attempts_all, earliest, earliest_of, least_deadline, rounds, turns_in_order, turns_of}
 use Rattle.l4_choices.specs.Entries.{Entry, TurnOf, TickTo, replay_entries}
 use Rattle.l4_core.specs.Processor.{Processor}
 use Rattle.l4_machine.specs.declared.entries.Entry as code
@@ -158,9 +156,6 @@ few_gone f a b more on few =
 
 -- A round
 
-pub turn_lawful : (m : Machine) (cpu : ℕ) → cpu < m.cpus → is_entry m (TurnOf cpu) ≡ true
-turn_lawful m cpu lt = grind (arith, nat_tests, lt)
-
 abbrev pub turns_below : ℕ → Machine → Run → Run
 turns_below n m r = turns_in_order m r (range_with_len 0 n)
 
@@ -170,22 +165,12 @@ turn_gone a b c cpu first second =
     gone_further (turns_below cpu) (after_entry (TurnOf cpu)) (turns_below (cpu + 1)) a b c first second
     (sym (round_more a.machine.now (run_of a) cpu))
 
-pub turns_gone : (a b : Replay) (cpu : ℕ) → HasGoneOn (turns_below cpu) a b → cpu ≡ a.machine.now.cpus →
-    HasGoneOn round a b
-turns_gone a b cpu on all =
-    gone_as (turns_below cpu) round a b on
-    (ap (λ n. turns_in_order a.machine.now (run_of a) (range_with_len 0 n)) all)
-
 pub turns_gone_few : (a b : Replay) (cpu : ℕ) → HasGoneOn (turns_below cpu) a b →
     length b.entries.items ≤ length a.entries.items + cpu
 turns_gone_few a b cpu on =
     few_gone (turns_below cpu) a b cpu on (round_few a.machine.now (run_of a) cpu)
 
 -- Ticks
-
-pub tick_lawful : (m : Machine) (cpu clock : ℕ) → cpu < m.cpus → 0 < clock → clock < clock_limit →
-    is_entry m (TickTo cpu clock) ≡ true
-tick_lawful m cpu clock lt some low = grind (arith, nat_tests, lt, some, low)
 
 abbrev pub ticks_below : (clock : ℕ) → ℕ → Machine → Run → Run
 ticks_below clock n m r = attempts_all m r (map (λ cpu. Ticks cpu clock) (range_with_len 0 n))
@@ -195,13 +180,6 @@ pub tick_gone : (a b c : Replay) (clock cpu : ℕ) → HasGoneOn (ticks_below cl
 tick_gone a b c clock cpu first second =
     gone_further (ticks_below clock cpu) (after_entry (TickTo cpu clock)) (ticks_below clock (cpu + 1))
     a b c first second (sym (tick_more a.machine.now (run_of a) clock cpu))
-
-pub ticks_gone : (a b : Replay) (clock cpu : ℕ) → HasGoneOn (ticks_below clock cpu) a b →
-    cpu ≡ a.machine.now.cpus → HasGoneOn (λ m r. ticks_to m r (Some clock)) a b
-ticks_gone a b clock cpu on all =
-    gone_as (ticks_below clock cpu) (λ m r. ticks_to m r (Some clock)) a b on
-    (ap (λ n. attempts_all a.machine.now (run_of a) (map (λ cpu. Ticks cpu clock) (range_with_len 0 n)))
-    all)
 
 pub ticks_gone_few : (a b : Replay) (clock cpu : ℕ) → HasGoneOn (ticks_below clock cpu) a b →
     length b.entries.items ≤ length a.entries.items + cpu
@@ -242,13 +220,6 @@ pub record IsGoing (a : Replay) (turns left : ℕ) (b : Replay) : Type 0 where
   pub rest : rounds a.machine.now (most_of a turns) turns (run_of a)
       ≡ rounds a.machine.now (most_of a turns) left (run_of b)
   pub few : length b.entries.items ≤ length a.entries.items + turns
-
-pub going_start : (a : Replay) (turns : ℕ) → IsReplay a → IsGoing a turns turns a
-going_start a turns is = record {
-  on = stays_at (λ m r. run_of a) a is refl;
-  rest = refl;
-  few = omega arith;
-}
 
 -- A round more
 round_on : (a b c : Replay) → HasGoneOn (λ m r. run_of b) a b → HasGoneOn next_round b c →
@@ -309,6 +280,3 @@ going_ended a b c turns left is next over =
         let count = ap turns_of same in
         let last = after in
         ends_used a.machine.now (most_of a turns) left (run_of b) (omega (arith, last, count, used))
-
-pub going_over : (a b : Replay) (turns : ℕ) → IsGoing a turns 0 b → HasGoneOn (in_rounds turns) a b
-going_over a b turns is = gone_as (λ m r. run_of b) (in_rounds turns) a b is.on (sym is.rest)

@@ -22,10 +22,6 @@ stays_or_more : (r : Run) (o : Option Happened) → turns_of (or_stays r o) ≤ 
 stays_or_more r None = omega arith
 stays_or_more r (Some h) = let longer = length-append r.events (h.event ∷ []) in omega arith
 
-no_fewer : (r : Run) (o : Option Happened) → turns_of r ≤ turns_of (or_stays r o)
-no_fewer r None = omega arith
-no_fewer r (Some h) = let longer = length-append r.events (h.event ∷ []) in omega arith
-
 no_more_stays : (r : Run) (o : Option Happened) → turns_of (or_stays r o) ≤ turns_of r → or_stays r o ≡ r
 no_more_stays r None few = refl
 no_more_stays r (Some h) few =
@@ -33,9 +29,6 @@ no_more_stays r (Some h) few =
 
 pub one_more : (m : Machine) (r : Run) (e : Entry) → turns_of (after_entry e m r) ≤ turns_of r + 1
 one_more m r e = stays_or_more r (entry_event m r.system e >>= happens m r.system)
-
-pub not_fewer : (m : Machine) (r : Run) (e : Entry) → turns_of r ≤ turns_of (after_entry e m r)
-not_fewer m r e = no_fewer r (entry_event m r.system e >>= happens m r.system)
 
 -- Without an event nothing has changed.
 pub unchanged : (m : Machine) (r : Run) (e : Entry) → turns_of (after_entry e m r) ≤ turns_of r →

@@ -1,13 +1,12 @@
 -- Reading a text line by line.
-use Rattle.std.proofs.Common.{◌≡◌, ℕ, ◌+◌, ◌==◌, cond, List, [], ◌∷◌, length, Result, Ok, Err, sym, ap, ◌∙◌, inl, inr}
+use Rattle.std.proofs.Common.{◌≡◌, ℕ, ◌+◌, List, ◌∷◌, Result, Ok, Err, sym, ap, ◌∙◌, inl, inr}
 use Rattle.l4_model.specs.Machine.{Machine}
 use Rattle.l4_script.specs.declared.text.fault.TextFault.{TextFault}
-use Rattle.l4_script.specs.declared.text.fault.TextFaultKind.TheVariants.{BadLine}
 use Rattle.l4_script.specs.Judged.{Judged}
 use Rattle.l4_script.specs.Faults.{fault_at}
 use Rattle.l4_words.specs.Lines.{parts_of}
 use Rattle.l4_words.proofs.Parts.{has_part}
-use Rattle.l4_script.specs.Texts.{Stage, Reads, after_line, judged_at, ended, read}
+use Rattle.l4_script.specs.Texts.{Stage, Reads, after_line, judged_at, read}
 
 read_first : (part : List ℕ) (parts : List (List ℕ)) (first : List ℕ) (others : List (List ℕ)) (stage : Stage) (line : ℕ) → parts ≡ first ∷ others
     → read (part ∷ parts) stage line ≡ judged_at line (after_line line stage part) (λ next. read parts next (line + 1))
@@ -19,10 +18,6 @@ pub read_line : (line rest : List ℕ) (parts : List (List ℕ)) (stage : Stage)
 read_line line rest parts stage number e =
     let more = has_part rest in
     ap (λ (ps : List (List ℕ)). read ps stage number) e ∙ read_first line (parts_of rest) more.0 more.1 stage number more.2
-
-pub read_end : (rest : List ℕ) (stage : Stage) (number : ℕ) → parts_of rest ≡ rest ∷ []
-    → read (parts_of rest) stage number ≡ cond (length rest == 0) (ended stage number) (Err (fault_at number BadLine))
-read_end rest stage number e = ap (λ (ps : List (List ℕ)). read ps stage number) e
 
 judged_ok : (line : ℕ) (part : Judged Stage) (next : Stage) → judged_at {X = Stage} line part (λ s. Ok s) ≡ Ok next → part ≡ Ok next
 judged_ok line (Ok s) next e = let same : s ≡ next = cc in ap (λ (x : Stage). Ok x) same

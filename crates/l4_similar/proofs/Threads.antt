@@ -85,9 +85,6 @@ runs_same End t = refl
 
 -- What an instruction asks for does not depend on the number of sends either.
 
-uncounted : Context → Context
-uncounted c = record c { begun = 0 }
-
 ipc_same : (m : Machine) (sender : GlobalId) (now : ℕ) (c : Context) (to : Id) (period : Period)
     (receive : Option Receive) →
     ipc_act m sender now (record c { begun = 0 }) to period receive ≡ ipc_act m sender now c to period receive

@@ -1,18 +1,15 @@
 -- What happens to a thread, as an effect of the core run.
-use Rattle.std.specs.Prelude.{ℕ, Bool, true, false, not}
+use Rattle.std.specs.Prelude.{ℕ, Bool, true, false}
 use Rattle.l4_model.specs.World.{Thread}
-use Rattle.l4_model.specs.Effects.{runs, fails, orders, obeyed}
+use Rattle.l4_model.specs.Effects.{fails, orders, obeyed}
 use Rattle.l4_core_model.specs.Local.{after_decision}
 use Rattle.l4_types.specs.Codes.{code_of}
 use Rattle.l4_types.specs.LetterView.{decision_of}
-use Rattle.l4_script.specs.Scripts.{instr_of}
-use Rattle.l4_thread.specs.Requests.{is_end}
 use Rattle.l4_thread.specs.declared.changes.Change.{Change}
-use Rattle.l4_thread.specs.declared.changes.Change.TheVariants.{Run, Fail, EndSend, GiveOrder, Obey}
+use Rattle.l4_thread.specs.declared.changes.Change.TheVariants.{Fail, EndSend, GiveOrder, Obey}
 
 -- At this clock of the thread's processor.
 abbrev pub change_of : Change → (now : ℕ) → Thread → Thread
-change_of (Run instr) now t = runs (instr_of instr) t
 change_of (Fail error) now t = fails (code_of error) t
 change_of (EndSend decision) now t = after_decision (decision_of decision) now t
 change_of (GiveOrder order) now t = orders order t
@@ -20,6 +17,5 @@ change_of Obey now t = obeyed t
 
 -- Its place in the script may go on by one.
 abbrev pub may_advance : Change → Bool
-may_advance (Run instr) = not (is_end (instr_of instr))
 may_advance Obey = true
 may_advance _ = false

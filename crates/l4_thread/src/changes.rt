@@ -1,14 +1,11 @@
 //! What happens to a thread.
 use crate::orders::PendingOrder;
-use l4_script::instructions::Instr;
 use l4_types::errors::IpcError;
 use l4_types::letters::Decision;
 
-/// What happens to a thread, but for the beginning of an Ipc and the receipt of a message.
+/// What happens to a thread, but for an instruction that it runs and a message that it receives.
 #[derive(Clone, Copy, PartialEq, Eq, Debug)]
 pub enum Change {
-    /// It runs an instruction that concerns nobody else, or its script ends.
-    Run(Instr),
     /// Its Ipc fails. A deleted thread stays as it is.
     Fail(IpcError),
     /// Its send is decided. After a delivery the receive phase of the same Ipc begins at once. A

@@ -7,4 +7,3 @@ pub mod ReadSteps
 pub mod ReadTexts
 pub mod ReadingLines
 pub mod ReadingOn
-pub mod Spelled

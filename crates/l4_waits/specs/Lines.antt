@@ -2,28 +2,19 @@
 use Rattle.std.specs.Prelude.{ℕ, Bool, true, false, Option, Some, None, List, [], ◌∷◌, ◌++◌, map}
 use Rattle.std.specs.Prelude.{flat_map, length, slice_index_or, codes}
 use Rattle.std.specs.List.{range_with_len}
-use Rattle.l4_model.specs.Words.{GlobalId, global_id, Id, NilThread, AnyThread, AnyLocalThread}
-use Rattle.l4_model.specs.Words.{LocalThread, GlobalThread}
+use Rattle.l4_model.specs.Words.{GlobalId, global_id, Id}
 use Rattle.l4_model.specs.Machine.{Machine}
 use Rattle.l4_model.specs.World.{World}
 use Rattle.l4_model.specs.Steps.{Step}
 use Rattle.l4_model.specs.Still.{late}
 use Rattle.l4_words.specs.Lines.{line_of_words}
-use Rattle.l4_words.specs.Numbers.{hexadecimal}
-use Rattle.l4_words.specs.Threads.{thread_word}
+use Rattle.l4_words.specs.Threads.{id_word, thread_word}
 use Rattle.l4_audit.specs.Possible.{possible}
 use Rattle.l4_audit.specs.Waits.{waits_in}
 use Rattle.l4_audit.specs.declared.waits.Wait.{Wait}
 use Rattle.l4_audit.specs.declared.waits.Wait.TheVariants.{Send, Arrival, Receive}
 use Rattle.l4_waits.specs.Circles.{nexts_of, circle_at}
 use Rattle.l4_waits.specs.Deadlocks.{are_stuck}
-
-abbrev pub id_word : Id → List ℕ
-id_word NilThread = codes "nil"
-id_word AnyThread = codes "any"
-id_word AnyLocalThread = codes "anylocal"
-id_word (LocalThread word) = codes "#" ++ hexadecimal word
-id_word (GlobalThread t) = thread_word t
 
 -- The id that a thread sends to or receives from, and which of the two.
 abbrev pub whom : Wait → Id

@@ -5,7 +5,7 @@ ghost use Rattle.l4_model.specs.History.{IsHistory, reached};
 ghost use Rattle.l4_model.specs.World.{World};
 ghost use Rattle.l4_types.specs.StepView.{step_of};
 ghost use Rattle.l4_waits.specs.Circles.{circle_at};
-ghost use Rattle.l4_waits.specs.Lines.{id_word, whom, how_word, wait_line, id_at, ids_at};
+ghost use Rattle.l4_waits.specs.Lines.{whom, how_word, wait_line, id_at, ids_at};
 ghost use Rattle.l4_waits.specs.Lines.{circle_word, ids_line, circle_line, circle_lines};
 ghost use Rattle.l4_waits.specs.Lines.{text_of, waits_text};
 ghost use Rattle.l4_words.specs.Threads.{thread_word};
@@ -18,9 +18,9 @@ use l4_audit::waits::Wait;
 use l4_history::history::History;
 use l4_script::machine::Machine;
 use l4_types::errors::NoMemory;
-use l4_types::ids::{GlobalId, Kind, ThreadId};
+use l4_types::ids::{GlobalId, ThreadId};
 use l4_types::steps::Step;
-use l4_words::spelling::{push_numbers, push_thread};
+use l4_words::spelling::{push_id, push_thread};
 use std::alloc::{AllocError, Global};
 
 /// Appends who waits for whom at the end of an audit. A line for each thread that waits comes in
@@ -106,19 +106,6 @@ fn how(wait: &Wait) -> &'static str
     match wait {
         Wait::Send(_) | Wait::Arrival(_) => "send",
         Wait::Receive(_) => "receive",
-    }
-}
-
-fn push_id(text: &mut String, id: ThreadId) -> Result<(), AllocError>
-    ensures { OnOk result (string_bytes text.new ≡
-        string_bytes text.old ++ codes " " ++ id_word id) }
-{
-    match id.kind() {
-        Kind::Nil => text.push_str(" nil"),
-        Kind::Any => text.push_str(" any"),
-        Kind::AnyLocal => text.push_str(" anylocal"),
-        Kind::Local => write!(text, " #{:x}", id.raw()),
-        Kind::Global { number, version } => push_numbers(text, number, version),
     }
 }
 

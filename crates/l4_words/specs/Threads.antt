@@ -2,12 +2,21 @@
 use Rattle.std.specs.Prelude.{ℕ, Bool, ◌==◌, Option, Some, List, ◌++◌, codes, decimal}
 use Rattle.std.specs.List.{before_first, after_first}
 use Rattle.l4_model.specs.Words.{GlobalId, is_global, global_id}
+use Rattle.l4_model.specs.Words.{Id, NilThread, AnyThread, AnyLocalThread, LocalThread, GlobalThread}
 use Rattle.l4_model.specs.Conditions.{◌>>=◌, ◌>>◌}
-use Rattle.l4_words.specs.Numbers.{number_of}
+use Rattle.l4_words.specs.Numbers.{hexadecimal, number_of}
 
 -- `N.V`: the number and the version of a thread, in decimal.
 abbrev pub thread_word : GlobalId → List ℕ
 thread_word t = decimal t.number ++ codes "." ++ decimal t.version
+
+-- An id as a report has it.
+abbrev pub id_word : Id → List ℕ
+id_word NilThread = codes "nil"
+id_word AnyThread = codes "any"
+id_word AnyLocalThread = codes "anylocal"
+id_word (LocalThread word) = codes "#" ++ hexadecimal word
+id_word (GlobalThread t) = thread_word t
 
 -- Two decimal numbers that make a global id. The byte of the dot is 46.
 abbrev pub is_dot : ℕ → Bool

@@ -4,10 +4,10 @@ ghost use Rattle.std.specs.List.{list_all};
 ghost use Rattle.std.specs.String.{string_bytes};
 ghost use Rattle.l4_model.specs.Words.{global_id, is_global};
 ghost use Rattle.l4_words.specs.Numbers.{hexadecimal, is_word};
-ghost use Rattle.l4_words.specs.Threads.{thread_word};
+ghost use Rattle.l4_words.specs.Threads.{id_word, thread_word};
 ghost use Rattle.l4_words.specs.Names.{name_word, is_name};
 
-use l4_types::ids::GlobalId;
+use l4_types::ids::{GlobalId, Kind, ThreadId};
 use l4_types::steps::Name;
 use std::alloc::AllocError;
 
@@ -47,6 +47,21 @@ pub fn push_numbers(line: &mut String, number: u32, version: u32) -> Result<(), 
         thread_word (global_id number version)) }
 {
     write!(line, " {number}.{version}")
+}
+
+/// Appends a space and an id: `nil`, `any`, `anylocal`, a local id in hexadecimal behind `#`, or a
+/// thread as `push_thread` does it.
+pub fn push_id(line: &mut String, id: ThreadId) -> Result<(), AllocError>
+    ensures { OnOk result (string_bytes line.new ≡
+        string_bytes line.old ++ codes " " ++ id_word id) }
+{
+    match id.kind() {
+        Kind::Nil => line.push_str(" nil"),
+        Kind::Any => line.push_str(" any"),
+        Kind::AnyLocal => line.push_str(" anylocal"),
+        Kind::Local => write!(line, " #{:x}", id.raw()),
+        Kind::Global { number, version } => push_numbers(line, number, version),
+    }
 }
 
 /// Appends a space and the name of a send, `N.V#K`.

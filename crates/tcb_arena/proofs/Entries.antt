@@ -1,5 +1,5 @@
 -- Entries by rising deadline, made of the rings that the blocks stand in, whatever the number of rings.
-use Rattle.std.specs.Prelude.{slice_get, Some, None, Option, take}
+use Rattle.std.specs.Prelude.{slice_get, Some, Option, take}
 use Rattle.std.proofs.Common.{◌≡◌, ◌≢◌, ℕ, ◌+◌, ◌<◌, ◌≤◌, ◌%◌, Bool, true, false, not, cond, eqb, leb, ◌||◌, ◌⊎◌, inl, inr, List, [], ◌∷◌, ◌++◌, length, map, get_or, set, refl, sym, ◌∙◌, ap, subst, ⊎_elim, arith, zero, suc, get_or-set_same, get_or-set_other, add-one}
 use Rattle.std.proofs.lemmas.Bool.{cases_eq, ne_eqb, eq-eqb, eqb-false, cond-true, cond-false, cases_lt, le-leb, lt-leb, or_parts, or_left, or_right, false≢true}
 use Rattle.std.proofs.lemmas.List.{map-set, map_push, length-map}
@@ -321,12 +321,6 @@ take_at : (ys : List ℕ) (k x : ℕ) → slice_get ys k ≡ Some x → take (su
 take_at [] k x h = absurd (cc)
 take_at (y ∷ ys) zero x h = let p : y ≡ x = cc in ap (λ (z : ℕ). z ∷ []) p
 take_at (y ∷ ys) (suc k) x h = ap (λ (r : List ℕ). y ∷ r) (take_at ys k x h)
-
-take_past : (ys : List ℕ) (k : ℕ) → slice_get ys k ≡ None → take k ys ≡ ys
-take_past [] zero h = refl
-take_past [] (suc k) h = refl
-take_past (y ∷ ys) zero h = absurd (cc)
-take_past (y ∷ ys) (suc k) h = ap (λ (r : List ℕ). y ∷ r) (take_past ys k h)
 
 -- The first entry of what the first k names of a ring add.
 abbrev pub best_at : List ℕ → List ℕ → ℕ → List E → Option E

@@ -8,7 +8,7 @@ use Rattle.std.proofs.lemmas.List.{append-nil, append_assoc}
 use Rattle.std.proofs.lemmas.List.Elements.{filter-append}
 use Rattle.l4_core_model.specs.Plain.{put_entry}
 use Rattle.tcb_arena.specs.Rings.{Lists, list_at, is_linked, AreSound}
-use Rattle.tcb_arena.specs.Due.{ArePlaced, Due, armed_in, armed_of, entries_in, entry, has_deadline, lesser_of, put_all, put_rings, shown_due, times_armed}
+use Rattle.tcb_arena.specs.Due.{ArePlaced, Due, armed_in, armed_of, entries_in, entry, has_deadline, put_all, put_rings, shown_due, times_armed}
 use Rattle.tcb_arena.proofs.Lists.{is_in_any-at}
 use Rattle.tcb_arena.proofs.Entries.{E, Rises, put_le, put_lt, rises-put, rises-put_all, rises-put_rings, entries-at, entry-from, is_in-get}
 use Rattle.tcb_arena.proofs.Once.{entry-apart, get-in-any, once-shown, times-ring}
@@ -333,46 +333,6 @@ IsAtMost (Some least) n = least ≤ n
 pub record IsLeastLater (d upto : ℕ) (ds : List ℕ) (s : Lists) (least : Option ℕ) : Type 0 where
   pub all : (b : ℕ) → b < upto → is_linked s b ≡ true → d < get_or ds b 0 → IsAtMost least (get_or ds b 0)
   pub is : (m : ℕ) → least ≡ Some m → (d < m) × (b : ℕ) × (is_linked s b ≡ true) × (get_or ds b 0 ≡ m)
-
-pub least-none : (d : ℕ) (ds : List ℕ) (s : Lists) → IsLeastLater d 0 ds s None
-least-none d ds s = record { all = λ b lt linked later. absurd (omega (arith, lt)); is = λ m e. absurd (cc) }
-
-pub least-kept : (d i : ℕ) (ds : List ℕ) (s : Lists) (least : Option ℕ) → IsLeastLater d i ds s least → (is_linked s i ≡ true → d < get_or ds i 0 → ⊥) → IsLeastLater d (i + 1) ds s least
-least-kept d i ds s least l not_later = record {
-  all = λ b lt linked later.
-      ⊎_elim
-      (λ (e : b ≡ i). absurd (not_later (ap (is_linked s) (sym e) ∙ linked) (omega (arith, later, ap (λ n. get_or ds n 0) e))))
-      (λ (ne : b ≡ i → ⊥). l.all b (omega (arith, lt, ne)) linked later)
-      (cases_eq b i);
-  is = l.is;
-}
-
-pub least-more : (d i new : ℕ) (ds : List ℕ) (s : Lists) (least : Option ℕ) → IsLeastLater d i ds s least → is_linked s i ≡ true → d < get_or ds i 0 → new ≡ lesser_of least (get_or ds i 0) → IsLeastLater d (i + 1) ds s (Some new)
-least-more d i new ds s least l linked_i later_i e = record {
-  all = λ b lt linked later.
-      ⊎_elim
-      (λ (q : b ≡ i). let at : get_or ds b 0 ≡ get_or ds i 0 = ap (λ n. get_or ds n 0) q in here least e b at)
-      (λ (ne : b ≡ i → ⊥). there least e (get_or ds b 0) (l.all b (omega (arith, lt, ne)) linked later))
-      (cases_eq b i);
-  is = λ m t. let same : new ≡ m = cc in by least refl e m same;
-}
-  where
-    here : (o : Option ℕ) → new ≡ lesser_of o (get_or ds i 0) → (b : ℕ) → get_or ds b 0 ≡ get_or ds i 0 → new ≤ get_or ds b 0
-    here None f b at = omega (arith, f, at)
-    here (Some x) f b at = omega (arith, f, at)
-
-    there : (o : Option ℕ) → new ≡ lesser_of o (get_or ds i 0) → (n : ℕ) → IsAtMost o n → new ≤ n
-    there None f n le = absurd le
-    there (Some x) f n le = omega (arith, f, le)
-
-    by : (o : Option ℕ) → least ≡ o → new ≡ lesser_of o (get_or ds i 0) → (m : ℕ) → new ≡ m → (d < m) × (b : ℕ) × (is_linked s b ≡ true) × (get_or ds b 0 ≡ m)
-    by None q f m same = (omega (arith, later_i, f, same), i, linked_i, sym f ∙ same)
-    by (Some x) q f m same =
-        let old : (d < x) × (b : ℕ) × (is_linked s b ≡ true) × (get_or ds b 0 ≡ x) = l.is x q in
-        ⊎_elim
-        (λ (lt : get_or ds i 0 < x). (omega (arith, later_i, f, same, lt), i, linked_i, omega (arith, f, same, lt)))
-        (λ (le : x ≤ get_or ds i 0). (omega (arith, old.0, f, same, le), old.1, old.2, omega (arith, old.3, f, same, le)))
-        (cases_lt (get_or ds i 0) x)
 
 pub least-all : (d upto : ℕ) (ds : List ℕ) (s : Lists) (least : Option ℕ) → ArePlaced 64 ds s → length ds ≤ upto → IsLeastLater d upto ds s least
     → least ≡ option_map (λ (e : E). e.0) (find (is_after d) (armed_in ds s.lists))

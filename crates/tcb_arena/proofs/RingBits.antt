@@ -140,6 +140,3 @@ next-some bits start pos small ls =
       there = ap (λ n. n == 1) (sym (turned bits start (trailing_zeros w64 (rotate_right w64 bits start)) small ls within) ∙ t.1);
       nearest = λ other lt. ap (λ n. n == 1) (sym (turned bits start other small ls (omega (arith, lt, within))) ∙ t.2 other lt);
     }
-
-pub next-none : (bits ring : ℕ) → bits ≡ 0 → has bits ring ≡ false
-next-none bits ring e = ap (λ n. has n ring) e ∙ ap (λ n. n == 1) (bit_at-zero ring)

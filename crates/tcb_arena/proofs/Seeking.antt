@@ -1,7 +1,7 @@
 -- The first entry of all rings, by one ring after another in whatever order.
-use Rattle.std.specs.Prelude.{slice_get, Some, None, Option, take, is_some, ◌==◌}
-use Rattle.std.proofs.Common.{◌≡◌, ◌≢◌, ℕ, ◌+◌, ◌-◌, ◌<◌, ◌≤◌, ◌%◌, Bool, true, false, leb, ◌&&◌, not, ◌⊎◌, inl, inr, List, [], ◌∷◌, length, map, get_or, set, refl, sym, ◌∙◌, ap, subst, ⊎_elim, arith, zero, suc, get_or-set_same, get_or-set_other}
-use Rattle.std.proofs.lemmas.Bool.{cases_eq, cases_lt, ne_eqb, cond-true, cond-false, le-leb, lt-leb, leb-true, false≢true}
+use Rattle.std.specs.Prelude.{slice_get, Some, None, Option, take, is_some}
+use Rattle.std.proofs.Common.{◌≡◌, ◌≢◌, ℕ, ◌+◌, ◌-◌, ◌<◌, ◌≤◌, ◌%◌, Bool, true, false, leb, ◌⊎◌, inl, inr, List, [], ◌∷◌, length, map, get_or, set, refl, sym, ◌∙◌, ap, subst, ⊎_elim, arith, zero, suc, get_or-set_same, get_or-set_other}
+use Rattle.std.proofs.lemmas.Bool.{cases_eq, cases_lt, cond-true, cond-false, le-leb, lt-leb, leb-true, false≢true}
 use Rattle.std.proofs.lemmas.List.{length-map}
 use Rattle.l4_core_model.specs.Plain.{put_entry}
 use Rattle.tcb_arena.specs.RingSets.{has, IsNext}
@@ -303,22 +303,3 @@ least-ahead ds s left start ahead floor e w f es next close seen = record {
 pub least-seen : (ds : List ℕ) (ls : List (List ℕ)) (left : ℕ) (best : Option E) → ((ring : ℕ) → has left ring ≡ false)
     → ((ring k block : ℕ) → slice_get (get_or ls ring []) k ≡ Some block → has left ring ≡ false → at_most best (get_or ds block 0) ≡ true) → IsLeast ds ls best
 least-seen ds ls left best none seen = record { below = λ ring k block t. seen ring k block t (none ring) }
-
-pub seen-more : (ds : List ℕ) (s : Lists) (left less ring : ℕ) (best more : Option E) → ArePlaced 64 ds s
-    → ((r k block : ℕ) → slice_get (get_or s.lists r []) k ≡ Some block → has left r ≡ false → at_most best (get_or ds block 0) ≡ true)
-    → ((other : ℕ) → other < 64 → has less other ≡ (has left other && not (other == ring)))
-    → ((k block : ℕ) → slice_get (get_or s.lists ring []) k ≡ Some block → at_most more (get_or ds block 0) ≡ true)
-    → ((d : ℕ) → at_most best d ≡ true → at_most more d ≡ true)
-    → (r k block : ℕ) → slice_get (get_or s.lists r []) k ≡ Some block → has less r ≡ false → at_most more (get_or ds block 0) ≡ true
-seen-more ds s left less ring best more w seen takes here others r k block t none =
-    let lr : r < 64 = omega (arith, w.placed r k block t) in
-    ⊎_elim
-    (λ (e : r ≡ ring). here k block (ap (λ n. slice_get (get_or s.lists n []) k) (sym e) ∙ t))
-    (λ (ne : r ≡ ring → ⊥).
-    let still : has left r ≡ false = sym (takes r lr ∙ ap (λ b. has left r && not b) (ne_eqb r ring ne) ∙ and_true (has left r)) ∙ none in
-    others (get_or ds block 0) (seen r k block t still))
-    (cases_eq r ring)
-  where
-    and_true : (b : Bool) → (b && true) ≡ b
-    and_true true = refl
-    and_true false = refl

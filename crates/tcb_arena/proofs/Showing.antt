@@ -5,7 +5,7 @@ use Rattle.std.proofs.lemmas.Bool.{eqb-false, or_parts}
 use Rattle.std.proofs.lemmas.List.{map-set, map_push}
 use Rattle.std.specs.List.{list_any}
 use Rattle.l4_model.specs.World.{changed, is_in}
-use Rattle.l4_core_model.specs.Plain.{Waiting, Plain, unqueued, queued, is_queued, due_block, popped_due, put_entry, without_block, armed, disarmed}
+use Rattle.l4_core_model.specs.Plain.{Waiting, Plain, unqueued, queued, is_queued, due_block, popped_due, without_block, armed}
 use Rattle.tcb_arena.specs.declared.Sender.{Sender}
 use Rattle.tcb_arena.specs.Blocks.{empty_lists, without_due}
 use Rattle.tcb_arena.specs.Due.{Due, none_armed, armed_of, times_armed, without_first_due}
@@ -108,12 +108,6 @@ shown-queued waiting waiting' f ready due s h w v lx free e =
 
 abbrev with_armed : Plain → List E → Plain
 with_armed s es = record s { armed = es }
-
-pub shown-armed : (waiting : Lists) (f : List Sender) (ready : Lists) (due after : Due) (s : Plain) (d b : ℕ) → shown_lists waiting f ready due ≡ s → armed_of after ≡ put_entry (d, b) (armed_of due) → shown_lists waiting f ready after ≡ armed d b s
-shown-armed waiting f ready due after s d b v e = ap (with_armed (shown_lists waiting f ready due)) e ∙ ap (armed d b) v
-
-pub shown-disarmed : (waiting : Lists) (f : List Sender) (ready : Lists) (due after : Due) (s : Plain) (b : ℕ) → shown_lists waiting f ready due ≡ s → armed_of after ≡ without_block b (armed_of due) → shown_lists waiting f ready after ≡ disarmed b s
-shown-disarmed waiting f ready due after s b v e = ap (with_armed (shown_lists waiting f ready due)) e ∙ ap (disarmed b) v
 
 -- The first armed block taken out where it is due.
 first-undue : (now b : ℕ) (xs : List E) → due_block now xs ≡ Some b → times_armed b xs ≤ 1 → without_block b xs ≡ drop 1 xs

@@ -6,7 +6,7 @@ ghost use Rattle.std.specs.Option.{option_map};
 ghost use Rattle.l4_model.specs.Words.{word_of_tag};
 ghost use Rattle.l4_model.specs.Machine.{Delete as DeleteThread};
 ghost use Rattle.l4_model.specs.Conditions.{act_of, instruction};
-ghost use Rattle.l4_model.specs.Effects.{receives, turns};
+ghost use Rattle.l4_model.specs.Effects.{receives, runs, turns};
 ghost use Rattle.l4_model.specs.Rules.{receive_phase};
 ghost use Rattle.l4_types.specs.OwedView.{owed_of};
 ghost use Rattle.l4_types.specs.PeriodView.{period_of};
@@ -51,6 +51,21 @@ impl Core<'_> {
     {
         let known = &mut self.known;
         known.threads[place].change(change, known.clock);
+        known.enter_lists(place);
+        note_duty(&self.known, &mut self.duties, &self.zeros, place);
+    }
+
+    /// Runs an instruction of a thread that concerns nobody else, or ends its script.
+    #[inline(always)]
+    pub(super) fn run_alone(&mut self, place: usize, instr: &Instr)
+        requires hand { IsAtHand self.old place }
+        requires room { is_end (instr_of instr.now) ≡ false →
+            (thread self.old.local place).context.place + 1 < 2 ^ 64 }
+        ensures { self.new ≡ with_local self.old
+            (comes_to place (runs (instr_of instr.now)) self.old.local) }
+    {
+        let known = &mut self.known;
+        known.threads[place].run(instr);
         known.enter_lists(place);
         note_duty(&self.known, &mut self.duties, &self.zeros, place);
     }

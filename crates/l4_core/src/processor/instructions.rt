@@ -105,7 +105,7 @@ impl Core<'_> {
     {
         self.known.facts();
         buffer.emit(StepRef::Local(self.known.id(place)));
-        self.apply_change(place, &Change::Run(*instr));
+        self.run_alone(place, instr);
     }
 
     // Runs an Ipc. Its send, if it has one, goes to its partner.

@@ -1,5 +1,5 @@
 -- What is owed stays as it is where another letter is posted or taken out.
-use Rattle.std.proofs.Common.{◌≡◌, ℕ, Option, None, List, [], ◌∷◌, ◌++◌, refl, ap, sym, ◌∙◌}
+use Rattle.std.proofs.Common.{◌≡◌, ℕ, Option, None, List, [], ◌∷◌, ◌++◌, ap, sym, ◌∙◌}
 use Rattle.std.proofs.lemmas.List.{append-nil}
 use Rattle.std.proofs.lemmas.List.Elements.{filter_map-append}
 use Rattle.std.specs.List.{AllByRecursion, cons_option}
@@ -25,9 +25,6 @@ order_taken [] ys p h = h.1
 order_taken (x ∷ xs) ys p h = (all_without (MayFollow x) xs ys p h.0, order_taken xs ys p h.1)
 
 -- One letter
-
-one_in : (q : Posted) → retargets_in (q ∷ []) ≡ cons_option (retarget_of q) []
-one_in q = refl
 
 pub in_posted : (mail : List Posted) (q : Posted) → retargets_in (mail ++ q ∷ []) ≡ retargets_in mail ++ cons_option (retarget_of q) []
 in_posted mail q = filter_map-append retarget_of mail (q ∷ [])

@@ -26,7 +26,6 @@ use Rattle.l4_core_model.proofs.Changed.{same_nat}
 use Rattle.l4_core_model.proofs.Lists.{all-drop}
 use Rattle.l4_core_model.proofs.Apart.{same_or_apart}
 use Rattle.l4_core_model.proofs.Choosing.{accepts_none}
-use Rattle.l4_split.proofs.Lists.{other_is}
 use Rattle.l4_split.proofs.Relation.Rows.{Known, Matches}
 use Rattle.l4_split.proofs.Turns.Timing.{due_goes, times_out_goes}
 use Rattle.l4_split.proofs.Relation.Relates.{IsSized, RelatesExcept}
@@ -98,9 +97,6 @@ acts_goes m cpu i s w x processor e r = by (act_of m (held m x.local i)) refl
     by (Orders order) is = gives_goes m cpu i s w x e r order is
 
 -- The first ready thread
-
-skipped : (j i : ℕ) (is : List ℕ) → (i ≡ j → ⊥) → filter (λ k. j == k) (i ∷ is) ≡ filter (λ k. j == k) is
-skipped j i is ne = let apart = other_is j i (λ e. ne (sym e)) in rw apart refl
 
 first_kept : (i : ℕ) (is : List ℕ) → filter (λ k. i == k) (i ∷ is) ≡ i ∷ filter (λ k. i == k) is
 first_kept i is = let same = same_nat i in rw same refl

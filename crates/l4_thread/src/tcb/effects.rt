@@ -44,7 +44,6 @@ impl Tcb {
         ensures { self.new ≡ record self.old { thread = change_of change.now now self.old.thread } }
     {
         match change {
-            Change::Run(instr) => self.run(instr),
             Change::Fail(error) => self.fail(*error),
             Change::EndSend(decision) => self.end_send(*decision, now),
             Change::GiveOrder(order) => self.give_order(*order),

@@ -5,12 +5,8 @@ use crate::case::Case;
 use crate::outcome::Outcome;
 use crate::said::Said;
 use l4_explore::progress::Unheard;
-use l4_jobs::expecting_files::perform_expected_on_files;
-use l4_jobs::files::perform_on_files;
 use l4_jobs::job::Job;
-use l4_jobs::lints::perform_lint;
-use l4_jobs::list_lints::perform_list_lint_on_files;
-use l4_jobs::perform::perform;
+use l4_jobs::perform::{perform, perform_on_files};
 use l4_jobs::refusal::refuse;
 use l4_jobs::streams::WithInput;
 use l4_jobs::words::job_of;
@@ -56,27 +52,9 @@ fn do_job<R: Files + AllocGlobal + Threads + Sync>(
             folder: rt,
             input: trace,
         };
-        if let Some(expecting) = job.expecting() {
-            let alloc = rt.alloc();
-            return perform_expected_on_files(
-                rt,
-                alloc,
-                &folder,
-                &expecting,
-                output,
-                faults,
-                &mut Unheard,
-            );
-        }
-        if let Some(lint) = job.list_lint() {
-            return perform_list_lint_on_files(rt.alloc(), &folder, &lint, output, faults);
-        }
-        return perform_on_files(rt, rt.alloc(), &folder, job, output, faults);
+        return perform_on_files(rt, rt.alloc(), &folder, job, output, faults, &mut Unheard);
     }
     let mut text = case.text;
-    if let Job::Lint { file, .. } = *job {
-        return perform_lint(rt.alloc(), file, &mut text, output, faults);
-    }
     let mut trace = trace;
     perform(rt, rt.alloc(), job, &mut text, &mut trace, output, faults)
 }

@@ -5,12 +5,7 @@ use Rattle.std.specs.Option.{option_map}
 use Rattle.std.specs.Str.{bytes_eq}
 use Rattle.l4_commands.specs.declared.job.ChartForm.{ChartForm}
 use Rattle.l4_commands.specs.declared.job.ChartForm.TheVariants.{Lines, Ascii}
-use Rattle.l4_commands.specs.declared.job.Course.{Course}
-use Rattle.l4_commands.specs.declared.job.Course.TheVariants as course
-use Rattle.l4_commands.specs.declared.job.Expecting.{Expecting}
 use Rattle.l4_commands.specs.declared.job.Job.{Job}
-use Rattle.l4_commands.specs.declared.job.ListLint.{ListLint}
-use Rattle.l4_commands.specs.declared.job.Recording.{Recording}
 use Rattle.l4_commands.specs.declared.job.Job.TheVariants.{Run, Replay, Audit, Chart, Endings, Lint}
 
 -- The name that stands for the standard input: `-`. A file of that name is `./-`.
@@ -22,8 +17,8 @@ abbrev pub list_name : (schedule : List ℕ) → Option (List ℕ)
 list_name [] = None
 list_name (first ∷ name) = if first == 64 then Some name else None
 
--- The names of the files that a job reads: the machine text's, and then the trace's or the list's,
--- where there is one. A list that is only judged, and expectations, are not among them.
+-- The names of the files that a job reads: the machine text's, that of the trace or of the list,
+-- and that of the expectations.
 
 abbrev pub file_of : Job → List ℕ
 file_of (Run file turns printed record_to expected) = file.now
@@ -33,52 +28,35 @@ file_of (Chart chart) = chart.file.now
 file_of (Endings search) = search.file.now
 file_of (Lint file schedule) = file.now
 
+abbrev pub list_name_in : Option (Bor (List ℕ)) → Option (List ℕ)
+list_name_in None = None
+list_name_in (Some schedule) = list_name schedule.now
+
 abbrev pub second_file_of : Job → Option (List ℕ)
 second_file_of (Run file turns printed record_to expected) = None
 second_file_of (Replay file schedule rest printed expected) = list_name schedule.now
 second_file_of (Audit file trace judged) = Some trace.now
 second_file_of (Chart chart) = Some chart.trace.now
 second_file_of (Endings search) = None
-second_file_of (Lint file schedule) = None
+second_file_of (Lint file schedule) = list_name_in schedule
+
+abbrev pub expected_of : Job → Option (List ℕ)
+expected_of (Run file turns printed record_to expected) = option_map (λ name. name.now) expected
+expected_of (Replay file schedule rest printed expected) = option_map (λ name. name.now) expected
+expected_of (Endings search) = option_map (λ name. name.now) search.expected
+expected_of _ = None
 
 -- The name of the file that a job records its run in.
 abbrev pub record_of : Job → Option (List ℕ)
 record_of (Run file turns printed record_to expected) = option_map (λ name. name.now) record_to
 record_of _ = None
 
--- The job that asks for this recording.
-abbrev pub job_of : Recording → Job
-job_of r = Run r.file r.turns r.printed (Some r.name) r.expected
-
--- The name of the file with what is expected of a run that is not recorded, of a replay, or of each
--- ending.
-abbrev pub expected_of : Job → Option (List ℕ)
-expected_of (Run file turns printed None expected) = option_map (λ name. name.now) expected
-expected_of (Replay file schedule rest printed expected) = option_map (λ name. name.now) expected
-expected_of (Endings search) = option_map (λ name. name.now) search.expected
-expected_of _ = None
-
--- The job that asks for these expectations, and the file of its schedule, where it has one.
-abbrev pub job_by : (file name : Bor (List ℕ)) → Course → Job
-job_by file name (course.Run turns printed) = Run file turns printed None (Some name)
-job_by file name (course.Replay schedule rest printed) =
-    Replay file schedule rest printed (Some name)
-job_by file name (course.Endings search) = Endings search
-
-abbrev pub expected_job : Expecting → Job
-expected_job e = job_by e.file e.name e.course
-
-abbrev pub list_file_of : Course → Option (List ℕ)
-list_file_of (course.Replay schedule rest printed) = list_name schedule.now
-list_file_of _ = None
-
--- The schedule that is checked beside a machine text, and the job that asks for this.
-abbrev pub lint_list_of : Job → Option (List ℕ)
-lint_list_of (Lint file schedule) = option_map (λ list. list.now) schedule
-lint_list_of _ = None
-
-abbrev pub list_lint_job : ListLint → Job
-list_lint_job lint = Lint lint.file (Some lint.schedule)
+-- The job without a record, and of which nothing is expected.
+abbrev pub alone : Job → Job
+alone (Run file turns printed record_to expected) = Run file turns printed None None
+alone (Replay file schedule rest printed expected) = Replay file schedule rest printed None
+alone (Endings search) = Endings (record search { expected = None })
+alone job = job
 
 -- A chart for an output that may show lines and has this many columns. What the user chose stays.
 abbrev pub form_on : (shows_lines : Bool) → ChartForm → ChartForm

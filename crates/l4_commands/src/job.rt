@@ -1,9 +1,8 @@
 //! The jobs that the words of a command line can ask for.
-ghost use Rattle.std.specs.Prelude.{◌≡◌, ◌||◌, MatchOption, None};
+ghost use Rattle.std.specs.Prelude.{◌≡◌, ◌||◌};
 ghost use Rattle.std.specs.Option.{option_map};
-ghost use Rattle.l4_commands.specs.Files.{file_of, job_of, list_name, on_output, record_of};
-ghost use Rattle.l4_commands.specs.Files.{expected_job, expected_of, lint_list_of, list_file_of};
-ghost use Rattle.l4_commands.specs.Files.{list_lint_job, second_file_of};
+ghost use Rattle.l4_commands.specs.Files.{alone, expected_of, file_of, list_name, on_output};
+ghost use Rattle.l4_commands.specs.Files.{record_of, second_file_of};
 
 /// The name that stands for the standard input. A file of that name is `./-`.
 pub const INPUT: &str = "-";
@@ -115,77 +114,6 @@ impl Judged {
     }
 }
 
-/// A run that is to be recorded.
-#[derive(Clone, Copy, Debug, PartialEq, Eq)]
-pub struct Recording<'a> {
-    /// The name of the file with the machine text.
-    pub file: &'a str,
-    /// The greatest number of turns, as of `Job::Run`.
-    pub turns: u64,
-    /// What is printed.
-    pub printed: Printed,
-    /// The name of the file that its schedule is written to.
-    pub name: &'a str,
-    /// The name of the file with what is expected of it. The words never ask for this of a recorded
-    /// run.
-    pub expected: Option<&'a str>,
-}
-
-/// What has to meet expectations.
-#[derive(Clone, Copy, Debug, PartialEq, Eq)]
-pub enum Course<'a> {
-    /// A run.
-    Run {
-        /// The greatest number of turns, as of `Job::Run`.
-        turns: u64,
-        /// What is printed.
-        printed: Printed,
-    },
-    /// A replay.
-    Replay {
-        /// The schedule, as of `Job::Replay`.
-        schedule: &'a str,
-        /// For how many turns it goes on, as of `Job::Replay`.
-        then_rest: Option<u64>,
-        /// What is printed.
-        printed: Printed,
-    },
-    /// Each ending that a search finds.
-    Endings(EndingsJob<'a>),
-}
-
-impl<'a> Course<'a> {
-    /// The name of the file with its schedule, where the schedule is in a file.
-    pub fn list_file(&self) -> Option<&'a str>
-        ensures { option_map (λ name. name.now) result ≡ list_file_of self.now }
-    {
-        match *self {
-            Course::Replay { schedule, .. } => list_name(schedule),
-            Course::Run { .. } | Course::Endings(_) => None,
-        }
-    }
-}
-
-/// A job of which something is expected.
-#[derive(Clone, Copy, Debug, PartialEq, Eq)]
-pub struct Expecting<'a> {
-    /// The name of the file with the machine text.
-    pub file: &'a str,
-    /// What has to meet the expectations.
-    pub course: Course<'a>,
-    /// The name of the file with the expectations.
-    pub name: &'a str,
-}
-
-/// A search for all faults of a machine text, and of a schedule for it.
-#[derive(Clone, Copy, Debug, PartialEq, Eq)]
-pub struct ListLint<'a> {
-    /// The name of the file with the machine text.
-    pub file: &'a str,
-    /// The schedule, as of `Job::Replay`.
-    pub schedule: &'a str,
-}
-
 /// What the words of a command line ask for.
 #[derive(Clone, Copy, Debug, PartialEq, Eq)]
 pub enum Job<'a> {
@@ -200,8 +128,7 @@ pub enum Job<'a> {
         /// The name of the file that its schedule is written to, if one is. A replay of that
         /// schedule repeats this run. It is never the file of the machine text.
         record_to: Option<&'a str>,
-        /// The name of the file with what is expected of its report. The words never ask for this
-        /// of a recorded run.
+        /// The name of the file with what is expected of its report.
         expected: Option<&'a str>,
     },
     /// Replay a schedule on the machine text in a file, and go on from its end where `then_rest` is
@@ -256,97 +183,79 @@ impl<'a> Job<'a> {
         }
     }
 
-    /// The name of the file that is read beside the machine text, if there is one. It has the trace
-    /// or the schedule.
+    /// The name of the file with the trace, or with the schedule where that is in a file. None
+    /// where the job reads neither.
     pub fn second_file(&self) -> Option<&'a str>
         ensures { option_map (λ name. name.now) result ≡ second_file_of self.now }
     {
         match *self {
-            Job::Run { .. } | Job::Endings(_) | Job::Lint { .. } => None,
-            Job::Replay { schedule, .. } => list_name(schedule),
+            Job::Run { .. } | Job::Endings(_) | Job::Lint { schedule: None, .. } => None,
+            Job::Replay { schedule, .. }
+            | Job::Lint {
+                schedule: Some(schedule),
+                ..
+            } => list_name(schedule),
             Job::Audit { trace, .. } => Some(trace),
             Job::Chart(chart) => Some(chart.trace),
         }
     }
 
-    /// The recording that the job asks for, if it asks for one.
-    pub fn recording(&self) -> Option<Recording<'a>>
-        ensures { MatchOption result (record_of self.now ≡ None)
-            (λ recording. self.now ≡ job_of recording) }
+    /// The name of the file with what is expected of it, if anything is.
+    pub fn expected(&self) -> Option<&'a str>
+        ensures { option_map (λ name. name.now) result ≡ expected_of self.now }
     {
         match *self {
-            Job::Run {
-                file,
-                turns,
-                printed,
-                record_to: Some(name),
-                expected,
-            } => Some(Recording {
-                file,
-                turns,
-                printed,
-                name,
-                expected,
-            }),
+            Job::Run { expected, .. } | Job::Replay { expected, .. } => expected,
+            Job::Endings(search) => search.expected,
+            Job::Audit { .. } | Job::Chart(_) | Job::Lint { .. } => None,
+        }
+    }
+
+    /// The name of the file that its schedule is written to, if one is.
+    pub fn record_to(&self) -> Option<&'a str>
+        ensures { option_map (λ name. name.now) result ≡ record_of self.now }
+    {
+        match *self {
+            Job::Run { record_to, .. } => record_to,
             _ => None,
         }
     }
 
-    /// The job with its expectations, if it has any.
-    pub fn expecting(&self) -> Option<Expecting<'a>>
-        ensures { MatchOption result (expected_of self.now ≡ None)
-            (λ expecting. self.now ≡ expected_job expecting) }
+    /// The same job without a record, and of which nothing is expected.
+    pub fn alone(&self) -> Job<'a>
+        ensures { result ≡ alone self.now }
     {
         match *self {
             Job::Run {
                 file,
                 turns,
                 printed,
-                record_to: None,
-                expected: Some(name),
-            } => Some(Expecting {
+                ..
+            } => Job::Run {
                 file,
-                course: Course::Run { turns, printed },
-                name,
-            }),
+                turns,
+                printed,
+                record_to: None,
+                expected: None,
+            },
             Job::Replay {
                 file,
                 schedule,
                 then_rest,
                 printed,
-                expected: Some(name),
-            } => Some(Expecting {
+                ..
+            } => Job::Replay {
                 file,
-                course: Course::Replay {
-                    schedule,
-                    then_rest,
-                    printed,
-                },
-                name,
-            }),
-            Job::Endings(search) => match search.expected {
-                Some(name) => Some(Expecting {
-                    file: search.file,
-                    course: Course::Endings(search),
-                    name,
-                }),
-                None => None,
+                schedule,
+                then_rest,
+                printed,
+                expected: None,
             },
-            _ => None,
-        }
-    }
-
-    /// The machine text and the schedule that are checked, if the job checks a schedule.
-    pub fn list_lint(&self) -> Option<ListLint<'a>>
-        ensures { MatchOption result (lint_list_of self.now ≡ None)
-            (λ lint. self.now ≡ list_lint_job lint) }
-    {
-        match *self {
-            Job::Lint {
-                file,
-                schedule: Some(schedule),
-            } => Some(ListLint { file, schedule }),
-            _ => None,
+            Job::Endings(search) => Job::Endings(EndingsJob {
+                expected: None,
+                ..search
+            }),
+            other => other,
         }
     }
 

@@ -21,8 +21,7 @@ use Rattle.l4_trace.specs.declared.fault.TraceFault.{TraceFault}
 use Rattle.l4_trace.specs.declared.fault.TraceFault.TheVariants.{Line}
 use Rattle.l4_trace.proofs.ReadTexts.{first_fault, written}
 use Rattle.l4_trace.proofs.ReadingOn.{IsAhead, onto, here, one_more, rest_is, ended, line_faulty as faulty_line}
-use Rattle.l4_jobs.specs.Audits.{IsFaultOfTrace, fault_behind, fault_of_rest}
-use Rattle.l4_jobs.specs.Jobs.{fault_of_reading}
+use Rattle.l4_jobs.specs.Audits.{IsFaultOfTrace, fault_behind, fault_of_reading, fault_of_rest}
 use Rattle.l4_jobs.specs.declared.fault.Fault.{Fault}
 use Rattle.l4_jobs.specs.declared.fault.Fault.TheVariants as fault
 

@@ -1,6 +1,7 @@
 -- What is printed behind a trace, a report or the line of an audit.
 use Rattle.std.proofs.Common.{◌≡◌, ℕ, Bool, true, false, Some, List, [], ◌++◌, length, refl, ap, sym, ◌∙◌, append-nil, append_assoc}
 use Rattle.std.specs.Prelude.{◌||◌, if◌then◌else◌}
+use Rattle.std.specs.List.{list_all}
 use Rattle.l4_model.specs.History.{IsHistory, reached, view, waiting as undecided_sends}
 use Rattle.l4_model.specs.Machine.{Machine}
 use Rattle.l4_model.specs.Steps.{Step}
@@ -9,10 +10,10 @@ use Rattle.l4_counts.specs.Lines.{counts_text}
 use Rattle.l4_waits.specs.Lines.{waits_text}
 use Rattle.l4_machine.specs.Outcomes.{Findings}
 use Rattle.l4_reports.specs.ReportLines.{report_text}
-use Rattle.l4_trace.specs.Lines.{IsTraceOf}
-use Rattle.l4_jobs.specs.Audits.{HasPassed, passed_line, report_where, tells_refusals}
+use Rattle.l4_trace.specs.Lines.{IsTraceOf, has_line}
+use Rattle.l4_jobs.specs.Audits.{HasPassed, IsPassed, passed_line, report_where, tells_refusals}
 use Rattle.l4_jobs.specs.Extras.{behind}
-use Rattle.l4_jobs.specs.Jobs.{IsPassed, IsWritten, lines_of_outcome}
+use Rattle.l4_jobs.specs.Runs.{IsWritten, lines_of_outcome}
 use Rattle.l4_jobs.specs.declared.audits.PassedTrace.{PassedTrace}
 use Rattle.l4_commands.specs.declared.job.Extras.{Extras}
 use Rattle.l4_commands.specs.declared.job.Judged.{Judged}
@@ -50,22 +51,25 @@ nothing_behind e m w h lines = neither e.waits e.counts lines (waits_text m w) (
 -- Behind the lines of an outcome
 
 pub written_alone : (printed : Printed) (m : Machine) (o : Findings) (lines : List ℕ) → IsHistory m o.history →
-    (printed.extras.waits || printed.extras.counts) ≡ false → lines ≡ lines_of_outcome printed.report o → IsWritten printed m o lines
-written_alone printed m o lines (w, reaches) none is = record {
+    (printed.extras.waits || printed.extras.counts) ≡ false → lines ≡ lines_of_outcome printed.report o →
+    (printed.report ≡ false → list_all has_line o.history ≡ true) → IsWritten printed m o lines
+written_alone printed m o lines (w, reaches) none is spelled = record {
   world = w;
   reaches = reaches;
   lines_are = is ∙ nothing_behind printed.extras m w o.history (lines_of_outcome printed.report o) none;
+  spelled = spelled;
 }
 
 pub written_behind : (printed : Printed) (m : Machine) (o : Findings) (lines all : List ℕ) (h : List Step) → IsHistory m o.history → h ≡ o.history →
     lines ≡ lines_of_outcome printed.report o → ((w : World) → reached m h ≡ Some w → all ≡ lines ++ behind printed.extras m w h) →
-    IsWritten printed m o all
-written_behind printed m o lines all h (w, reaches) same is added = record {
+    (printed.report ≡ false → list_all has_line o.history ≡ true) → IsWritten printed m o all
+written_behind printed m o lines all h (w, reaches) same is added spelled = record {
   world = w;
   reaches = reaches;
   lines_are =
       added w (ap (reached m) same ∙ reaches) ∙ ap (λ l. l ++ behind printed.extras m w h) is
       ∙ ap (λ g. lines_of_outcome printed.report o ++ behind printed.extras m w g) same;
+  spelled = spelled;
 }
 
 -- Behind the line of an audit

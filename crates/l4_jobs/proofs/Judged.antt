@@ -19,9 +19,8 @@ use Rattle.l4_reports.specs.ReportLines.{report_text}
 use Rattle.l4_trace.specs.Lines.{IsTraceOf}
 use Rattle.l4_types.specs.declared.reports.Ending.{Ending}
 use Rattle.l4_commands.specs.declared.job.Judged.{Judged}
-use Rattle.l4_jobs.specs.Audits.{IsRefused, passed_line, report_where, tells_refusals}
+use Rattle.l4_jobs.specs.Audits.{IsPassed, IsRefused, passed_line, report_where, tells_refusals}
 use Rattle.l4_jobs.specs.Extras.{behind}
-use Rattle.l4_jobs.specs.Jobs.{IsPassed}
 
 abbrev shown_of : Judged → Shown
 shown_of judged = record { explain = judged.explain; report = judged.report }

@@ -1,19 +1,16 @@
 -- The schedule that is asked for, by a list or by a file that it names.
 use Rattle.std.proofs.Common.{◌≡◌, ℕ, ◌+◌, None, Result, Ok, Err, List, take, ap, sym, subst, inl, inr, ◌∙◌}
 use Rattle.std.specs.Prelude.{◌⊎◌, IfErr}
-use Rattle.std.specs.declared.io.ErrorKind.{ErrorKind}
 use Rattle.l4_model.specs.Machine.{Machine}
 use Rattle.l4_choices.specs.Entries.{Entry}
 use Rattle.l4_machine.specs.declared.outcome.RunFault.{RunFault}
 use Rattle.l4_machine.specs.declared.outcome.RunFault.TheVariants.{NoMemory as RunOutOfMemory}
 use Rattle.l4_schedules.specs.InFiles.{most_bytes, schedule_in_file}
 use Rattle.l4_schedules.proofs.Beginnings.{as_much}
-use Rattle.l4_jobs.specs.Jobs.{IsListFault, fault_of_result, fault_of_run, replayed}
+use Rattle.l4_jobs.specs.Inputs.{Gives}
+use Rattle.l4_jobs.specs.Schedules.{IsListFault, fault_of_result, fault_of_run, replayed}
 use Rattle.l4_jobs.specs.declared.fault.Fault.{Fault}
 use Rattle.l4_jobs.specs.declared.fault.Fault.TheVariants.{NoMemory as OutOfMemory}
-
-abbrev Gives : Type 1
-Gives = Result (List ℕ) ErrorKind → Type 0
 
 -- What was read of the file.
 abbrev pub IsReadOf : Gives → List ℕ → Type 0

@@ -1,8 +1,6 @@
 -- What is read of a trace, by the lines that spell its steps.
 use Rattle.std.proofs.Common.{◌≡◌, ℕ, Bool, true, false, Option, Some, None, Result, Ok, Err, List, ap, subst, sym, inl, inr, ◌∙◌}
 use Rattle.std.specs.Prelude.{◌⊎◌, IfErr}
-use Rattle.std.specs.declared.io.ErrorKind.{ErrorKind}
-use Rattle.l4_model.specs.Words.{GlobalId}
 use Rattle.l4_model.specs.Machine.{Machine}
 use Rattle.l4_model.specs.Steps.{Step}
 use Rattle.l4_model.specs.History.{refused_place}
@@ -11,10 +9,8 @@ use Rattle.l4_trace.specs.Reading.{HasFaultAt, Reads, steps_of}
 use Rattle.l4_trace.specs.declared.fault.TraceFault.{TraceFault}
 use Rattle.l4_trace.specs.declared.fault.TraceFault.TheVariants as trace_fault
 use Rattle.l4_trace.proofs.ReadTexts.{first_fault, one_spelling, read_back}
-use Rattle.l4_commands.specs.declared.job.ChartJob.{ChartJob}
-use Rattle.l4_jobs.specs.Audits.{IsFaultOfTrace, IsRefusedAt}
-use Rattle.l4_jobs.specs.ChartJobs.{chosen_by, fault_of_threads}
-use Rattle.l4_jobs.specs.Jobs.{IsChartFault, fault_of_reading}
+use Rattle.l4_jobs.specs.Audits.{IsFaultOfTrace, IsRefusedAt, IsTraceFault, fault_of_reading}
+use Rattle.l4_jobs.specs.Inputs.{Gives}
 use Rattle.l4_jobs.specs.declared.fault.Fault.{Fault}
 use Rattle.l4_jobs.specs.declared.fault.Fault.TheVariants as fault
 
@@ -46,11 +42,11 @@ line_fault tells m text (Ok x) e is reads = tt
 line_fault tells m text (Err f) trace_fault.NoMemory is reads = inl is
 line_fault tells m text (Err f) (trace_fault.Line line) is reads = inr (inl (line, is, (first_fault text line).0 reads))
 
--- The same of a chart, whose threads were found before.
-pub chart_fault : {X : Type 0} (chart : ChartJob) (m : Machine) (gives : Result (List ℕ) ErrorKind → Type 0) (text slice : List ℕ)
-    (threads : Option (List GlobalId)) (r : Result X Fault) → chosen_by m chart ≡ Ok threads → gives (Ok text) → slice ≡ text →
-    IfErr r (λ f. (f ≡ fault.NoMemory) ⊎ IsFaultOfTrace true m slice f) → IfErr r (λ f. (f ≡ fault.NoMemory) ⊎ IsChartFault chart m gives f)
-chart_fault chart m gives text slice threads (Ok x) chosen given same is = tt
-chart_fault chart m gives text slice threads (Err f) chosen given same (inl none) = inl none
-chart_fault chart m gives text slice threads (Err f) chosen given same (inr is) =
-    inr (inr (ap fault_of_threads chosen, inr (text, given, subst (λ t. IsFaultOfTrace true m t f) same is)))
+-- The fault of what was read of a file is that of its trace.
+pub read_fault : {X : Type 0} (tells : Bool) (m : Machine) (name : List ℕ) (gives : Gives) (text slice : List ℕ) (r : Result X Fault) (f : Fault) →
+    IfErr r (λ e. e ≡ f) → gives (Ok text) → slice ≡ text → (f ≡ fault.NoMemory) ⊎ IsFaultOfTrace tells m slice f →
+    IfErr r (λ e. (e ≡ fault.NoMemory) ⊎ IsTraceFault tells m name gives e)
+read_fault tells m name gives text slice (Ok x) f is given same faulty = tt
+read_fault tells m name gives text slice (Err e) f is given same (inl none) = inl (is ∙ none)
+read_fault tells m name gives text slice (Err e) f is given same (inr faulty) =
+    inr (inr (text, given, subst (λ t. IsFaultOfTrace tells m t e) same (subst (IsFaultOfTrace tells m slice) (sym is) faulty)))

@@ -1,5 +1,5 @@
 -- The audit of the text of a trace, its line and its fault.
-use Rattle.std.specs.Prelude.{◌≡◌, ◌↔◌, ◌⊎◌, ◌+◌, ◌||◌, ℕ, Bool, true, false, if◌then◌else◌, Option, Some, Result, Ok, Err, List, [], ◌∷◌, ◌++◌, length, slice_get, take, codes, decimal}
+use Rattle.std.specs.Prelude.{◌≡◌, ◌↔◌, ◌⊎◌, ◌+◌, ◌||◌, ℕ, Bool, true, false, if◌then◌else◌, Option, Some, None, Result, Ok, Err, List, [], ◌∷◌, ◌++◌, length, slice_get, take, codes, decimal}
 use Rattle.l4_model.specs.Machine.{Machine}
 use Rattle.l4_model.specs.Steps.{Step}
 use Rattle.l4_model.specs.World.{World}
@@ -16,6 +16,12 @@ use Rattle.l4_reports.specs.ReportLines.{ending_word, report_text}
 use Rattle.l4_trace.specs.Lines.{IsTraceOf, line_of_words}
 use Rattle.l4_trace.specs.Reading.{HasFaultAt}
 use Rattle.l4_types.specs.declared.reports.Ending.{Ending}
+use Rattle.l4_trace.specs.declared.fault.TraceFault.{TraceFault}
+use Rattle.l4_trace.specs.declared.fault.TraceFault.TheVariants as trace_fault
+use Rattle.l4_jobs.specs.Extras.{behind}
+use Rattle.l4_jobs.specs.FaultLines.{fault_line}
+use Rattle.l4_jobs.specs.Inputs.{FailsWith, Gives}
+use Rattle.l4_jobs.specs.Outputs.{Output}
 use Rattle.l4_jobs.specs.declared.audits.PassedTrace.{PassedTrace}
 use Rattle.l4_jobs.specs.declared.fault.Fault.{Fault}
 use Rattle.l4_jobs.specs.declared.fault.Fault.TheVariants as fault
@@ -91,3 +97,51 @@ pub record IsRefused (judged : Judged) (m : Machine) (trace lines : List ℕ) : 
   pub lines_are : lines ≡
       explanation_where judged.explain m world because
       ++ report_where judged.report m world (take taken steps) ending
+
+-- What an audit prints
+
+-- The lines of a trace that passes tell how many steps it has, and whether only clocks can go on
+-- behind them. What is asked for follows.
+pub record IsPassed (judged : Judged) (machine : Machine) (trace lines : List ℕ) : Type 0 where
+  pub steps : List Step
+  pub reads : IsTraceOf trace steps
+  pub world : World
+  pub reaches : reached machine steps ≡ Some world
+  pub ending : Ending
+  pub quiet : (is_quiet ending ≡ true) ↔ IsStill machine world
+  pub lines_are : lines ≡
+      passed_line (length steps) ending ++ report_where judged.report machine world steps ending
+      ++ behind judged.extras machine world steps
+
+-- The trace is a history, or the lines tell of its first step that is not possible.
+abbrev pub IsAudited : Judged → Machine → (trace lines : List ℕ) → (status : ℕ) → Type 0
+IsAudited judged m trace lines status =
+    (IsPassed judged m trace lines × (status ≡ 0)) ⊎ (IsRefused judged m trace lines × (status ≡ 1))
+
+-- The first step that is not possible, where anything is printed of such a trace.
+abbrev pub IsRefusedBy : (tells : Bool) → Machine → (trace : List ℕ) → Option ℕ → Type 0
+IsRefusedBy true m trace refused = IsRefusedAt m trace refused
+IsRefusedBy false m trace refused = refused ≡ None
+
+-- What is said of such a step on the faults.
+abbrev pub refusal_text : (refused : Option ℕ) → List ℕ
+refusal_text None = []
+refusal_text (Some number) = fault_line (fault.Refused number)
+
+pub record IsAuditDone (judged : Judged) (m : Machine) (trace : List ℕ) (o : Output) : Type 0 where
+  pub audited : IsAudited judged m trace o.lines o.status
+  pub refused : Option ℕ
+  pub refused_at : IsRefusedBy (tells_refusals judged) m trace refused
+  pub said : o.said ≡ refusal_text refused
+  pub unrecorded : o.list ≡ None
+
+-- Why nothing is printed of a trace. It is read only where there is a machine to audit it on.
+
+abbrev pub fault_of_reading : TraceFault → Fault
+fault_of_reading trace_fault.NoMemory = fault.NoMemory
+fault_of_reading (trace_fault.Line line) = fault.Trace line
+
+abbrev pub IsTraceFault : (tells : Bool) → Machine → (name : List ℕ) → Gives → Fault → Type 0
+IsTraceFault tells m name gives f =
+    FailsWith name gives f
+    ⊎ ((trace : List ℕ) × gives (Ok trace) × IsFaultOfTrace tells m trace f)

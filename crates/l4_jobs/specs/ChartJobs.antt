@@ -1,5 +1,5 @@
 -- What a chart of a trace shows, and its faults.
-use Rattle.std.specs.Prelude.{◌≡◌, ◌==◌, ℕ, if◌then◌else◌, Option, Some, None, Result, Ok, Err, List}
+use Rattle.std.specs.Prelude.{◌≡◌, ◌⊎◌, ◌==◌, ℕ, true, if◌then◌else◌, Option, Some, None, Result, Ok, Err, List}
 use Rattle.std.specs.Option.{option_copied}
 use Rattle.l4_model.specs.Words.{GlobalId}
 use Rattle.l4_model.specs.Machine.{Machine}
@@ -12,6 +12,9 @@ use Rattle.l4_chart.specs.Windows.{Part, until_refused}
 use Rattle.l4_chart.specs.declared.threads.ThreadsFault.{ThreadsFault}
 use Rattle.l4_chart.specs.declared.threads.ThreadsFault.TheVariants as threads_fault
 use Rattle.l4_trace.specs.Lines.{IsTraceOf}
+use Rattle.l4_jobs.specs.Audits.{IsRefusedAt, IsTraceFault, refusal_text}
+use Rattle.l4_jobs.specs.Inputs.{Gives}
+use Rattle.l4_jobs.specs.Outputs.{Output}
 use Rattle.l4_jobs.specs.declared.fault.Fault.{Fault}
 use Rattle.l4_jobs.specs.declared.fault.Fault.TheVariants as fault
 use Rattle.l4_chart.specs.declared.drawing.Form.{Form}
@@ -72,3 +75,17 @@ fault_of_list (threads_fault.Item number) = fault.Threads number
 abbrev pub fault_of_threads : Result (Option (List GlobalId)) ℕ → Option Fault
 fault_of_threads (Ok threads) = None
 fault_of_threads (Err number) = Some (fault.Threads number)
+
+pub record IsChartDone (chart : ChartJob) (m : Machine) (trace : List ℕ) (o : Output) : Type 0 where
+  pub charted : IsCharted chart m trace o.lines o.status
+  pub refused : Option ℕ
+  pub refused_at : IsRefusedAt m trace refused
+  pub said : o.said ≡ refusal_text refused
+  pub unrecorded : o.list ≡ None
+
+-- The fault of a chart: that of its list of threads, else that of its trace. It tells of a refused
+-- step.
+abbrev pub IsChartFault : ChartJob → Machine → Gives → Fault → Type 0
+IsChartFault chart m gives f =
+    (fault_of_threads (chosen_by m chart) ≡ Some f)
+    ⊎ ((fault_of_threads (chosen_by m chart) ≡ None) × IsTraceFault true m chart.trace.now gives f)

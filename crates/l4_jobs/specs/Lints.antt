@@ -1,51 +1,41 @@
--- What a lint prints for a machine text, and how it ends.
-use Rattle.std.specs.Prelude.{◌≡◌, ◌⊎◌, ℕ, Bool, true, false, Result, Ok, Err, List}
-use Rattle.std.specs.declared.io.ErrorKind.{ErrorKind}
+-- What a lint prints for a machine text, and for a list of items for its machine.
+use Rattle.std.specs.Prelude.{◌≡◌, ◌==◌, ◌++◌, ℕ, Option, Some, None, if◌then◌else◌, List, [], length}
+use Rattle.std.specs.Borrow.{Bor}
+use Rattle.l4_model.specs.Machine.{Machine}
 use Rattle.l4_lint.specs.Doubts.{lint_text}
 use Rattle.l4_lint.specs.Faults.{faults_of}
 use Rattle.l4_lint.specs.Spelling.{status_of}
-use Rattle.l4_commands.specs.declared.job.Job.{Job}
-use Rattle.l4_commands.specs.declared.job.Job.TheVariants.{Lint}
-use Rattle.l4_jobs.specs.FaultLines.{IsReported}
-use Rattle.l4_jobs.specs.Jobs.{IsUnread}
-use Rattle.l4_jobs.specs.declared.fault.Fault.{Fault}
-use Rattle.l4_jobs.specs.declared.fault.Fault.TheVariants as fault
+use Rattle.l4_schedules.specs.Faulty.{Fault as ListFault, faults_text, file_faults, list_faults}
+use Rattle.l4_commands.specs.Files.{list_name}
+use Rattle.l4_jobs.specs.Outputs.{Output}
 
 -- A line for each fault, or where there is none, for each doubt. The status tells whether there is
 -- a fault.
-abbrev pub IsLintOf : (text lines : List ℕ) → (status : ℕ) → Type 0
-IsLintOf text lines status =
-    (lines ≡ lint_text text) × (status ≡ status_of (faults_of text))
+pub record IsLinted (text : List ℕ) (o : Output) : Type 0 where
+  pub lines_are : o.lines ≡ lint_text text
+  pub status_is : o.status ≡ status_of (faults_of text)
+  pub said : o.said ≡ []
+  pub unrecorded : o.list ≡ None
 
--- Why nothing is printed: memory was refused, or the file of this name can't be read.
-abbrev pub IsLintFault : (file : List ℕ) → (machine : Result (List ℕ) ErrorKind → Type 0) →
-    Fault → Type 0
-IsLintFault file machine f = (f ≡ fault.NoMemory) ⊎
-    ((kind : ErrorKind) × machine (Err kind) × IsUnread file kind f)
+-- The faults of a list, or of the list in a file.
 
--- The lines were written once, and the status is that of the text. Or they were not written whole,
--- and that was reported with status 1.
-abbrev pub IsSaid : (lines : List ℕ) → (said status : ℕ) → (out : List ℕ → Bool → Type 0) →
-    (keeps_faults : Type 0) →
-    (faults : List ℕ → Bool → Type 0) → Type 0
-IsSaid lines said status out keeps_faults faults =
-    ((status ≡ said) × out lines true × keeps_faults) ⊎
-    ((status ≡ 1) × out lines false × IsReported faults fault.Write)
+abbrev pub named_faults : Machine → (name : Option (List ℕ)) → (list text : List ℕ) → List ListFault
+named_faults m None list text = list_faults m list
+named_faults m (Some name) list text = file_faults m text
 
--- The lint of what the reader gave was printed, or a fault was reported with status 1.
-abbrev pub IsLinted : (file : List ℕ) → (machine : Result (List ℕ) ErrorKind → Type 0) →
-    (out : List ℕ → Bool → Type 0) → (keeps_out : Type 0) →
-    (keeps_faults : Type 0) → (faults : List ℕ → Bool → Type 0) → (status : ℕ) → Type 0
-IsLinted file machine out keeps_out keeps_faults faults status =
-    ((text : List ℕ) × (lines : List ℕ) × (said : ℕ) × machine (Ok text) ×
-    IsLintOf text lines said × IsSaid lines said status out keeps_faults faults)
-    ⊎ ((f : Fault) × IsLintFault file machine f × (status ≡ 1) × keeps_out × IsReported faults f)
+abbrev pub asked_faults : Machine → (schedule : Option (Bor (List ℕ))) → (text : List ℕ) →
+    List ListFault
+asked_faults m None text = []
+asked_faults m (Some list) text = named_faults m (list_name list.now) list.now text
 
--- A job of kind `Lint` had status 1, as the text has a fault or the lines were not written.
-abbrev pub IsLintEnded : Job → (machine : Result (List ℕ) ErrorKind → Type 0) →
-    (out : List ℕ → Bool → Type 0) → (keeps_faults : Type 0) →
-    (faults : List ℕ → Bool → Type 0) → Type 0
-IsLintEnded (Lint file schedule) machine out keeps_faults faults =
-    (text : List ℕ) × (lines : List ℕ) × (said : ℕ) × machine (Ok text) × IsLintOf text lines said ×
-    IsSaid lines said 1 out keeps_faults faults
-IsLintEnded _ machine out keeps_faults faults = ⊥
+abbrev pub status_of_list : List ListFault → ℕ
+status_of_list found = if length found == 0 then 0 else 1
+
+-- Of a text that declares a machine, the doubts are printed, and behind them the faults of the
+-- list, where one is given. The status tells whether the list has a fault.
+pub record IsListLinted (text : List ℕ) (m : Machine) (schedule : Option (Bor (List ℕ)))
+    (list : List ℕ) (o : Output) : Type 0 where
+  pub lines_are : o.lines ≡ lint_text text ++ faults_text (asked_faults m schedule list)
+  pub status_is : o.status ≡ status_of_list (asked_faults m schedule list)
+  pub said : o.said ≡ []
+  pub unrecorded : o.list ≡ None

@@ -1,13 +1,15 @@
--- What a search for all endings is asked, and its faults.
-use Rattle.std.specs.Prelude.{Bool, true, false, ℕ, List, Option, None}
+-- What a search for all endings is asked, what it prints, and its faults.
+use Rattle.std.specs.Prelude.{◌≡◌, Option, None, List}
 use Rattle.std.specs.Option.{option_map}
 use Rattle.l4_model.specs.Machine.{Machine}
-use Rattle.l4_questions.specs.Answers.{IsAnswered, question_fault}
+use Rattle.l4_expect.specs.Expected.{Expected}
+use Rattle.l4_questions.specs.Answers.{question_fault}
 use Rattle.l4_questions.specs.Beside.{IsAnsweredBeside}
 use Rattle.l4_questions.specs.declared.question.Question.{Question}
 use Rattle.l4_questions.specs.declared.question.QuestionFault.{QuestionFault}
 use Rattle.l4_questions.specs.declared.question.QuestionFault.TheVariants as question
 use Rattle.l4_commands.specs.declared.job.EndingsJob.{EndingsJob}
+use Rattle.l4_jobs.specs.Outputs.{Output}
 use Rattle.l4_jobs.specs.declared.fault.Fault.{Fault}
 use Rattle.l4_jobs.specs.declared.fault.Fault.TheVariants as fault
 
@@ -21,15 +23,13 @@ question_of e = record {
   none = e.none;
 }
 
--- What a search without expectations prints: the answer, and behind each ending who waits for whom,
--- where that is asked for.
-abbrev pub IsFound : (waits : Bool) → Machine → Question → (lines : List ℕ) → (status : ℕ) → Type 0
-IsFound false m q lines status = IsAnswered m q lines status
-IsFound true m q lines status =
-    (unmet : List ℕ) × IsAnsweredBeside m q true None lines unmet status
-
-abbrev pub IsFoundBy : EndingsJob → Machine → (lines : List ℕ) → (status : ℕ) → Type 0
-IsFoundBy search m lines status = IsFound search.waits m (question_of search) lines status
+-- The answer is printed, and behind each ending who waits for whom, where that is asked for. Each
+-- ending that is printed has to meet what is expected.
+pub record IsSearchDone (search : EndingsJob) (m : Machine) (expected : Option (List Expected))
+    (o : Output) : Type 0 where
+  pub answered :
+      IsAnsweredBeside m (question_of search) search.waits expected o.lines o.said o.status
+  pub unrecorded : o.list ≡ None
 
 abbrev pub fault_of_question : QuestionFault → Fault
 fault_of_question question.NoMemory = fault.NoMemory

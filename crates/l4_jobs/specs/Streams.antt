@@ -2,7 +2,10 @@
 use Rattle.std.specs.Prelude.{◌≡◌, ◌⊎◌, ℕ, Bool, true, false, Option, Some, None, Result, Ok, Err, List, ◌++◌}
 use Rattle.std.specs.Io.KnownBytes.{Appends}
 use Rattle.std.specs.declared.io.ErrorKind.{ErrorKind}
+use Rattle.std.specs.declared.io.ErrorKind.TheVariants.{NotFound}
 use Rattle.l4_commands.specs.Files.{is_input}
+use Rattle.l4_jobs.specs.declared.streams.Given.{Given}
+use Rattle.l4_jobs.specs.declared.streams.Given.TheVariants.{Source, Nothing}
 use Rattle.l4_jobs.specs.declared.streams.Opened.{Opened}
 use Rattle.l4_jobs.specs.declared.streams.Opened.TheVariants.{File as FileOpened, Input as InputOpened}
 
@@ -36,14 +39,11 @@ IsCreated {Made} creates takes name bytes false =
     ((kind : ErrorKind) × creates name (Err kind))
     ⊎ ((made : Made) × (written : Made) × creates name (Ok made) × takes made written bytes false)
 
--- What reading the file of a name may come to: it is opened and then read.
-abbrev pub FileGives : {File : Type 0} → (opens : List ℕ → Result File ErrorKind → Type 0) →
-    (gives : File → Result (List ℕ) ErrorKind → Type 0) →
-    (name : List ℕ) → Result (List ℕ) ErrorKind → Type 0
-FileGives {File} opens gives name (Ok text) = (file : File) × opens name (Ok file) ×
-    gives file (Ok text)
-FileGives {File} opens gives name (Err kind) = opens name (Err kind) ⊎
-    ((file : File) × opens name (Ok file) × gives file (Err kind))
+-- What reading a source may give, where there is one. Where there is none, nothing is found.
+abbrev pub GivenGives : {Of : Type 0} → (gives : Of → Result (List ℕ) ErrorKind → Type 0) →
+    Given Of → Result (List ℕ) ErrorKind → Type 0
+GivenGives gives (Source source) read = gives source read
+GivenGives gives Nothing read = read ≡ Err NotFound
 
 -- What reading an opened file or input may give.
 abbrev pub OpenedGives : {File Input : Type 0} →

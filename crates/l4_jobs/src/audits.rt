@@ -1,19 +1,23 @@
 //! The audit of a trace, and the line that it prints.
 ghost use Rattle.std.specs.Prelude.{◌≡◌, ◌⊎◌, ◌++◌, ℕ, List, false, true, length, IfOk, IfErr, Ok, Some};
-ghost use Rattle.l4_jobs.specs.Audits.{HasPassed, IsFaultOfTrace, IsRefusedAt};
+ghost use Rattle.l4_jobs.specs.Audits.{HasPassed, IsAuditDone, IsAudited, IsFaultOfTrace};
+ghost use Rattle.l4_jobs.specs.Audits.{IsPassed, IsRefusedAt, IsRefusedBy, IsTraceFault};
 ghost use Rattle.l4_jobs.specs.Audits.{fault_behind, passed_line, tells_refusals};
 ghost use Rattle.l4_jobs.specs.Extras.{behind};
-ghost use Rattle.l4_jobs.specs.Jobs.{IsAudited, IsPassed};
+ghost use Rattle.l4_jobs.specs.Outputs.{output_of};
 ghost use Rattle.l4_jobs.specs.declared.fault.Fault.TheVariants.{NoMemory as OutOfMemory};
 ghost use Rattle.l4_model.specs.History.{IsHistory, reached, refused_place};
 ghost use Rattle.l4_model.specs.World.{World};
 ghost use Rattle.l4_trace.specs.Lines.{IsTraceOf};
 ghost use Rattle.l4_trace.specs.Reading.{steps_of};
 
+use crate::done::Done;
 use crate::extras::write_extras;
 use crate::fault::Fault;
 use crate::job::{Extras, Judged};
-use crate::perform::Output;
+use crate::reading::read_all;
+use crate::streams::Source;
+use crate::trace_output::TraceOutput;
 use l4_audit::auditor::Auditor;
 use l4_audit::reasons::StepFault;
 use l4_explain::accounts::{Account, Shown, account_of};
@@ -131,7 +135,7 @@ fn judged_history(
     machine: &Machine,
     history: &History,
     judged: Judged,
-) -> Result<Output, NoMemory>
+) -> Result<TraceOutput, NoMemory>
     requires { tells_refusals judged ≡ true }
     ensures lines { IfOk result (λ output.
         (trace : List ℕ) → IsTraceOf trace history.now.steps →
@@ -145,12 +149,12 @@ fn judged_history(
     };
     let account = account_of(alloc, machine, history, shown)?;
     match account.refused {
-        None => Ok(Output {
+        None => Ok(TraceOutput {
             lines: passed_lines(alloc, machine, history, &account, judged.extras)?,
             status: 0,
             refused: None,
         }),
-        Some(number) => Ok(Output {
+        Some(number) => Ok(TraceOutput {
             lines: account.lines,
             status: 1,
             refused: Some(number),
@@ -164,7 +168,7 @@ pub(crate) fn judged_trace<'a>(
     machine: &Machine,
     trace: &[u8],
     judged: Judged,
-) -> Result<Output, Fault<'a>>
+) -> Result<TraceOutput, Fault<'a>>
     requires { tells_refusals judged ≡ true }
     ensures lines { IfOk result (λ output.
         IsAudited judged machine.now trace.now output.lines.items output.status) }
@@ -183,4 +187,46 @@ fn passed_line(alloc: Global, steps: usize, ending: Ending) -> Result<Vec<u8>, N
     let mut line = String::new(alloc);
     writeln!(line, "passed {steps} {}", spelled_ending(ending))?;
     Ok(line.into_bytes())
+}
+
+// What is printed of the text of a trace.
+fn trace_output<'a>(
+    alloc: Global,
+    machine: &Machine,
+    trace: &[u8],
+    judged: Judged,
+) -> Result<TraceOutput, Fault<'a>>
+    ensures audited { IfOk result (λ output.
+        IsAudited judged machine.now trace.now output.lines.items output.status) }
+    ensures refused { IfOk result (λ output.
+        IsRefusedBy (tells_refusals judged) machine.now trace.now output.refused) }
+    ensures err { IfErr result (λ fault. (fault ≡ OutOfMemory) ⊎
+        IsFaultOfTrace (tells_refusals judged) machine.now trace.now fault) }
+{
+    if judged.tells_refusals() {
+        return judged_trace(alloc, machine, trace, judged);
+    }
+    Ok(TraceOutput {
+        lines: audited(alloc, machine, trace, judged)?,
+        status: 0,
+        refused: None,
+    })
+}
+
+/// What an audit comes to, for the trace that its source gives.
+pub(crate) fn audit_done<'a, T: Source>(
+    alloc: Global,
+    machine: &Machine,
+    name: &'a str,
+    judged: Judged,
+    trace: &mut T,
+) -> Result<Done<'a>, Fault<'a>>
+    ensures ok { IfOk result (λ done. (text : List ℕ) × T.gives trace.old (Ok text) ×
+        IsAuditDone judged machine.now text (output_of done)) }
+    ensures err { IfErr result (λ fault. (fault ≡ OutOfMemory) ⊎
+        IsTraceFault (tells_refusals judged) machine.now name.now (T.gives trace.old) fault) }
+{
+    let text = read_all(alloc, name, trace)?;
+    let output = trace_output(alloc, machine, text.as_slice(), judged)?;
+    Ok(output.into_done(alloc)?)
 }

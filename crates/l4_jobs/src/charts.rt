@@ -1,20 +1,23 @@
 //! The chart of a trace.
-ghost use Rattle.std.specs.Prelude.{◌≡◌, ◌⊎◌, ℕ, List, IfOk, IfErr, Ok, Err, Some, map};
+ghost use Rattle.std.specs.Prelude.{◌≡◌, ◌⊎◌, ℕ, List, IfOk, IfErr, Ok, Some, map, true};
 ghost use Rattle.std.specs.Option.{option_copied, option_map};
 ghost use Rattle.l4_model.specs.History.{refused_place};
 ghost use Rattle.l4_chart.specs.Charts.{columns_of, row_of, rows_of};
 ghost use Rattle.l4_chart.specs.Drawings.{IsDrawing};
 ghost use Rattle.l4_chart.specs.Windows.{until_refused};
-ghost use Rattle.l4_jobs.specs.Audits.{IsRefusedAt};
-ghost use Rattle.l4_jobs.specs.ChartJobs.{IsCharted, chosen_by, drawing_form, fault_of_threads};
+ghost use Rattle.l4_jobs.specs.Audits.{IsFaultOfTrace, IsRefusedAt};
+ghost use Rattle.l4_jobs.specs.ChartJobs.{IsChartDone, IsChartFault, IsCharted, chosen_by};
+ghost use Rattle.l4_jobs.specs.ChartJobs.{drawing_form, fault_of_threads};
 ghost use Rattle.l4_jobs.specs.ChartJobs.{part_of, status_of_refused, width_of};
-ghost use Rattle.l4_jobs.specs.Jobs.{IsChartFault};
+ghost use Rattle.l4_jobs.specs.Outputs.{output_of};
 ghost use Rattle.l4_jobs.specs.declared.fault.Fault.TheVariants.{NoMemory as OutOfMemory};
 
-use crate::fault::{Fault, unread};
+use crate::done::Done;
+use crate::fault::Fault;
 use crate::job::{ChartForm, ChartJob};
-use crate::perform::Output;
+use crate::reading::read_all;
 use crate::streams::Source;
+use crate::trace_output::TraceOutput;
 use l4_chart::chart::Chart;
 use l4_chart::drawing::{Form, drawing_of};
 use l4_chart::refused::refused_step;
@@ -106,7 +109,7 @@ fn drawn(
     chart: &ChartJob<'_>,
     threads: Option<&[GlobalId]>,
     history: &History,
-) -> Result<Output, NoMemory>
+) -> Result<TraceOutput, NoMemory>
     ensures refused { IfOk result (λ output.
         output.refused ≡ refused_place machine.now history.now.steps) }
     ensures status { IfOk result (λ output.
@@ -123,32 +126,46 @@ fn drawn(
     let all = Window::new(chart.first as usize, chart.last as usize, threads);
     let window = all.until_refused(refused);
     let shown = Chart::new(alloc, machine, history, &window)?;
-    Ok(Output {
+    Ok(TraceOutput {
         lines: drawing(alloc, chart, &shown)?,
         status: status_of_refused(refused),
         refused,
     })
 }
 
-// What a chart prints, for the trace that its source gives.
-pub(crate) fn chart_output<'a, T: Source>(
+// What the chart of the text of a trace prints.
+fn chart_output<'a>(
+    alloc: Global,
+    machine: &Machine,
+    chart: &ChartJob<'_>,
+    threads: Option<&[GlobalId]>,
+    text: &[u8],
+) -> Result<TraceOutput, Fault<'a>>
+    ensures charted { IfOk result (λ output.
+        chosen_by machine.now chart.now ≡ Ok (option_copied threads.entry) →
+        IsCharted chart.now machine.now text.now output.lines.items output.status) }
+    ensures refused { IfOk result (λ output. IsRefusedAt machine.now text.now output.refused) }
+    ensures err { IfErr result (λ fault. (fault ≡ OutOfMemory) ⊎
+        IsFaultOfTrace true machine.now text.now fault) }
+{
+    let history = read_history(alloc, text)?;
+    Ok(drawn(alloc, machine, chart, threads, &history)?)
+}
+
+/// What a chart comes to, for the trace that its source gives.
+pub(crate) fn chart_done<'a, T: Source>(
     alloc: Global,
     machine: &Machine,
     chart: &ChartJob<'a>,
     trace: &mut T,
-) -> Result<Output, Fault<'a>>
-    ensures ok { IfOk result (λ output. (text : List ℕ) × T.gives trace.old (Ok text) ×
-        IsCharted chart.now machine.now text output.lines.items output.status ×
-        IsRefusedAt machine.now text output.refused) }
+) -> Result<Done<'a>, Fault<'a>>
+    ensures ok { IfOk result (λ done. (text : List ℕ) × T.gives trace.old (Ok text) ×
+        IsChartDone chart.now machine.now text (output_of done)) }
     ensures err { IfErr result (λ fault. (fault ≡ OutOfMemory) ⊎
         IsChartFault chart.now machine.now (T.gives trace.old) fault) }
 {
     let threads = listed_threads(alloc, machine, chart)?;
-    let text = match trace.read_whole(alloc) {
-        Ok(text) => text,
-        Err(kind) => return Err(unread(chart.trace, kind)),
-    };
-    let history = read_history(alloc, text.as_slice())?;
-    let listed = list_of(&threads);
-    Ok(drawn(alloc, machine, chart, listed, &history)?)
+    let text = read_all(alloc, chart.trace, trace)?;
+    let output = chart_output(alloc, machine, chart, list_of(&threads), text.as_slice())?;
+    Ok(output.into_done(alloc)?)
 }

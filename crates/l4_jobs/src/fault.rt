@@ -1,11 +1,14 @@
 //! What the program reports on standard error, one line each.
 ghost use Rattle.std.specs.Prelude.{◌≡◌, ◌⊎◌, IfOk, Some};
 ghost use Rattle.std.specs.String.{string_bytes};
-ghost use Rattle.l4_jobs.specs.Expecting.{fault_of_expect};
+ghost use Rattle.l4_jobs.specs.Audits.{fault_of_reading};
+ghost use Rattle.l4_jobs.specs.ChartJobs.{fault_of_list};
+ghost use Rattle.l4_jobs.specs.Expectations.{fault_of_expect};
 ghost use Rattle.l4_jobs.specs.FaultLines.{kind_word, wrong_word, fault_words, fault_line};
 ghost use Rattle.l4_jobs.specs.FaultLines.{IsReported};
-ghost use Rattle.l4_jobs.specs.Jobs.{IsUnread, text_fault, fault_of_run, fault_of_reading};
-ghost use Rattle.l4_jobs.specs.ChartJobs.{fault_of_list};
+ghost use Rattle.l4_jobs.specs.Inputs.{IsUnread};
+ghost use Rattle.l4_jobs.specs.Jobs.{text_fault};
+ghost use Rattle.l4_jobs.specs.Schedules.{fault_of_run};
 ghost use Rattle.l4_jobs.specs.Searches.{fault_of_question};
 ghost use Rattle.l4_jobs.specs.declared.fault.Fault.TheVariants.{NoMemory as OutOfMemory};
 

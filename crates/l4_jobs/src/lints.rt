@@ -1,70 +1,111 @@
-//! Reporting all faults of a machine text.
-ghost use Rattle.std.specs.Prelude.{◌≡◌, [], ℕ, List, None, IfOk, IfErr, Ok};
-ghost use Rattle.l4_lint.specs.Doubts.{doubts_of, doubts_text};
+//! What a lint comes to: the faults and doubts of a machine text, and the faults of a list for it.
+ghost use Rattle.std.specs.Prelude.{◌≡◌, ◌==◌, ◌++◌, ◌⊎◌, [], ℕ, List, IfOk, IfErr, Ok, length};
+ghost use Rattle.std.specs.Prelude.{None, if◌then◌else◌, IsSomeAnd};
+ghost use Rattle.l4_commands.specs.Files.{list_name, list_name_in};
 ghost use Rattle.l4_lint.specs.Faults.{faults_of};
-ghost use Rattle.l4_jobs.specs.Lints.{IsLintFault, IsLintOf, IsLinted, IsSaid};
+ghost use Rattle.l4_schedules.specs.Faulty.{faults_text, file_faults};
+ghost use Rattle.l4_jobs.specs.Inputs.{FailsWith, IsRead};
+ghost use Rattle.l4_jobs.specs.Lints.{IsLinted, IsListLinted, asked_faults, named_faults};
+ghost use Rattle.l4_jobs.specs.Lints.{status_of_list};
+ghost use Rattle.l4_jobs.specs.Outputs.{output_of};
+ghost use Rattle.l4_jobs.specs.declared.fault.Fault.TheVariants.{NoMemory as OutOfMemory};
 
-use crate::fault::{Fault, report};
-use crate::perform::Output;
-use crate::reading::read_text;
-use crate::streams::{Sink, Source};
+use crate::done::Done;
+use crate::fault::Fault;
+use crate::job::list_name;
+use crate::reading::read_list;
+use crate::streams::Source;
 use l4_lint::lint::lint_with_doubts;
-use l4_lint::printed::Lint;
+use l4_schedules::faulty::{write_file_faults, write_list_faults};
+use l4_script::machine::Machine;
 use l4_types::errors::NoMemory;
 use std::alloc::Global;
 
-// The lint of the text that the source gives.
-fn linted<'a, M: Source>(alloc: Global, name: &'a str, machine: &mut M) -> Result<Lint, Fault<'a>>
-    ensures ok { IfOk result (λ lint. (text : List ℕ) × M.gives machine.old (Ok text) ×
-        IsLintOf text lint.lines.items lint.status) }
-    ensures err { IfErr result (IsLintFault name.now (M.gives machine.old)) }
+/// What a lint of a text alone comes to.
+pub(crate) fn lint_done<'a>(alloc: Global, text: &[u8]) -> Result<Done<'a>, NoMemory>
+    ensures { IfOk result (λ done. IsLinted text.now (output_of done)) }
 {
-    let text = read_text(alloc, name, machine)?;
-    Ok(lint_with_doubts(alloc, text.as_slice())?)
-}
-
-// What is printed for a text without a fault: all that is doubtful in it.
-pub(crate) fn doubts_output(alloc: Global, text: &[u8]) -> Result<Output, NoMemory>
-    requires { faults_of text.now ≡ [] }
-    ensures lines { IfOk result (λ output.
-        (output.lines.items ≡ doubts_text (doubts_of text.now)) × (output.status ≡ 0)) }
-    ensures whole { IfOk result (λ output. output.refused ≡ None) }
-{
-    let said = lint_with_doubts(alloc, text)?;
-    Ok(Output {
-        lines: said.lines,
-        status: said.status,
-        refused: None,
+    let lint = lint_with_doubts(alloc, text)?;
+    Ok(Done {
+        lines: lint.lines,
+        list: None,
+        said: Vec::new(alloc),
+        status: lint.status,
     })
 }
 
-// Prints a lint, and returns the exit status.
-pub(crate) fn said<W: Sink, E: Sink>(alloc: Global, lint: &Lint, out: &mut W, faults: &mut E) -> u8
-    ensures { IsSaid lint.now.lines.items lint.now.status result (W.takes out.old out.new)
-        (faults.new ≡ faults.old) (E.takes faults.old faults.new) }
+// Appends the faults of the list in the file of this name, and returns whether it has none.
+fn write_named_faults<'a, L: Source>(
+    alloc: Global,
+    machine: &Machine,
+    name: &'a str,
+    list: &mut L,
+    lines: &mut Vec<u8>,
+) -> Result<bool, Fault<'a>>
+    ensures ok { IfOk result (λ none. (text : List ℕ) × L.gives list.old (Ok text) ×
+        (lines.new.items ≡ lines.old.items ++ faults_text (file_faults machine.now text)) ×
+        (none ≡ (length (file_faults machine.now text) == 0))) }
+    ensures err { IfErr result (λ fault. (fault ≡ OutOfMemory) ⊎
+        FailsWith name.now (L.gives list.old) fault) }
 {
-    match out.put(lint.lines.as_slice()) {
-        Ok(()) => lint.status,
-        Err(_) => report(alloc, faults, &Fault::Write),
+    let text = read_list(alloc, name, list)?;
+    Ok(write_file_faults(alloc, machine, text.as_slice(), lines)?)
+}
+
+// Appends the faults of a list for this machine, and returns whether it has none.
+fn write_asked_faults<'a, L: Source>(
+    alloc: Global,
+    machine: &Machine,
+    schedule: &'a str,
+    list: &mut L,
+    lines: &mut Vec<u8>,
+) -> Result<bool, Fault<'a>>
+    ensures ok { IfOk result (λ none. (text : List ℕ) ×
+        IsRead (list_name schedule.now) (L.gives list.old) text ×
+        (lines.new.items ≡ lines.old.items ++
+        faults_text (named_faults machine.now (list_name schedule.now) schedule.now text)) ×
+        (none ≡
+        (length (named_faults machine.now (list_name schedule.now) schedule.now text) == 0))) }
+    ensures err { IfErr result (λ fault. (fault ≡ OutOfMemory) ⊎
+        IsSomeAnd (list_name schedule.now) (λ name. FailsWith name (L.gives list.old) fault)) }
+    ensures unread { list_name schedule.now ≡ None → list.new ≡ list.old }
+{
+    match list_name(schedule) {
+        None => Ok(write_list_faults(alloc, machine, schedule, lines)?),
+        Some(name) => write_named_faults(alloc, machine, name, list, lines),
     }
 }
 
-/// Reports all faults of a machine text, a line for each, and returns the exit status: 1 where
-/// there is one, else 0. Where there is none, it tells what is doubtful. It writes the lines once.
-/// If the text can't be read, the output can't be written or memory is refused, it reports that
-/// with status 1.
-pub fn perform_lint<M: Source, W: Sink, E: Sink>(
-    alloc: Global,
-    file: &str,
-    machine: &mut M,
-    out: &mut W,
-    faults: &mut E,
-) -> u8
-    ensures { IsLinted file.now (M.gives machine.old) (W.takes out.old out.new)
-        (out.new ≡ out.old) (faults.new ≡ faults.old) (E.takes faults.old faults.new) result }
+// The exit status, where a list has no fault or has one.
+fn list_status(none: bool) -> u8
+    ensures { result ≡ (if none then 0 else 1) }
 {
-    match linted(alloc, file, machine) {
-        Ok(lint) => said(alloc, &lint, out, faults),
-        Err(fault) => report(alloc, faults, &fault),
-    }
+    if none { 0 } else { 1 }
+}
+
+/// What the lint of a text without a fault comes to, and of a list for its machine, where there is
+/// one. `list` gives it where it is in a file.
+pub(crate) fn list_lint_done<'a, L: Source>(
+    alloc: Global,
+    text: &[u8],
+    machine: &Machine,
+    schedule: Option<&'a str>,
+    list: &mut L,
+) -> Result<Done<'a>, Fault<'a>>
+    requires { faults_of text.now ≡ [] }
+    ensures ok { IfOk result (λ done. (read : List ℕ) ×
+        IsRead (list_name_in schedule.entry) (L.gives list.old) read ×
+        IsListLinted text.now machine.now schedule.entry read (output_of done)) }
+    ensures err { IfErr result (λ fault. (fault ≡ OutOfMemory) ⊎
+        IsSomeAnd (list_name_in schedule.entry)
+        (λ name. FailsWith name (L.gives list.old) fault)) }
+    ensures unread { list_name_in schedule.entry ≡ None → list.new ≡ list.old }
+{
+    let mut done = lint_done(alloc, text)?;
+    let Some(schedule) = schedule else {
+        return Ok(done);
+    };
+    let none = write_asked_faults(alloc, machine, schedule, list, &mut done.lines)?;
+    done.status = list_status(none);
+    Ok(done)
 }

@@ -1,8 +1,7 @@
 //! Reading the files of a job.
-ghost use Rattle.std.specs.Prelude.{◌≡◌, ◌⊎◌, ◌+◌, ℕ, List, IfOk, IfErr, Ok, Err, take};
-ghost use Rattle.std.specs.declared.io.ErrorKind.{ErrorKind as Kind};
+ghost use Rattle.std.specs.Prelude.{◌≡◌, ◌⊎◌, ◌+◌, ℕ, List, IfOk, IfErr, Ok, take};
 ghost use Rattle.l4_schedules.specs.InFiles.{most_bytes};
-ghost use Rattle.l4_jobs.specs.Jobs.{IsUnread};
+ghost use Rattle.l4_jobs.specs.Inputs.{FailsWith};
 ghost use Rattle.l4_jobs.specs.Reading.{IsReadAs};
 
 use crate::fault::{Fault, unread};
@@ -22,7 +21,7 @@ fn read_most<'a, S: Source>(
         (all : List ℕ) × S.gives source.old (Ok all) ×
         ((text.items ≡ all) ⊎ (text.items ≡ take most all))) }
     ensures err { IfErr result (λ fault.
-        (kind : Kind) × S.gives source.old (Err kind) × IsUnread name.now kind fault) }
+        FailsWith name.now (S.gives source.old) fault) }
 {
     match source.read_beginning(alloc, most) {
         Ok(text) => Ok(text),
@@ -38,7 +37,7 @@ pub(crate) fn read_all<'a, S: Source>(
 ) -> Result<Vec<u8>, Fault<'a>>
     ensures ok { IfOk result (λ text. S.gives source.old (Ok text.items)) }
     ensures err { IfErr result (λ fault.
-        (kind : Kind) × S.gives source.old (Err kind) × IsUnread name.now kind fault) }
+        FailsWith name.now (S.gives source.old) fault) }
 {
     match source.read_whole(alloc) {
         Ok(text) => Ok(text),
@@ -56,7 +55,7 @@ pub(crate) fn read_text<'a, M: Source>(
     ensures ok { IfOk result (λ text.
         (all : List ℕ) × M.gives machine.old (Ok all) × IsReadAs text.items all) }
     ensures err { IfErr result (λ fault.
-        (kind : Kind) × M.gives machine.old (Err kind) × IsUnread name.now kind fault) }
+        FailsWith name.now (M.gives machine.old) fault) }
 {
     read_most(alloc, name, machine, MOST_BYTES as u64 + 1)
 }
@@ -72,7 +71,7 @@ pub(crate) fn read_list<'a, L: Source>(
         (all : List ℕ) × L.gives list.old (Ok all) ×
         ((text.items ≡ all) ⊎ (text.items ≡ take (most_bytes + 1) all))) }
     ensures err { IfErr result (λ fault.
-        (kind : Kind) × L.gives list.old (Err kind) × IsUnread name.now kind fault) }
+        FailsWith name.now (L.gives list.old) fault) }
 {
     read_most(alloc, name, list, MOST_FILE_BYTES as u64 + 1)
 }

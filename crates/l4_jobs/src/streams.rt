@@ -3,7 +3,7 @@
 ghost use Rattle.std.specs.Prelude.{◌≡◌, ◌⊎◌, ℕ, Bool, List, take, true, false, Result, Ok, Err};
 ghost use Rattle.std.specs.Prelude.{IfOk, OnErr, MatchResult};
 ghost use Rattle.std.specs.declared.io.ErrorKind.{ErrorKind as Kind};
-ghost use Rattle.l4_jobs.specs.Streams.{IsCreated, MayGive, MayTake, HasAppended};
+ghost use Rattle.l4_jobs.specs.Streams.{GivenGives, HasAppended, IsCreated, MayGive, MayTake};
 ghost use Rattle.l4_jobs.specs.Streams.{OpenedGives, OpensWithInput};
 
 use crate::job::INPUT;
@@ -145,6 +145,33 @@ impl<F: Source, I: Source> Source for Opened<F, I> {
     }
 }
 
+/// A source that there may be.
+#[derive(Drop)]
+pub enum Given<S> {
+    /// There is one.
+    Source(S),
+    /// There is none. Reading it comes to `NotFound`.
+    Nothing,
+}
+
+impl<S: Source> Source for Given<S> {
+    ghost gives = { λ s read. GivenGives S.gives s read };
+
+    fn read_whole(&mut self, alloc: Global) -> Result<Vec<u8>, ErrorKind> {
+        match self {
+            Given::Source(source) => source.read_whole(alloc),
+            Given::Nothing => Err(ErrorKind::NotFound),
+        }
+    }
+
+    fn read_beginning(&mut self, alloc: Global, most: u64) -> Result<Vec<u8>, ErrorKind> {
+        match self {
+            Given::Source(source) => source.read_beginning(alloc, most),
+            Given::Nothing => Err(ErrorKind::NotFound),
+        }
+    }
+}
+
 /// A folder in which the name `-` stands for an input, such as the standard input. `job_of` refuses
 /// words that name it twice.
 #[derive(Clone, Copy)]
@@ -179,24 +206,45 @@ impl<F: Folder, I: Source + Copy + Drop> Folder for WithInput<'_, F, I> {
     }
 }
 
-/// A new file of a folder. It is created only when something is put into it.
-#[derive(Clone, Copy)]
-pub struct NewFile<'a, F> {
-    /// The folder.
-    pub folder: &'a F,
-    /// The name of the file.
-    pub name: &'a str,
+/// Where the records of runs are kept, by their names.
+pub trait Records {
+    // What keeping this text under this name may do. `all` says whether all of it was written.
+    ghost keeps: { (old new : Self) → (name bytes : List ℕ) → (all : Bool) → Type 0 };
+
+    /// Keeps a record.
+    fn keep(&mut self, name: &str, text: &[u8]) -> Result<(), NotWritten>
+        ensures { MatchResult result (λ _. keeps self.old self.new name.now text.now true)
+            (λ _. keeps self.old self.new name.now text.now false) };
 }
 
-impl<F: Folder> Sink for NewFile<'_, F> {
-    ghost takes = { λ old new bytes all.
-        IsCreated (F.creates old.folder.now) F.Made.takes old.name.now bytes all };
+/// Each record is a new file of a folder, which is created only when it is kept.
+#[derive(Clone, Copy)]
+pub struct InFolder<'a, F> {
+    /// The folder.
+    pub folder: &'a F,
+}
 
-    fn put(&mut self, bytes: &[u8]) -> Result<(), NotWritten> {
-        match self.folder.create(self.name) {
-            Ok(mut made) => made.put(bytes),
+impl<F: Folder> Records for InFolder<'_, F> {
+    ghost keeps = { λ old new name bytes all.
+        IsCreated (F.creates old.folder.now) F.Made.takes name bytes all };
+
+    fn keep(&mut self, name: &str, text: &[u8]) -> Result<(), NotWritten> {
+        match self.folder.create(name) {
+            Ok(mut made) => made.put(text),
             Err(_) => Err(NotWritten),
         }
+    }
+}
+
+/// No record is kept.
+#[derive(Clone, Copy, Debug, PartialEq, Eq)]
+pub struct NoRecords;
+
+impl Records for NoRecords {
+    ghost keeps = { λ old new name bytes all. all ≡ false };
+
+    fn keep(&mut self, _name: &str, _text: &[u8]) -> Result<(), NotWritten> {
+        Err(NotWritten)
     }
 }
 

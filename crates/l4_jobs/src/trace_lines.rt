@@ -1,9 +1,11 @@
 //! Writing the trace of a run directly from its history.
-ghost use Rattle.std.specs.Prelude.{◌≡◌, ◌++◌, List, IfOk};
-ghost use Rattle.std.proofs.Common.{◌∙◌, ap, append-nil, append_assoc, sym};
+ghost use Rattle.std.specs.Prelude.{◌≡◌, ◌++◌, ◌&&◌, List, IfOk, true};
+ghost use Rattle.std.specs.List.{list_all};
+ghost use Rattle.std.proofs.Common.{◌∙◌, ap, ap₂, append-nil, append_assoc, refl, sym};
 ghost use Rattle.std.proofs.lemmas.Grind.{flat_map-append};
+ghost use Rattle.std.proofs.lemmas.List.Folds.{list_all-append};
 ghost use Rattle.l4_machine.specs.Outcomes.{steps_of};
-ghost use Rattle.l4_trace.specs.Lines.{line_of, trace_of};
+ghost use Rattle.l4_trace.specs.Lines.{has_line, line_of, trace_of};
 
 use l4_history::steps::Steps;
 use l4_machine::{Listener, RunHistory};
@@ -19,15 +21,18 @@ struct Writer {
 
 impl Listener for Writer {
     ghost hears = { λ old steps new.
-        new.trace.lines.items ≡ old.trace.lines.items ++ trace_of steps };
+        (new.trace.lines.items ≡ old.trace.lines.items ++ trace_of steps) ×
+        (list_all has_line steps ≡ true) };
 
-    ghost heard_none = { λ old. sym (append-nil old.trace.lines.items) };
+    ghost heard_none = { λ old. (sym (append-nil old.trace.lines.items), refl) };
 
-    ghost heard_both = { λ old between new first second one two.
-        two ∙ ap (λ lines. lines ++ trace_of second) one
-        ∙ append_assoc old.trace.lines.items (trace_of first) (trace_of second)
-        ∙ ap (λ lines. old.trace.lines.items ++ lines)
-        (sym (flat_map-append line_of first second)) };
+    ghost heard_both = { λ old between new first second one two. (
+      two.0 ∙ ap (λ lines. lines ++ trace_of second) one.0
+          ∙ append_assoc old.trace.lines.items (trace_of first) (trace_of second)
+          ∙ ap (λ lines. old.trace.lines.items ++ lines)
+          (sym (flat_map-append line_of first second)),
+      list_all-append has_line first second ∙ ap₂ (λ a b. a && b) one.1 two.1,
+    ) };
 
     fn hear(&mut self, steps: Steps<'_>) -> Result<(), NoMemory> {
         self.trace.write(steps)
@@ -36,7 +41,8 @@ impl Listener for Writer {
 
 /// The line of each step of a history. No step is copied.
 pub(crate) fn trace_of(alloc: Global, history: &RunHistory<'_>) -> Result<Vec<u8>, NoMemory>
-    ensures { IfOk result (λ lines. lines.items ≡ trace_of (steps_of history.now)) }
+    ensures lines { IfOk result (λ lines. lines.items ≡ trace_of (steps_of history.now)) }
+    ensures spelled { IfOk result (λ _. list_all has_line (steps_of history.now) ≡ true) }
 {
     let mut writer = Writer {
         trace: TraceWriter::new(alloc),

@@ -21,10 +21,8 @@ mod progress;
 
 use crate::progress::ProgressLine;
 use l4_explore::progress::Progress;
-use l4_jobs::expecting_files::perform_expected_on_files;
 use l4_jobs::fault::{Fault, report};
-use l4_jobs::files::perform_on_files_heard;
-use l4_jobs::list_lints::perform_list_lint_on_files;
+use l4_jobs::perform::perform_on_files;
 use l4_jobs::refusal::refuse;
 use l4_jobs::streams::{Sink, Source, WithInput};
 use l4_jobs::words::job_of;
@@ -69,17 +67,7 @@ fn on_words<
             let job = job.on_output(shows_lines(rt, is_terminal), columns(rt));
             let folder = WithInput { folder: rt, input };
             let alloc = rt.alloc();
-            match job.expecting() {
-                Some(expecting) => perform_expected_on_files(
-                    rt, alloc, &folder, &expecting, out, faults, progress,
-                ),
-                None => match job.list_lint() {
-                    Some(lint) => perform_list_lint_on_files(alloc, &folder, &lint, out, faults),
-                    None => {
-                        perform_on_files_heard(rt, alloc, &folder, &job, out, faults, progress)
-                    }
-                },
-            }
+            perform_on_files(rt, alloc, &folder, &job, out, faults, progress)
         }
         Err(fault) => refuse(rt.alloc(), &fault, out, faults),
     }

@@ -1,0 +1,147 @@
+-- A job that comes to something has no fault.
+use Rattle.std.proofs.Common.{◌≡◌, ℕ, Bool, true, false, Option, Some, None, Result, Ok, Err, List, refl, ap, sym, subst, inl, inr, ◌∙◌}
+use Rattle.std.specs.Prelude.{◌⊎◌, IsSomeAnd}
+use Rattle.std.specs.declared.io.ErrorKind.{ErrorKind}
+use Rattle.std.specs.Option.{option_map}
+use Rattle.l4_model.specs.Machine.{Machine}
+use Rattle.l4_model.specs.Steps.{Step}
+use Rattle.l4_model.specs.History.{refused_place}
+use Rattle.l4_model.proofs.Faults.{tells_first_fault}
+use Rattle.l4_core_model.specs.Runs.{Run as CoreRun}
+use Rattle.l4_choices.specs.Entries.{Entry}
+use Rattle.l4_expect.specs.Expected.{Expected, expectations_of}
+use Rattle.l4_expect.specs.declared.expectations.ExpectFault.{ExpectFault}
+use Rattle.l4_expect.specs.declared.judging.Scope.{Scope}
+use Rattle.l4_trace.specs.Lines.{IsTraceOf}
+use Rattle.l4_script.specs.Texts.{machine_of_text}
+use Rattle.l4_script.specs.declared.text.fault.TextFault.{TextFault}
+use Rattle.l4_machine.specs.declared.outcome.RunFault.{RunFault}
+use Rattle.l4_schedules.specs.InFiles.{schedule_in_file}
+use Rattle.l4_schedules.specs.Items.{schedule_of}
+use Rattle.l4_commands.specs.Files.{expected_of, list_name, list_name_in}
+use Rattle.l4_commands.specs.declared.job.Judged.{Judged}
+use Rattle.l4_commands.specs.declared.job.Job.{Job}
+use Rattle.l4_commands.specs.declared.job.Job.TheVariants.{Run, Replay, Audit, Chart, Endings, Lint}
+use Rattle.l4_jobs.specs.Audits.{IsAudited, IsFaultOfTrace, IsPassed, IsTraceFault, tells_refusals}
+use Rattle.l4_jobs.specs.ChartJobs.{fault_of_threads}
+use Rattle.l4_jobs.specs.Expectations.{IsExpected, scope_of}
+use Rattle.l4_jobs.specs.Inputs.{FailsWith, Gives, IsRead}
+use Rattle.l4_jobs.specs.Jobs.{IsAskedFault, IsDoneFor, IsDoneOn, IsFaultBehind, IsFaultFor, IsFaultOn}
+use Rattle.l4_jobs.specs.Outputs.{Output}
+use Rattle.l4_jobs.specs.Schedules.{IsReplayFault, IsScheduleFault, asked_schedule, fault_of_result, fault_of_run, named_schedule, replayed}
+use Rattle.l4_jobs.specs.Searches.{fault_of_question}
+use Rattle.l4_jobs.specs.declared.fault.Fault.{Fault}
+use Rattle.l4_jobs.proofs.Spelled.{trace_right}
+
+-- A source that gives one text, and no other.
+abbrev one : List ℕ → Gives
+one text given = given ≡ Ok text
+
+abbrev gives_all : List ℕ → Result (List ℕ) ErrorKind
+gives_all text = Ok text
+
+abbrev gives_none : ErrorKind → Result (List ℕ) ErrorKind
+gives_none kind = Err kind
+
+all_given : (all text : List ℕ) → gives_all text ≡ Ok all → text ≡ all
+all_given all text is = cc
+
+never_unread : (all : List ℕ) (kind : ErrorKind) → gives_none kind ≡ Ok all → ⊥
+never_unread all kind is = absurd (let bad = is in cc)
+
+-- A trace whose steps are told of, or are possible, has no fault.
+never_faulty : (tells : Bool) (m : Machine) (name trace : List ℕ) (steps : List Step) (f : Fault) → IsTraceOf trace steps →
+    (tells ≡ true) ⊎ (refused_place m steps ≡ None) → IsTraceFault tells m name (λ given. given ≡ Ok trace) f → ⊥
+never_faulty tells m name trace steps f is right (inl (kind, given, unread)) = never_unread trace kind given
+never_faulty tells m name trace steps f is right (inr (text, given, faulty)) =
+    trace_right tells m trace steps f is right (subst (λ t. IsFaultOfTrace tells m t f) (all_given trace text given) faulty)
+
+-- A trace that passes has no fault.
+none_refused : (judged : Judged) (m : Machine) (trace lines : List ℕ) (p : IsPassed judged m trace lines) → refused_place m p.steps ≡ None
+none_refused judged m trace lines p = (tells_first_fault m p.steps).history.1 (p.world, p.reaches)
+
+audited_right : (judged : Judged) (m : Machine) (name trace lines : List ℕ) (status : ℕ) (f : Fault) → IsAudited judged m trace lines status →
+    IsTraceFault (tells_refusals judged) m name (λ given. given ≡ Ok trace) f → ⊥
+audited_right judged m name trace lines status f (inl (p, zero)) =
+    never_faulty (tells_refusals judged) m name trace p.steps f p.reads (inr (none_refused judged m trace lines p))
+audited_right judged m name trace lines status f (inr (r, one)) = never_faulty (tells_refusals judged) m name trace r.steps f r.reads (inl r.asked)
+
+-- A replay that was done has a schedule and further turns without a fault.
+
+done_by : (m : Machine) (rest : Option ℕ) (schedule : Result (List Entry) RunFault) (r : CoreRun) (f : Fault) → replayed m rest schedule ≡ Ok r →
+    fault_of_result (replayed m None schedule) ≡ Some f → ⊥
+done_by m rest (Ok entries) r f done is = absurd (let bad : None ≡ Some f = is in cc)
+done_by m rest (Err e) r f done is = absurd (let bad : Err e ≡ Ok r = done in cc)
+
+list_right : (m : Machine) (rest : Option ℕ) (list trace : List ℕ) (name : Option (List ℕ)) (r : CoreRun) (f : Fault) →
+    replayed m rest (named_schedule m name list trace) ≡ Ok r → IsScheduleFault m list name (λ given. given ≡ Ok trace) f → ⊥
+list_right m rest list trace None r f done is = done_by m rest (schedule_of m list) r f done is
+list_right m rest list trace (Some name) r f done (inl (kind, given, unread)) = never_unread trace kind given
+list_right m rest list trace (Some name) r f done (inr (text, given, faulty)) =
+    done_by m rest (schedule_in_file m text) r f (ap (λ t. replayed m rest (schedule_in_file m t)) (all_given trace text given) ∙ done) faulty
+
+rest_right : (m : Machine) (rest : Option ℕ) (list trace text : List ℕ) (name : Option (List ℕ)) (r : CoreRun) (f : Fault) →
+    replayed m rest (named_schedule m name list trace) ≡ Ok r → IsRead name (λ given. given ≡ Ok trace) text →
+    fault_of_result (replayed m rest (named_schedule m name list text)) ≡ Some f → ⊥
+rest_right m rest list trace text None r f done read faulty = absurd (let bad : None ≡ Some f = sym (ap fault_of_result done) ∙ faulty in cc)
+rest_right m rest list trace text (Some name) r f done read faulty =
+    let same = ap (λ t. replayed m rest (schedule_in_file m t)) (all_given trace text read) ∙ done in
+    absurd (let bad : None ≡ Some f = sym (ap fault_of_result same) ∙ faulty in cc)
+
+replay_right : (m : Machine) (rest : Option ℕ) (list trace : List ℕ) (r : CoreRun) (f : Fault) → replayed m rest (asked_schedule m list trace) ≡ Ok r →
+    IsReplayFault m rest list (λ given. given ≡ Ok trace) f → ⊥
+replay_right m rest list trace r f done (inl is) = list_right m rest list trace (list_name list) r f done is
+replay_right m rest list trace r f done (inr is) = rest_right m rest list trace is.text (list_name list) r f done is.read is.faulty
+
+-- On the machine of a text
+
+unread : (name : Option (List ℕ)) (text : List ℕ) (f : Fault) → IsSomeAnd name (λ n. FailsWith n (one text) f) → ⊥
+unread None text f is = is
+unread (Some name) text f (kind, given, failed) = never_unread text kind given
+
+same_list : (m : Machine) (rest : Option ℕ) (schedule : List ℕ) (name : Option (List ℕ)) (list read : List ℕ) (r : CoreRun) → IsRead name (one read) list →
+    replayed m rest (named_schedule m name schedule list) ≡ Ok r → replayed m rest (named_schedule m name schedule read) ≡ Ok r
+same_list m rest schedule None list read r reads is = is
+same_list m rest schedule (Some name) list read r reads is = ap (λ t. replayed m rest (schedule_in_file m t)) (sym (all_given read list reads)) ∙ is
+
+right_on : (job : Job) (text : List ℕ) (m : Machine) (read : List ℕ) (expected : Option (List Expected)) (o : Output) (f : Fault) →
+    IsDoneOn job text m (one read) expected o → IsFaultOn job m (one read) f → ⊥
+right_on (Run file turns printed record_to name) text m read expected o f s is =
+    absurd (let bad : None ≡ Some f = sym (ap (option_map fault_of_run) s.is.lawful) ∙ is in cc)
+right_on (Replay file schedule rest printed name) text m read expected o f (list, reads, s) is =
+    replay_right m rest schedule.now read s.run f
+    (same_list m rest schedule.now (list_name schedule.now) list read s.run reads s.is) is
+right_on (Audit file name judged) text m read expected o f (trace, given, s) is =
+    audited_right judged m name.now read o.lines o.status f (subst (λ t. IsAudited judged m t o.lines o.status) (all_given read trace given) s.audited) is
+right_on (Chart chart) text m read expected o f (trace, given, s) (inl is) = absurd (let bad : None ≡ Some f = sym (ap fault_of_threads s.charted.chosen) ∙ is in cc)
+right_on (Chart chart) text m read expected o f (trace, given, s) (inr (right, is)) =
+    never_faulty true m chart.trace.now read s.charted.steps f (subst (λ t. IsTraceOf t s.charted.steps) (all_given read trace given) s.charted.reads) (inl refl) is
+right_on (Endings search) text m read expected o f s is =
+    absurd (let bad : None ≡ Some f = sym (ap (option_map fault_of_question) s.answered.lawful) ∙ is in cc)
+right_on (Lint file schedule) text m read expected o f s is = unread (list_name_in schedule) read f is
+
+-- By what is expected
+
+expected_right : (job : Job) (text : List ℕ) (m : Machine) (read asked : List ℕ) (name : Option (List ℕ)) (expected : Option (List Expected)) (o : Output) (f : Fault) →
+    IsExpected name (scope_of job) (one asked) expected → IsDoneOn job text m (one read) expected o →
+    IsFaultBehind job name m (one read) (one asked) f → ⊥
+expected_right job text m read asked None expected o f wants is faulty = right_on job text m read expected o f is faulty
+expected_right job text m read asked (Some name) expected o f wants is (inl (kind, given, failed)) = never_unread asked kind given
+expected_right job text m read asked (Some name) expected o f (t, lines, given, reads, some) is (inr (u, other, faulty)) =
+    let alike : expectations_of (scope_of job) u ≡ Ok lines =
+    ap (expectations_of (scope_of job)) (all_given asked u other ∙ sym (all_given asked t given)) ∙ reads in
+    right_on job text m read expected o f is (subst (λ r. IsAskedFault job m (one read) r f) alike faulty)
+
+right_for : (job : Job) (text : List ℕ) (d : Result Machine TextFault) (read asked : List ℕ) (o : Output) (f : Fault) →
+    IsDoneFor job text d (one read) (one asked) o → IsFaultFor job d (one read) (one asked) f → ⊥
+right_for job text (Ok m) read asked o f (expected, wants, is) faulty = expected_right job text m read asked (expected_of job) expected o f wants is faulty
+right_for (Lint file schedule) text (Err t) read asked o f is faulty = faulty
+right_for (Run file turns printed record_to name) text (Err t) read asked o f is faulty = is
+right_for (Replay file schedule rest printed name) text (Err t) read asked o f is faulty = is
+right_for (Audit file name judged) text (Err t) read asked o f is faulty = is
+right_for (Chart chart) text (Err t) read asked o f is faulty = is
+right_for (Endings search) text (Err t) read asked o f is faulty = is
+
+pub no_fault : (job : Job) (text read asked : List ℕ) (o : Output) (f : Fault) → IsDoneFor job text (machine_of_text text) (one read) (one asked) o →
+    IsFaultFor job (machine_of_text text) (one read) (one asked) f → ⊥
+no_fault job text read asked o f = right_for job text (machine_of_text text) read asked o f

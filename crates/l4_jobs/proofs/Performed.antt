@@ -1,0 +1,123 @@
+-- What was written of a job.
+use Rattle.std.proofs.Common.{◌≡◌, ℕ, Bool, true, false, Option, Some, None, Result, Ok, Err, List, refl, sym, subst, inl, inr}
+use Rattle.std.specs.Prelude.{◌⊎◌}
+use Rattle.l4_model.specs.Machine.{Machine}
+use Rattle.l4_expect.specs.Expected.{Expected}
+use Rattle.l4_core_model.specs.Runs.{Run as CoreRun}
+use Rattle.l4_expect.specs.Unmet.{expected_status}
+use Rattle.l4_script.specs.Texts.{machine_of_text}
+use Rattle.l4_script.specs.declared.text.fault.TextFault.{TextFault}
+use Rattle.l4_commands.specs.Files.{alone}
+use Rattle.l4_commands.specs.declared.job.Job.{Job}
+use Rattle.l4_commands.specs.declared.job.Job.TheVariants.{Run, Replay, Audit, Chart, Endings, Lint}
+use Rattle.l4_commands.specs.declared.job.Printed.{Printed}
+use Rattle.l4_jobs.specs.Expectations.{is_met_by}
+use Rattle.l4_jobs.specs.Inputs.{Gives}
+use Rattle.l4_jobs.specs.Jobs.{IsDone, IsDoneFor, IsDoneOn, IsStatusOf, IsTrueFor, IsTrueShown}
+use Rattle.l4_jobs.specs.Outputs.{Output}
+use Rattle.l4_jobs.specs.Performing.{IsKeptOut, IsLinesOut, IsPerformed, IsTrulyDone, Sinks, Takes, sinks}
+use Rattle.l4_jobs.specs.Runs.{IsRunDone, report_of, status_of_ending}
+use Rattle.l4_jobs.proofs.Statuses.{done_status}
+
+-- What is said of the records may be said in other words.
+pub performed_as : (job : Job) (machine second expects : Gives) (list other : List ℕ → Takes) (keeps others : Type 0) (out : Takes) (keeps_out : Type 0) (faults : Takes)
+    (keeps_faults : Type 0) (status : ℕ) → ((name bytes : List ℕ) (all : Bool) → list name bytes all → other name bytes all) → (keeps → others) →
+    IsPerformed job machine second expects (sinks list keeps out keeps_out faults keeps_faults) status →
+    IsPerformed job machine second expects (sinks other others out keeps_out faults keeps_faults) status
+performed_as job machine second expects list other keeps others out keeps_out faults keeps_faults status lists keep (inl (f, is, kept, left, reported, one)) =
+    inl (f, is, keep kept, left, reported, one)
+performed_as job machine second expects list other keeps others out keeps_out faults keeps_faults status lists keep (inr (o, is, wrote)) = inr (o, is, by o.list wrote)
+  where
+    by : (l : Option (List ℕ × List ℕ)) → IsKeptOut o l (sinks list keeps out keeps_out faults keeps_faults) status →
+        IsKeptOut o l (sinks other others out keeps_out faults keeps_faults) status
+    by None (kept, lines) = (keep kept, lines)
+    by (Some p) (inl (kept, lines)) = inl (lists p.0 p.1 true kept, lines)
+    by (Some p) (inr (f, named, kept, left, reported, one)) = inr (f, named, lists p.0 p.1 false kept, left, reported, one)
+
+-- The exit status
+
+lines_status : (job : Job) (o : Output) (out faults : Takes) (keeps : Type 0) (status : ℕ) → IsStatusOf job o.status → IsLinesOut o out faults keeps status →
+    IsStatusOf job status
+lines_status job o out faults keeps status is (inl (wrote, said, same)) = subst (IsStatusOf job) (sym same) is
+lines_status job o out faults keeps status is (inr (wrote, reported, one)) = inr (inl one)
+
+kept_status : (job : Job) (o : Output) (l : Option (List ℕ × List ℕ)) (s : Sinks) (status : ℕ) → IsStatusOf job o.status → IsKeptOut o l s status → IsStatusOf job status
+kept_status job o None s status is (kept, lines) = lines_status job o s.out s.faults s.keeps_faults status is lines
+kept_status job o (Some p) s status is (inl (kept, lines)) = lines_status job o s.out s.faults s.keeps_faults status is lines
+kept_status job o (Some p) s status is (inr (f, named, kept, left, reported, one)) = inr (inl one)
+
+pub performed_status : (job : Job) (machine second expects : Gives) (s : Sinks) (status : ℕ) → IsPerformed job machine second expects s status → IsStatusOf job status
+performed_status job machine second expects s status (inl (f, is, kept, left, reported, one)) = inr (inl one)
+performed_status job machine second expects s status (inr (o, is, wrote)) =
+    kept_status job o o.list s status (done_status job machine second expects o is) wrote
+
+-- What was written of a run is true of its machine.
+
+own_or_4 : (met : Bool) (own status : ℕ) → status ≡ expected_status met own → (status ≡ own) ⊎ (status ≡ 4)
+own_or_4 true own status is = inl is
+own_or_4 false own status is = inr is
+
+run_true : (printed : Printed) (m : Machine) (IsAsked : CoreRun → Type 0) (record_to : Option (List ℕ)) (expected : Option (List Expected)) (o : Output) →
+    IsRunDone printed m IsAsked record_to expected o → IsTrueShown printed m o.lines o.status
+run_true printed m IsAsked record_to expected o is = record {
+  findings = is.findings;
+  is_true = is.of_run.is_true;
+  written = is.written;
+  status_is = own_or_4 (is_met_by expected (report_of is.findings)) (status_of_ending is.findings.ending) o.status is.status_is;
+}
+
+true_on : (job : Job) (text : List ℕ) (m : Machine) (second : Gives) (expected : Option (List Expected)) (o : Output) → machine_of_text text ≡ Ok m →
+    IsDoneOn job text m second expected o → IsTrueFor job text o.lines o.status
+true_on (Run file turns printed record_to name) text m second expected o declares is = (m, declares, run_true printed m _ _ expected o is)
+true_on (Replay file schedule rest printed name) text m second expected o declares (list, reads, is) = (m, declares, run_true printed m _ _ expected o is)
+true_on (Audit file name judged) text m second expected o declares is = tt
+true_on (Chart chart) text m second expected o declares is = tt
+true_on (Endings search) text m second expected o declares is = tt
+true_on (Lint file schedule) text m second expected o declares is = tt
+
+true_for : (job : Job) (text : List ℕ) (d : Result Machine TextFault) (second expects : Gives) (o : Output) → machine_of_text text ≡ d →
+    IsDoneFor job text d second expects o → IsTrueFor job text o.lines o.status
+true_for job text (Ok m) second expects o declares (expected, wants, is) = true_on job text m second expected o declares is
+true_for (Run file turns printed record_to name) text (Err t) second expects o declares is = absurd is
+true_for (Replay file schedule rest printed name) text (Err t) second expects o declares is = absurd is
+true_for (Audit file name judged) text (Err t) second expects o declares is = tt
+true_for (Chart chart) text (Err t) second expects o declares is = tt
+true_for (Endings search) text (Err t) second expects o declares is = tt
+true_for (Lint file schedule) text (Err t) second expects o declares is = tt
+
+lines_true : (job : Job) (machine second expects : Gives) (o : Output) (out faults : Takes) (keeps : Type 0) (status : ℕ) → IsDone job machine second expects o →
+    IsLinesOut o out faults keeps status → (status ≡ 1 → ⊥) → IsTrulyDone job machine out status
+lines_true job machine second expects o out faults keeps status d (inl (wrote, said, same)) right =
+    (d.text, o.lines, d.given, wrote, subst (IsTrueFor job d.text o.lines) (sym same) (true_for job d.text (machine_of_text d.text) second expects o refl d.is))
+lines_true job machine second expects o out faults keeps status d (inr (wrote, reported, one)) right = elim (right one) [ ]
+
+kept_true : (job : Job) (machine second expects : Gives) (o : Output) (l : Option (List ℕ × List ℕ)) (s : Sinks) (status : ℕ) → IsDone job machine second expects o →
+    IsKeptOut o l s status → (status ≡ 1 → ⊥) → IsTrulyDone job machine s.out status
+kept_true job machine second expects o None s status d (kept, lines) right = lines_true job machine second expects o s.out s.faults s.keeps_faults status d lines right
+kept_true job machine second expects o (Some p) s status d (inl (kept, lines)) right =
+    lines_true job machine second expects o s.out s.faults s.keeps_faults status d lines right
+kept_true job machine second expects o (Some p) s status d (inr (f, named, kept, left, reported, one)) right = elim (right one) [ ]
+
+pub performed_true : (job : Job) (machine second expects : Gives) (s : Sinks) (status : ℕ) → IsPerformed job machine second expects s status → (status ≡ 1 → ⊥) →
+    IsTrulyDone job machine s.out status
+performed_true job machine second expects s status (inl (f, is, kept, left, reported, one)) right = elim (right one) [ ]
+performed_true job machine second expects s status (inr (o, is, wrote)) right = kept_true job machine second expects o o.list s status is wrote right
+
+-- What is true of a job without its record is true of the job.
+
+true_alone : (job : Job) (text lines : List ℕ) (status : ℕ) → IsTrueFor (alone job) text lines status → IsTrueFor job text lines status
+true_alone (Run file turns printed record_to name) text lines status is = is
+true_alone (Replay file schedule rest printed name) text lines status is = is
+true_alone (Audit file name judged) text lines status is = is
+true_alone (Chart chart) text lines status is = is
+true_alone (Endings search) text lines status is = is
+true_alone (Lint file schedule) text lines status is = is
+
+pub truly_alone : (job : Job) (machine : Gives) (out : Takes) (status : ℕ) → IsTrulyDone (alone job) machine out status → IsTrulyDone job machine out status
+truly_alone job machine out status (text, lines, given, wrote, is) = (text, lines, given, wrote, true_alone job text lines status is)
+
+-- Where a job comes to nothing, its fault is told.
+pub nothing_done : (job : Job) (machine second expects : Gives) (s : Sinks) (status : ℕ) → ((o : Output) → IsDone job machine second expects o → ⊥) →
+    IsPerformed job machine second expects s status → (status ≡ 1) × s.keeps_out
+nothing_done job machine second expects s status never (inl (f, is, kept, left, reported, one)) = (one, left)
+nothing_done job machine second expects s status never (inr (o, is, wrote)) = elim (never o is) [ ]

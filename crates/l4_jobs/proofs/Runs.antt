@@ -1,0 +1,98 @@
+-- What runs and replays come to.
+use Rattle.std.proofs.Common.{◌≡◌, ℕ, ◌<◌, ◌≤◌, Bool, true, false, Option, Some, None, Result, Ok, Err, List, refl, ap, sym, subst, inl, inr, ◌∙◌}
+use Rattle.std.specs.Prelude.{◌⊎◌, ◌==◌, ◌||◌, IfErr, if◌then◌else◌, nat_lt}
+use Rattle.std.proofs.lemmas.Bool.{eqb-true, ltb-true, or_cases}
+use Rattle.l4_model.specs.Machine.{Machine}
+use Rattle.l4_model.specs.History.{IsHistory}
+use Rattle.l4_core_model.specs.Runs.{Run}
+use Rattle.l4_choices.specs.Entries.{Entry, replay_entries}
+use Rattle.l4_expect.specs.Expected.{Expected}
+use Rattle.l4_machine.specs.Entries.{entries_fault, turns_fault}
+use Rattle.l4_machine.specs.Outcomes.{Findings, IsFoundFor, IsOutcomeOf, in_order}
+use Rattle.l4_machine.specs.declared.outcome.RunFault.{RunFault}
+use Rattle.l4_machine.specs.declared.outcome.RunFault.TheVariants.{NoMemory as RunOutOfMemory, Turns}
+use Rattle.l4_schedules.specs.InFiles.{schedule_in_file}
+use Rattle.l4_schedules.specs.Written.{recorded_text}
+use Rattle.l4_schedules.proofs.ReadBack.{recorded_back}
+use Rattle.l4_commands.specs.Files.{list_name}
+use Rattle.l4_commands.specs.declared.job.Printed.{Printed}
+use Rattle.l4_jobs.specs.Expectations.{status_by, unmet_by}
+use Rattle.l4_jobs.specs.Inputs.{Gives, IsRead}
+use Rattle.l4_jobs.specs.Outputs.{Output}
+use Rattle.l4_jobs.specs.Runs.{IsRecord, IsRecorded, IsRunDone, IsWritten, report_of, status_of_ending}
+use Rattle.l4_jobs.specs.Schedules.{IsOutcomeOfAny, IsReplayAsked, IsReplayFault, IsRunAsked, asked_schedule, fault_of_result, fault_of_run, gone_on, replayed}
+use Rattle.l4_jobs.specs.declared.fault.Fault.{Fault}
+use Rattle.l4_jobs.specs.declared.fault.Fault.TheVariants as fault
+
+-- A number of turns that is not refused is lawful.
+pub lawful : (turns : ℕ) → ((turns ≡ 0) ⊎ (1000000 < turns) → ⊥) → turns_fault turns ≡ None
+lawful turns right = by (turns == 0 || nat_lt 1000000 turns) refl
+  where
+    refused : (turns == 0 ≡ true) ⊎ (nat_lt 1000000 turns ≡ true) → ⊥
+    refused (inl none) = right (inl (eqb-true turns 0 none))
+    refused (inr many) = right (inr (ltb-true 1000000 turns many))
+
+    by : (b : Bool) → (turns == 0 || nat_lt 1000000 turns) ≡ b → (if b then Some Turns else None) ≡ None
+    by true is = elim (refused (or_cases _ _ is)) [ ]
+    by false is = refl
+
+-- What is printed, judged and kept of findings.
+pub record IsOf (printed : Printed) (m : Machine) (record_to : Option (List ℕ)) (expected : Option (List Expected)) (f : Findings) (o : Output) : Type 0 where
+  pub written : IsWritten printed m f o.lines
+  pub said : o.said ≡ unmet_by expected (report_of f)
+  pub status_is : o.status ≡ status_by expected (report_of f) (status_of_ending f.ending)
+  pub recorded : IsRecorded record_to m f o.list
+
+pub run_done : (printed : Printed) (m : Machine) (IsAsked : Run → Type 0) (record_to : Option (List ℕ)) (expected : Option (List Expected)) (r : Run) (f : Findings)
+    (o : Output) → IsAsked r → IsOutcomeOf m r f → IsOf printed m record_to expected f o → IsRunDone printed m IsAsked record_to expected o
+run_done printed m IsAsked record_to expected r f o asked outcome is = record {
+  run = r;
+  is = asked;
+  findings = f;
+  of_run = outcome;
+  written = is.written;
+  said = is.said;
+  status_is = is.status_is;
+  recorded = is.recorded;
+}
+
+pub asked_run_done : (printed : Printed) (m : Machine) (turns : ℕ) (record_to : Option (List ℕ)) (expected : Option (List Expected)) (f : Findings) (o : Output) →
+    ((turns ≡ 0) ⊎ (1000000 < turns) → ⊥) → IsFoundFor m turns f → IsOf printed m record_to expected f o →
+    IsRunDone printed m (IsRunAsked m turns) record_to expected o
+asked_run_done printed m turns record_to expected f o right found is =
+    let asked : IsRunAsked m turns (in_order found.run) = record { lawful = lawful turns right; run = found.run; is = found.is; sorted = refl } in
+    run_done printed m (IsRunAsked m turns) record_to expected (in_order found.run) f o asked found.outcome is
+
+pub asked_replay_done : (printed : Printed) (m : Machine) (rest : Option ℕ) (list text : List ℕ) (entries : List Entry) (expected : Option (List Expected)) (f : Findings)
+    (o : Output) → asked_schedule m list text ≡ Ok entries → IsOutcomeOfAny m (gone_on m rest entries) f → IsOf printed m None expected f o →
+    IsRunDone printed m (IsReplayAsked m rest list text) None expected o
+asked_replay_done printed m rest list text entries expected f o asked outcome is = by (gone_on m rest entries) refl outcome
+  where
+    by : (g : Result Run RunFault) → gone_on m rest entries ≡ g → IsOutcomeOfAny m g f → IsRunDone printed m (IsReplayAsked m rest list text) None expected o
+    by (Ok r) at outcome = run_done printed m (IsReplayAsked m rest list text) None expected r f o (ap (replayed m rest) asked ∙ at) outcome is
+    by (Err e) at outcome = absurd outcome
+
+pub any_possible : (m : Machine) (g : Result Run RunFault) (o : Findings) → IsOutcomeOfAny m g o → IsHistory m o.history
+any_possible m (Ok r) o is = is.is_true.possible
+any_possible m (Err f) o is = absurd is
+
+-- A record is read back.
+pub is_record : (m : Machine) (f : Findings) (entries : List Entry) (text : List ℕ) → m.cpus ≤ 16 → IsOutcomeOf m (replay_entries m entries) f →
+    entries_fault m entries ≡ None → text ≡ recorded_text entries → IsRecord m f text
+is_record m f entries text few replayed are recorded = record {
+  entries = entries;
+  text_is = recorded;
+  reads = ap (schedule_in_file m) recorded ∙ recorded_back m entries few are;
+  of_replay = replayed;
+}
+
+-- Why a replay goes on no further
+pub rest_refused : {X : Type 0} (m : Machine) (rest : Option ℕ) (list text : List ℕ) (gives : Gives) (entries : List Entry) (r : Result X Fault)
+    (e : RunFault) → IfErr r (λ f. f ≡ fault_of_run e) → IsRead (list_name list) gives text → asked_schedule m list text ≡ Ok entries →
+    (e ≡ RunOutOfMemory) ⊎ (gone_on m rest entries ≡ Err e) → IfErr r (λ f. (f ≡ fault.NoMemory) ⊎ IsReplayFault m rest list gives f)
+rest_refused m rest list text gives entries (Ok x) e is read asked faulty = tt
+rest_refused m rest list text gives entries (Err f) e is read asked (inl none) = inl (is ∙ ap fault_of_run none)
+rest_refused m rest list text gives entries (Err f) e is read asked (inr faulty) =
+    let refused : fault_of_result (replayed m rest (asked_schedule m list text)) ≡ Some (fault_of_run e) =
+    ap (λ s. fault_of_result (replayed m rest s)) asked ∙ ap fault_of_result faulty in
+    inr (inr (record { text = text; read = read; faulty = refused ∙ ap (λ (g : Fault). Some g) (sym is) }))

@@ -1,0 +1,125 @@
+-- The exit statuses of jobs.
+use Rattle.std.proofs.Common.{◌≡◌, ℕ, Bool, true, false, Option, Some, None, Result, Ok, Err, List, [], ◌∷◌, refl, ap, sym, inl, inr, ◌∙◌}
+use Rattle.std.specs.Prelude.{◌⊎◌, is_some, if◌then◌else◌}
+use Rattle.l4_model.specs.Machine.{Machine}
+use Rattle.l4_choices.specs.Entries.{Entry}
+use Rattle.l4_expect.specs.Expected.{Expected}
+use Rattle.l4_expect.specs.Unmet.{expected_status}
+use Rattle.l4_expect.specs.declared.judging.Scope.{Scope}
+use Rattle.l4_lint.specs.Faults.{Fault as LintFault, faults_of}
+use Rattle.l4_lint.specs.Spelling.{status_of}
+use Rattle.l4_questions.specs.Beside.{meets}
+use Rattle.l4_questions.specs.Printed.{answer_status, status_of_search}
+use Rattle.l4_script.specs.Texts.{machine_of_text}
+use Rattle.l4_script.specs.declared.text.fault.TextFault.{TextFault}
+use Rattle.l4_types.specs.declared.reports.Ending.{Ending}
+use Rattle.l4_types.specs.declared.reports.Ending.TheVariants.{Quiet, Spent}
+use Rattle.std.specs.List.{list_all}
+use Rattle.l4_commands.specs.Files.{expected_of}
+use Rattle.l4_commands.specs.declared.job.EndingsJob.{EndingsJob}
+use Rattle.l4_commands.specs.declared.job.Job.{Job}
+use Rattle.l4_commands.specs.declared.job.Judged.{Judged}
+use Rattle.l4_commands.specs.declared.job.Job.TheVariants.{Run, Replay, Audit, Chart, Endings, Lint}
+use Rattle.l4_jobs.specs.Audits.{IsAudited}
+use Rattle.l4_jobs.specs.ChartJobs.{status_of_refused}
+use Rattle.l4_jobs.specs.Expectations.{IsExpected, is_met_by, scope_of, status_by}
+use Rattle.l4_jobs.specs.Inputs.{Gives}
+use Rattle.l4_jobs.specs.Jobs.{IsDone, IsDoneFor, IsDoneOn, IsStatusOf}
+use Rattle.l4_jobs.specs.Outputs.{Output}
+use Rattle.l4_jobs.specs.Runs.{status_of_ending}
+
+-- Something is expected exactly where a file is named.
+same_some : (name : Option (List ℕ)) (scope : Scope) (gives : Gives) (expected : Option (List Expected)) → IsExpected name scope gives expected →
+    is_some expected ≡ is_some name
+same_some None scope gives expected is = ap is_some is
+same_some (Some name) scope gives expected (text, lines, given, reads, is) = ap is_some is
+
+-- Of a run
+
+rests : (job : Job) (ending : Ending) (status : ℕ) → status ≡ status_of_ending ending → IsStatusOf job status
+rests job Quiet status is = inl is
+rests job Spent status is = inr (inr (inl is))
+
+met_or_not : (job : Job) (met : Bool) (ending : Ending) (status : ℕ) → is_some (expected_of job) ≡ true →
+    status ≡ expected_status met (status_of_ending ending) → IsStatusOf job status
+met_or_not job true ending status some is = rests job ending status is
+met_or_not job false ending status some is = inr (inr (inr (is, inr some)))
+
+run_status : (job : Job) (expected : Option (List Expected)) (report : List ℕ) (ending : Ending) (status : ℕ) → is_some expected ≡ is_some (expected_of job) →
+    status ≡ status_by expected report (status_of_ending ending) → IsStatusOf job status
+run_status job None report ending status same is = rests job ending status is
+run_status job (Some lines) report ending status same is = met_or_not job (is_met_by (Some lines) report) ending status (sym same) is
+
+-- Of a search
+
+whole_or_cut : (search : EndingsJob) (is_whole : Bool) (status : ℕ) → status ≡ status_of_search is_whole → IsStatusOf (Endings search) status
+whole_or_cut search true status is = inl is
+whole_or_cut search false status is = inr (inr (inl is))
+
+answered : (search : EndingsJob) (none : Bool) (asked : List (List Entry)) (is_whole : Bool) (status : ℕ) → search.none ≡ none →
+    status ≡ answer_status none asked is_whole → IsStatusOf (Endings search) status
+answered search false asked is_whole status asks is = whole_or_cut search is_whole status is
+answered search true [] is_whole status asks is = whole_or_cut search is_whole status is
+answered search true (e ∷ asked) is_whole status asks is = inr (inr (inr (is, inl asks)))
+
+all_meet : (m : Machine) (asked : List (List Entry)) → list_all (meets None m) asked ≡ true
+all_meet m [] = refl
+all_meet m (e ∷ asked) = all_meet m asked
+
+search_met : (search : EndingsJob) (met : Bool) (asked : List (List Entry)) (is_whole : Bool) (status : ℕ) → is_some (expected_of (Endings search)) ≡ true →
+    status ≡ expected_status met (answer_status search.none asked is_whole) → IsStatusOf (Endings search) status
+search_met search true asked is_whole status some is = answered search search.none asked is_whole status refl is
+search_met search false asked is_whole status some is = inr (inr (inr (is, inr some)))
+
+search_status : (search : EndingsJob) (m : Machine) (expected : Option (List Expected)) (asked : List (List Entry)) (is_whole : Bool) (status : ℕ) →
+    is_some expected ≡ is_some (expected_of (Endings search)) →
+    status ≡ expected_status (list_all (meets expected m) asked) (answer_status search.none asked is_whole) → IsStatusOf (Endings search) status
+search_status search m None asked is_whole status same is =
+    answered search search.none asked is_whole status refl
+    (is ∙ ap (λ all. expected_status all (answer_status search.none asked is_whole)) (all_meet m asked))
+search_status search m (Some lines) asked is_whole status same is =
+    search_met search (list_all (meets (Some lines) m) asked) asked is_whole status (sym same) is
+
+-- Of what a trace or a lint tells
+
+audit_status : (job : Job) (judged : Judged) (m : Machine) (trace lines : List ℕ) (status : ℕ) → IsAudited judged m trace lines status → IsStatusOf job status
+audit_status job judged m trace lines status (inl (p, zero)) = inl zero
+audit_status job judged m trace lines status (inr (r, one)) = inr (inl one)
+
+chart_status : (job : Job) (refused : Option ℕ) (status : ℕ) → status ≡ status_of_refused refused → IsStatusOf job status
+chart_status job None status is = inl is
+chart_status job (Some number) status is = inr (inl is)
+
+list_status : (job : Job) (none : Bool) (status : ℕ) → status ≡ (if none then 0 else 1) → IsStatusOf job status
+list_status job true status is = inl is
+list_status job false status is = inr (inl is)
+
+lint_status : (job : Job) (found : List LintFault) (status : ℕ) → status ≡ status_of found → IsStatusOf job status
+lint_status job [] status is = inl is
+lint_status job (f ∷ found) status is = inr (inl is)
+
+status_on : (job : Job) (text : List ℕ) (m : Machine) (second : Gives) (expected : Option (List Expected)) (o : Output) →
+    is_some expected ≡ is_some (expected_of job) → IsDoneOn job text m second expected o → IsStatusOf job o.status
+status_on (Run file turns printed record_to name) text m second expected o same is =
+    run_status (Run file turns printed record_to name) expected _ _ o.status same is.status_is
+status_on (Replay file schedule rest printed name) text m second expected o same (list, reads, is) =
+    run_status (Replay file schedule rest printed name) expected _ _ o.status same is.status_is
+status_on (Audit file name judged) text m second expected o same (trace, given, is) =
+    audit_status (Audit file name judged) judged m trace o.lines o.status is.audited
+status_on (Chart chart) text m second expected o same (trace, given, is) = chart_status (Chart chart) _ o.status is.charted.status_is
+status_on (Endings search) text m second expected o same is = search_status search m expected _ _ o.status same is.answered.status_is
+status_on (Lint file schedule) text m second expected o same (list, reads, is) = list_status (Lint file schedule) _ o.status is.status_is
+
+status_for : (job : Job) (text : List ℕ) (d : Result Machine TextFault) (second expects : Gives) (o : Output) → IsDoneFor job text d second expects o →
+    IsStatusOf job o.status
+status_for job text (Ok m) second expects o (expected, wants, is) =
+    status_on job text m second expected o (same_some (expected_of job) (scope_of job) expects expected wants) is
+status_for (Lint file schedule) text (Err t) second expects o is = lint_status (Lint file schedule) (faults_of text) o.status is.status_is
+status_for (Run file turns printed record_to name) text (Err t) second expects o is = absurd is
+status_for (Replay file schedule rest printed name) text (Err t) second expects o is = absurd is
+status_for (Audit file name judged) text (Err t) second expects o is = absurd is
+status_for (Chart chart) text (Err t) second expects o is = absurd is
+status_for (Endings search) text (Err t) second expects o is = absurd is
+
+pub done_status : (job : Job) (machine second expects : Gives) (o : Output) → IsDone job machine second expects o → IsStatusOf job o.status
+done_status job machine second expects o d = status_for job d.text (machine_of_text d.text) second expects o d.is

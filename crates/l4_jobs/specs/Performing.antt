@@ -1,0 +1,144 @@
+-- What is written of a job.
+use Rattle.std.specs.Prelude.{◌≡◌, ◌⊎◌, ℕ, Bool, true, false, Option, Some, None, Result, Ok, Err, List, [], ◌∷◌}
+use Rattle.std.specs.declared.io.ErrorKind.{ErrorKind}
+use Rattle.l4_commands.specs.Files.{expected_of, file_of, second_file_of}
+use Rattle.l4_commands.specs.declared.job.Job.{Job}
+use Rattle.l4_jobs.specs.FaultLines.{IsReported}
+use Rattle.l4_jobs.specs.Inputs.{Gives, IsUnread}
+use Rattle.l4_jobs.specs.Jobs.{IsDone, IsFault, IsTrueFor}
+use Rattle.l4_jobs.specs.Outputs.{Output}
+use Rattle.l4_jobs.specs.Streams.{GivenGives}
+use Rattle.l4_jobs.specs.declared.fault.Fault.{Fault}
+use Rattle.l4_jobs.specs.declared.fault.Fault.TheVariants as fault
+use Rattle.l4_jobs.specs.declared.streams.Given.{Given}
+use Rattle.l4_jobs.specs.declared.streams.Given.TheVariants.{Source, Nothing}
+
+-- What a sink takes: these bytes, all of them or not.
+abbrev pub Takes : Type 1
+Takes = List ℕ → Bool → Type 0
+
+-- What was written to each sink, or that it is as it was. `list` is the record of a name.
+pub record Sinks : Type 1 where
+  pub list : (name : List ℕ) → Takes
+  pub keeps_list : Type 0
+  pub out : Takes
+  pub keeps_out : Type 0
+  pub faults : Takes
+  pub keeps_faults : Type 0
+
+abbrev pub sinks : (list : List ℕ → Takes) → (keeps_list : Type 0) → (out : Takes) →
+    (keeps_out : Type 0) → (faults : Takes) → (keeps_faults : Type 0) → Sinks
+sinks list keeps_list out keeps_out faults keeps_faults = record {
+  list = list;
+  keeps_list = keeps_list;
+  out = out;
+  keeps_out = keeps_out;
+  faults = faults;
+  keeps_faults = keeps_faults;
+}
+
+-- No record is kept.
+abbrev pub keeps_none : List ℕ → Takes
+keeps_none name bytes all = all ≡ false
+
+-- A fault was reported with status 1, and nothing else was written.
+abbrev pub IsFaultTold : Fault → Sinks → (status : ℕ) → Type 0
+IsFaultTold f s status =
+    s.keeps_list × s.keeps_out × IsReported s.faults f × (status ≡ 1)
+
+-- The fault of a file of this name that can't be written.
+abbrev pub IsUnwritten : (name : List ℕ) → Fault → Type 0
+IsUnwritten name (fault.Unwritten file) = file.now ≡ name
+IsUnwritten name _ = ⊥
+
+-- What is said was written to the faults once, or there is nothing to say. If the writer did not
+-- take all of it, only the status tells.
+abbrev pub IsSaid : (said : List ℕ) → Takes → (keeps : Type 0) → Type 0
+IsSaid [] takes keeps = keeps
+IsSaid (byte ∷ said) takes keeps = (all : Bool) × takes (byte ∷ said) all
+
+-- The lines were written once, and then what is said; or the lines were not taken whole, which was
+-- reported with status 1.
+abbrev pub IsLinesOut : Output → (out faults : Takes) → (keeps_faults : Type 0) → (status : ℕ) →
+    Type 0
+IsLinesOut o out faults keeps_faults status =
+    (out o.lines true × IsSaid o.said faults keeps_faults × (status ≡ o.status))
+    ⊎ (out o.lines false × IsReported faults fault.Write × (status ≡ 1))
+
+-- A record is written before the lines, where there is one. If it was not taken whole, that was
+-- reported with status 1, and nothing else was written.
+abbrev pub IsKeptOut : Output → Option (List ℕ × List ℕ) → Sinks → (status : ℕ) → Type 0
+IsKeptOut o None s status = s.keeps_list × IsLinesOut o s.out s.faults s.keeps_faults status
+IsKeptOut o (Some p) s status =
+    (s.list p.0 p.1 true × IsLinesOut o s.out s.faults s.keeps_faults status)
+    ⊎ ((f : Fault) × IsUnwritten p.0 f × s.list p.0 p.1 false × s.keeps_out
+    × IsReported s.faults f × (status ≡ 1))
+
+abbrev pub IsWrittenOut : Output → Sinks → (status : ℕ) → Type 0
+IsWrittenOut o s status = IsKeptOut o o.list s status
+
+-- A job was done for what its sources give: its output was written, or its fault was reported.
+abbrev pub IsPerformed : Job → (machine second expects : Gives) → Sinks → (status : ℕ) → Type 0
+IsPerformed job machine second expects s status =
+    ((f : Fault) × IsFault job machine second expects f × IsFaultTold f s status)
+    ⊎ ((o : Output) × IsDone job machine second expects o × IsWrittenOut o s status)
+
+-- What was written to the output of a run or a replay is true of the machine that its text declares.
+abbrev pub IsTrulyDone : Job → (machine : Gives) → (out : Takes) → (status : ℕ) → Type 0
+IsTrulyDone job machine out status =
+    (text : List ℕ) × (lines : List ℕ) × machine (Ok text) × out lines true
+    × IsTrueFor job text lines status
+
+-- On files
+
+-- The file of this name was opened, where there is one.
+abbrev pub IsOpened : {File : Type 0} → (opens : List ℕ → Result File ErrorKind → Type 0) →
+    (name : Option (List ℕ)) → Given File → Type 0
+IsOpened opens None given = given ≡ Nothing
+IsOpened {File} opens (Some name) given =
+    (file : File) × opens name (Ok file) × (given ≡ Source file)
+
+-- It can't be opened.
+abbrev pub IsUnopened : {File : Type 0} → (opens : List ℕ → Result File ErrorKind → Type 0) →
+    (name : Option (List ℕ)) → Fault → Type 0
+IsUnopened opens None f = ⊥
+IsUnopened opens (Some name) f = (kind : ErrorKind) × opens name (Err kind) × IsUnread name kind f
+
+-- The files of a job: the machine text's, then that of the trace or of the list, then that of what
+-- is expected. Each is opened before anything is read.
+pub record Opened (File : Type 0) : Type 0 where
+  pub machine : Given File
+  pub second : Given File
+  pub expects : Given File
+
+pub record AreOpened {File : Type 0} (opens : List ℕ → Result File ErrorKind → Type 0) (job : Job)
+    (o : Opened File) : Type 0 where
+  pub machine : IsOpened opens (Some (file_of job)) o.machine
+  pub second : IsOpened opens (second_file_of job) o.second
+  pub expects : IsOpened opens (expected_of job) o.expects
+
+-- The first of them that can't be opened.
+abbrev pub AreUnopened : {File : Type 0} → (opens : List ℕ → Result File ErrorKind → Type 0) →
+    Job → Fault → Type 0
+AreUnopened {File} opens job f =
+    IsUnopened opens (Some (file_of job)) f
+    ⊎ ((machine : Given File) × IsOpened opens (Some (file_of job)) machine
+    × (IsUnopened opens (second_file_of job) f
+    ⊎ ((second : Given File) × IsOpened opens (second_file_of job) second
+    × IsUnopened opens (expected_of job) f)))
+
+-- A job was done on the files that it names, or the first of them that can't be opened was reported.
+abbrev pub IsPerformedOn : {File : Type 0} → (opens : List ℕ → Result File ErrorKind → Type 0) →
+    (gives : File → Gives) → Job → Sinks → (status : ℕ) → Type 0
+IsPerformedOn {File} opens gives job s status =
+    ((f : Fault) × AreUnopened opens job f × IsFaultTold f s status)
+    ⊎ ((o : Opened File) × AreOpened opens job o
+    × IsPerformed job (GivenGives gives o.machine) (GivenGives gives o.second)
+    (GivenGives gives o.expects) s status)
+
+-- What it wrote to the output of a run or a replay is true of the machine that its text declares.
+abbrev pub IsTrulyDoneOn : {File : Type 0} → (opens : List ℕ → Result File ErrorKind → Type 0) →
+    (gives : File → Gives) → Job → (out : Takes) → (status : ℕ) → Type 0
+IsTrulyDoneOn {File} opens gives job out status =
+    (machine : Given File) × IsOpened opens (Some (file_of job)) machine
+    × IsTrulyDone job (GivenGives gives machine) out status

@@ -1,0 +1,71 @@
+-- What is printed and recorded of a run or a replay.
+use Rattle.std.specs.Prelude.{◌≡◌, ℕ, Bool, true, false, Option, Some, None, Result, Ok, List, ◌++◌}
+use Rattle.std.specs.List.{list_all}
+use Rattle.l4_model.specs.Machine.{Machine}
+use Rattle.l4_model.specs.World.{World}
+use Rattle.l4_model.specs.History.{reached}
+use Rattle.l4_core_model.specs.Runs.{Run as CoreRun}
+use Rattle.l4_choices.specs.Entries.{Entry, replay_entries}
+use Rattle.l4_types.specs.declared.reports.Ending.{Ending}
+use Rattle.l4_types.specs.declared.reports.Ending.TheVariants.{Quiet, Spent}
+use Rattle.l4_expect.specs.Expected.{Expected}
+use Rattle.l4_machine.specs.Outcomes.{Findings, IsOutcomeOf}
+use Rattle.l4_reports.specs.ReportLines.{report_text}
+use Rattle.l4_schedules.specs.InFiles.{schedule_in_file}
+use Rattle.l4_schedules.specs.Written.{recorded_text}
+use Rattle.l4_trace.specs.Lines.{has_line, trace_of}
+use Rattle.l4_commands.specs.declared.job.Printed.{Printed}
+use Rattle.l4_jobs.specs.Expectations.{status_by, unmet_by}
+use Rattle.l4_jobs.specs.Extras.{behind}
+use Rattle.l4_jobs.specs.Outputs.{Output}
+
+-- The report of an outcome has the threads, the undecided sends and the ending.
+abbrev pub report_of : Findings → List ℕ
+report_of o = report_text o.threads o.waiting o.ending
+
+-- The report of an outcome, or its trace.
+abbrev pub lines_of_outcome : (report : Bool) → Findings → List ℕ
+lines_of_outcome true o = report_of o
+lines_of_outcome false o = trace_of o.history
+
+-- These lines are printed of an outcome, by the world that its history reaches.
+pub record IsWritten (printed : Printed) (m : Machine) (o : Findings) (lines : List ℕ) :
+    Type 0 where
+  pub world : World
+  pub reaches : reached m o.history ≡ Some world
+  pub lines_are : lines ≡
+      lines_of_outcome printed.report o ++ behind printed.extras m world o.history
+  -- each step of a printed trace has a line of its own
+  pub spelled : printed.report ≡ false → list_all has_line o.history ≡ true
+
+-- The exit status by the ending.
+abbrev pub status_of_ending : Ending → ℕ
+status_of_ending Quiet = 0
+status_of_ending Spent = 3
+
+-- What is kept of a run where its record is asked for: the list of entries that is read back as
+-- these, and by which a replay has the very findings of the run.
+pub record IsRecord (m : Machine) (o : Findings) (text : List ℕ) : Type 0 where
+  pub entries : List Entry
+  pub text_is : text ≡ recorded_text entries
+  pub reads : schedule_in_file m text ≡ Ok entries
+  pub of_replay : IsOutcomeOf m (replay_entries m entries) o
+
+abbrev pub IsRecorded : (name : Option (List ℕ)) → Machine → Findings →
+    (list : Option (List ℕ × List ℕ)) → Type 0
+IsRecorded None m o list = list ≡ None
+IsRecorded (Some name) m o list = (text : List ℕ) × (list ≡ Some (name, text)) × IsRecord m o text
+
+-- This is the output for a core run that is asked for. The report is judged whether it is printed
+-- or not.
+pub record IsRunDone (printed : Printed) (m : Machine) (IsAsked : CoreRun → Type 0)
+    (record_to : Option (List ℕ)) (expected : Option (List Expected)) (o : Output) : Type 0 where
+  pub run : CoreRun
+  pub is : IsAsked run
+  pub findings : Findings
+  pub of_run : IsOutcomeOf m run findings
+  pub written : IsWritten printed m findings o.lines
+  pub said : o.said ≡ unmet_by expected (report_of findings)
+  pub status_is :
+      o.status ≡ status_by expected (report_of findings) (status_of_ending findings.ending)
+  pub recorded : IsRecorded record_to m findings o.list

@@ -1,0 +1,104 @@
+-- The schedule that a job asks for, and the run of a machine by it.
+use Rattle.std.specs.Prelude.{◌≡◌, ◌⊎◌, ℕ, Option, Some, None, Result, Ok, Err, List}
+use Rattle.std.specs.Option.{option_map}
+use Rattle.l4_model.specs.Machine.{Machine}
+use Rattle.l4_core_model.specs.Runs.{Run as CoreRun}
+use Rattle.l4_choices.specs.Entries.{Entry, replay_entries}
+use Rattle.l4_machine.specs.Entries.{turns_fault}
+use Rattle.l4_machine.specs.Outcomes.{Findings, IsOutcomeOf, IsRunFor, in_order}
+use Rattle.l4_machine.specs.declared.outcome.RunFault.{RunFault}
+use Rattle.l4_machine.specs.declared.outcome.RunFault.TheVariants as run_fault
+use Rattle.l4_rounds.specs.ThenRest.{rest_fault, then_rest}
+use Rattle.l4_schedules.specs.InFiles.{schedule_in_file}
+use Rattle.l4_schedules.specs.Items.{schedule_of}
+use Rattle.l4_commands.specs.Files.{list_name}
+use Rattle.l4_jobs.specs.Inputs.{FailsWith, Gives, IsRead}
+use Rattle.l4_jobs.specs.declared.fault.Fault.{Fault}
+use Rattle.l4_jobs.specs.declared.fault.Fault.TheVariants as fault
+
+-- A run of a machine for so many turns, its events in order of stamp. Several processors may have
+-- more than one run.
+pub record IsRunAsked (m : Machine) (turns : ℕ) (r : CoreRun) : Type 0 where
+  pub lawful : turns_fault turns ≡ None
+  pub run : CoreRun
+  pub is : IsRunFor m turns run
+  pub sorted : r ≡ in_order run
+
+-- The schedule that is asked for: that of the list, or that of the text in the file which the list
+-- names.
+abbrev pub named_schedule : Machine → (name : Option (List ℕ)) → (list text : List ℕ) →
+    Result (List Entry) RunFault
+named_schedule m None list text = schedule_of m list
+named_schedule m (Some name) list text = schedule_in_file m text
+
+abbrev pub asked_schedule : Machine → (list text : List ℕ) → Result (List Entry) RunFault
+asked_schedule m list text = named_schedule m (list_name list) list text
+
+-- The core run of a machine by entries, and by so many more turns where it goes on; or why there is
+-- none.
+abbrev pub unless_fault : Option RunFault → CoreRun → Result CoreRun RunFault
+unless_fault None r = Ok r
+unless_fault (Some fault) r = Err fault
+
+abbrev pub gone_on : Machine → (rest : Option ℕ) → List Entry → Result CoreRun RunFault
+gone_on m None entries = Ok (replay_entries m entries)
+gone_on m (Some turns) entries =
+    unless_fault (rest_fault m entries turns) (then_rest m entries turns)
+
+abbrev pub replayed : Machine → (rest : Option ℕ) → Result (List Entry) RunFault →
+    Result CoreRun RunFault
+replayed m rest (Ok entries) = gone_on m rest entries
+replayed m rest (Err fault) = Err fault
+
+-- These are the findings of that core run.
+abbrev pub IsOutcomeOfAny : Machine → Result CoreRun RunFault → Findings → Type 0
+IsOutcomeOfAny m (Ok r) o = IsOutcomeOf m r o
+IsOutcomeOfAny m (Err fault) o = ⊥
+
+abbrev pub run_by_list : Machine → (rest : Option ℕ) → (list text : List ℕ) →
+    Result CoreRun RunFault
+run_by_list m rest list text = replayed m rest (asked_schedule m list text)
+
+abbrev pub IsReplayAsked : Machine → (rest : Option ℕ) → (list text : List ℕ) → CoreRun → Type 0
+IsReplayAsked m rest list text r = run_by_list m rest list text ≡ Ok r
+
+-- The faults of turns and of schedules.
+
+-- No job gathers processors, so `Strangers` never comes.
+abbrev pub fault_of_run : RunFault → Fault
+fault_of_run run_fault.NoMemory = fault.NoMemory
+fault_of_run run_fault.Strangers = fault.NoMemory
+fault_of_run run_fault.Turns = fault.Turns
+fault_of_run (run_fault.Schedule place) = fault.Schedule place
+
+abbrev pub fault_of_turns : (turns : ℕ) → Option Fault
+fault_of_turns turns = option_map fault_of_run (turns_fault turns)
+
+abbrev pub fault_of_result : Result CoreRun RunFault → Option Fault
+fault_of_result (Ok r) = None
+fault_of_result (Err f) = Some (fault_of_run f)
+
+-- The fault of a schedule. A list in a file is read only where there is a machine to judge it on.
+
+abbrev pub IsListFault : Machine → (name : List ℕ) → Gives → Fault → Type 0
+IsListFault m name gives f =
+    FailsWith name gives f
+    ⊎ ((text : List ℕ) × gives (Ok text)
+    × (fault_of_result (replayed m None (schedule_in_file m text)) ≡ Some f))
+
+abbrev pub IsScheduleFault : Machine → (list : List ℕ) → (name : Option (List ℕ)) → Gives →
+    Fault → Type 0
+IsScheduleFault m list None gives f = fault_of_result (replayed m None (schedule_of m list)) ≡
+    Some f
+IsScheduleFault m list (Some name) gives f = IsListFault m name gives f
+
+-- The fault of the further turns, where the schedule has none.
+pub record IsRestFault (m : Machine) (rest : Option ℕ) (list : List ℕ) (gives : Gives)
+    (f : Fault) : Type 0 where
+  pub text : List ℕ
+  pub read : IsRead (list_name list) gives text
+  pub faulty : fault_of_result (run_by_list m rest list text) ≡ Some f
+
+abbrev pub IsReplayFault : Machine → (rest : Option ℕ) → (list : List ℕ) → Gives → Fault → Type 0
+IsReplayFault m rest list gives f =
+    IsScheduleFault m list (list_name list) gives f ⊎ IsRestFault m rest list gives f

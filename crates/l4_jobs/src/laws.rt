@@ -1,0 +1,34 @@
+//! Laws of what is printed: of records, of traces, and of statuses.
+ghost use Rattle.std.specs.Prelude.{◌≡◌, ◌×◌, ℕ, List, None, Some, Option, true};
+ghost use Rattle.l4_commands.specs.Files.{list_name};
+ghost use Rattle.l4_commands.specs.declared.job.Job.{Job as AJob};
+ghost use Rattle.l4_commands.specs.declared.job.Printed.{Printed};
+ghost use Rattle.l4_expect.specs.Expected.{Expected};
+ghost use Rattle.l4_machine.specs.Outcomes.{Findings, IsTrueOf};
+ghost use Rattle.l4_model.specs.Machine.{Machine as ModelMachine};
+ghost use Rattle.l4_jobs.specs.Inputs.{Gives};
+ghost use Rattle.l4_jobs.specs.Jobs.{IsDone, IsStatusOf};
+ghost use Rattle.l4_jobs.specs.Outputs.{Output};
+ghost use Rattle.l4_jobs.specs.Records.{IsRepeatedBy};
+ghost use Rattle.l4_jobs.specs.Runs.{IsRunDone, IsWritten};
+ghost use Rattle.l4_jobs.specs.Schedules.{IsRunAsked};
+ghost use Rattle.l4_jobs.specs.Traces.{IsTraceAlone, IsTraceThatPasses};
+
+/// On the machine of a recorded run, a replay of its record prints exactly what the run printed,
+/// and ends with its status.
+pub fn law_recorded()
+    ensures { (printed : Printed) (m : ModelMachine) (turns : ℕ) (name : List ℕ)
+        (expected : Option (List Expected)) (o : Output) →
+        IsRunDone printed m (IsRunAsked m turns) (Some name) expected o →
+        (text : List ℕ) × (o.list ≡ Some (name, text)) ×
+        ((list other : List ℕ) → list_name list ≡ Some other →
+        IsRepeatedBy printed m list text expected o) }
+{}
+
+/// A trace that is printed of outcomes which are true of a machine is read back as a history of the
+/// machine, and passes its audit.
+pub fn law_trace_passes()
+    ensures { (printed : Printed) (m : ModelMachine) (o : Findings) (lines : List ℕ) →
+        IsTraceAlone printed → IsTrueOf m o → IsWritten printed m o lines →
+        IsTraceThatPasses m o lines }
+{}

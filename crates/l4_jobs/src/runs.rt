@@ -1,0 +1,249 @@
+//! What a run or a replay comes to.
+ghost use Rattle.std.specs.Prelude.{◌≡◌, ◌⊎◌, ℕ, List, IfOk, IfErr, None, Some, false, true};
+ghost use Rattle.std.specs.List.{list_all};
+ghost use Rattle.std.specs.Option.{option_copied};
+ghost use Rattle.l4_model.specs.History.{IsHistory};
+ghost use Rattle.l4_core_model.specs.Runs.{Run as CoreRun};
+ghost use Rattle.l4_commands.specs.Files.{list_name};
+ghost use Rattle.l4_expect.specs.Unmet.{expected_status};
+ghost use Rattle.l4_machine.specs.Outcomes.{compact_findings_of, steps_of};
+ghost use Rattle.l4_trace.specs.Lines.{has_line};
+ghost use Rattle.l4_jobs.specs.Expectations.{is_met_by, status_by, unmet_by};
+ghost use Rattle.l4_jobs.specs.Inputs.{IsRead};
+ghost use Rattle.l4_jobs.specs.Outputs.{output_of};
+ghost use Rattle.l4_jobs.specs.Runs.{IsRunDone, IsWritten, lines_of_outcome, report_of};
+ghost use Rattle.l4_jobs.specs.Runs.{status_of_ending};
+ghost use Rattle.l4_jobs.specs.Schedules.{IsReplayAsked, IsReplayFault, IsRunAsked, fault_of_turns};
+ghost use Rattle.l4_jobs.specs.declared.fault.Fault.TheVariants.{NoMemory as OutOfMemory};
+
+use crate::done::{Done, Kept};
+use crate::extras::write_extras;
+use crate::fault::Fault;
+use crate::job::Printed;
+use crate::schedules::{asked_entries, gone_on};
+use crate::streams::Source;
+use crate::trace_lines::trace_of;
+use l4_expect::expectations::Expectations;
+use l4_machine::{CompactOutcome, run_compact, run_recorded};
+use l4_proc::gate::Open;
+use l4_reports::report_lines::write_report;
+use l4_schedules::writing::recorded_text;
+use l4_script::machine::Machine;
+use l4_types::errors::NoMemory;
+use l4_types::reports::Ending;
+use std::alloc::Global;
+use std::thread::Threads;
+
+// The report of an outcome.
+fn report_of(alloc: Global, outcome: &CompactOutcome<'_>) -> Result<Vec<u8>, NoMemory>
+    ensures { IfOk result (λ lines. lines.items ≡ report_of (compact_findings_of outcome.now)) }
+{
+    let mut lines = Vec::new(alloc);
+    write_report(
+        outcome.threads.as_slice(),
+        outcome.waiting.as_slice(),
+        outcome.ending,
+        &mut lines,
+    )?;
+    Ok(lines)
+}
+
+// The report of an outcome, or its trace.
+fn lines_of(alloc: Global, report: bool, outcome: &CompactOutcome<'_>) -> Result<Vec<u8>, NoMemory>
+    ensures lines { IfOk result (λ lines.
+        lines.items ≡ lines_of_outcome report (compact_findings_of outcome.now)) }
+    ensures spelled { IfOk result (λ lines.
+        report ≡ false → list_all has_line (steps_of outcome.now.history) ≡ true) }
+{
+    if report {
+        report_of(alloc, outcome)
+    } else {
+        trace_of(alloc, &outcome.history)
+    }
+}
+
+// What is printed of an outcome. Its compact history is expanded only where `--waits` or `--counts`
+// needs it.
+fn printed_lines(
+    alloc: Global,
+    printed: Printed,
+    machine: &Machine,
+    outcome: CompactOutcome<'_>,
+) -> Result<Vec<u8>, NoMemory>
+    requires { IsHistory machine.now (steps_of outcome.history) }
+    ensures { IfOk result (λ lines.
+        IsWritten printed machine.now (compact_findings_of outcome.entry) lines.items) }
+{
+    let mut lines = lines_of(alloc, printed.report, &outcome)?;
+    if !printed.extras.any() {
+        return Ok(lines);
+    }
+    let history = outcome.history.into_history(alloc)?;
+    write_extras(alloc, printed.extras, machine, &history, &mut lines)?;
+    Ok(lines)
+}
+
+fn status(ending: Ending) -> u8
+    ensures { result ≡ status_of_ending ending }
+{
+    match ending {
+        Ending::Quiet => 0,
+        Ending::Spent => 3,
+    }
+}
+
+// What of the expectations does not hold of a report, and the exit status.
+#[derive(Drop)]
+struct Verdict {
+    unmet: Vec<u8>,
+    status: u8,
+}
+
+// The exit status of a job with expectations, by that of its run.
+fn status_of(are_met: bool, status: u8) -> u8
+    ensures { result ≡ expected_status are_met status }
+{
+    if are_met { status } else { 4 }
+}
+
+// The verdict on an outcome. Its report is made only where something is expected.
+fn verdict_on(
+    alloc: Global,
+    outcome: &CompactOutcome<'_>,
+    expected: Option<&Expectations<'_>>,
+) -> Result<Verdict, NoMemory>
+    ensures unmet { IfOk result (λ verdict. verdict.unmet.items ≡
+        unmet_by (option_copied expected.entry) (report_of (compact_findings_of outcome.now))) }
+    ensures status { IfOk result (λ verdict. verdict.status ≡
+        status_by (option_copied expected.entry) (report_of (compact_findings_of outcome.now))
+        (status_of_ending outcome.now.ending)) }
+{
+    let mut unmet = Vec::new(alloc);
+    let status = status(outcome.ending);
+    let Some(expected) = expected else {
+        return Ok(Verdict { unmet, status });
+    };
+    let report = report_of(alloc, outcome)?;
+    let are_met = expected.write_unmet(report.as_slice(), &mut unmet)?;
+    Ok(Verdict {
+        unmet,
+        status: status_of(are_met, status),
+    })
+}
+
+// What an outcome comes to, with this record of its run.
+fn outcome_done<'a>(
+    alloc: Global,
+    printed: Printed,
+    machine: &Machine,
+    outcome: CompactOutcome<'_>,
+    expected: Option<&Expectations<'_>>,
+    list: Option<Kept<'a>>,
+) -> Result<Done<'a>, NoMemory>
+    requires { IsHistory machine.now (steps_of outcome.history) }
+    ensures lines { IfOk result (λ done.
+        IsWritten printed machine.now (compact_findings_of outcome.entry) done.lines.items) }
+    ensures said { IfOk result (λ done. done.said.items ≡
+        unmet_by (option_copied expected.entry) (report_of (compact_findings_of outcome.entry))) }
+    ensures status { IfOk result (λ done. done.status ≡
+        status_by (option_copied expected.entry) (report_of (compact_findings_of outcome.entry))
+        (status_of_ending outcome.entry.ending)) }
+    ensures list { IfOk result (λ done. done.list ≡ list.entry) }
+{
+    let verdict = verdict_on(alloc, &outcome, expected)?;
+    Ok(Done {
+        lines: printed_lines(alloc, printed, machine, outcome)?,
+        list,
+        said: verdict.unmet,
+        status: verdict.status,
+    })
+}
+
+// What a run that is not recorded comes to.
+fn plain_run<'a, R: Threads + Sync>(
+    rt: &R,
+    alloc: Global,
+    machine: &Machine,
+    turns: u64,
+    printed: Printed,
+    expected: Option<&Expectations<'_>>,
+) -> Result<Done<'a>, Fault<'a>>
+    ensures ok { IfOk result (λ done.
+        IsRunDone printed machine.now (IsRunAsked machine.now turns) None
+        (option_copied expected.entry) (output_of done)) }
+    ensures err { IfErr result (λ fault. (fault ≡ OutOfMemory) ⊎
+        (fault_of_turns turns ≡ Some fault)) }
+{
+    let outcome = run_compact(rt, alloc, machine, turns, &Open)?;
+    Ok(outcome_done(alloc, printed, machine, outcome, expected, None)?)
+}
+
+// What a run that is recorded in the file of this name comes to.
+fn recorded_run<'a, R: Threads + Sync>(
+    rt: &R,
+    alloc: Global,
+    machine: &Machine,
+    turns: u64,
+    printed: Printed,
+    name: &'a str,
+    expected: Option<&Expectations<'_>>,
+) -> Result<Done<'a>, Fault<'a>>
+    ensures ok { IfOk result (λ done.
+        IsRunDone printed machine.now (IsRunAsked machine.now turns) (Some name.now)
+        (option_copied expected.entry) (output_of done)) }
+    ensures err { IfErr result (λ fault. (fault ≡ OutOfMemory) ⊎
+        (fault_of_turns turns ≡ Some fault)) }
+{
+    machine.facts();
+    let (outcome, entries) = run_recorded(rt, alloc, machine, turns, &Open)?;
+    let list = Some(Kept {
+        name,
+        text: recorded_text(alloc, entries.as_slice())?,
+    });
+    Ok(outcome_done(alloc, printed, machine, outcome, expected, list)?)
+}
+
+/// What a run comes to. It is recorded where `record_to` names a file.
+pub(crate) fn run_done<'a, R: Threads + Sync>(
+    rt: &R,
+    alloc: Global,
+    machine: &Machine,
+    turns: u64,
+    printed: Printed,
+    record_to: Option<&'a str>,
+    expected: Option<&Expectations<'_>>,
+) -> Result<Done<'a>, Fault<'a>>
+    ensures ok { IfOk result (λ done.
+        IsRunDone printed machine.now (IsRunAsked machine.now turns) (option_copied record_to)
+        (option_copied expected.entry) (output_of done)) }
+    ensures err { IfErr result (λ fault. (fault ≡ OutOfMemory) ⊎
+        (fault_of_turns turns ≡ Some fault)) }
+{
+    match record_to {
+        None => plain_run(rt, alloc, machine, turns, printed, expected),
+        Some(name) => recorded_run(rt, alloc, machine, turns, printed, name, expected),
+    }
+}
+
+/// What a replay comes to. `list` gives its schedule where that is in a file.
+pub(crate) fn replay_done<'a, L: Source>(
+    alloc: Global,
+    machine: &Machine,
+    schedule: &'a str,
+    rest: Option<u64>,
+    printed: Printed,
+    list: &mut L,
+    expected: Option<&Expectations<'_>>,
+) -> Result<Done<'a>, Fault<'a>>
+    ensures ok { IfOk result (λ done. (text : List ℕ) ×
+        IsRead (list_name schedule.now) (L.gives list.old) text ×
+        IsRunDone printed machine.now (IsReplayAsked machine.now rest schedule.now text) None
+        (option_copied expected.entry) (output_of done)) }
+    ensures err { IfErr result (λ fault. (fault ≡ OutOfMemory) ⊎
+        IsReplayFault machine.now rest schedule.now (L.gives list.old) fault) }
+    ensures unread { list_name schedule.now ≡ None → list.new ≡ list.old }
+{
+    let entries = asked_entries(alloc, machine, schedule, list)?;
+    let outcome = gone_on(alloc, machine, entries.as_slice(), rest)?;
+    Ok(outcome_done(alloc, printed, machine, outcome, expected, None)?)
+}

@@ -1,0 +1,99 @@
+//! The schedule that a job asks for, and what a replay by it comes to.
+ghost use Rattle.std.specs.Prelude.{◌≡◌, ◌⊎◌, ℕ, List, IfOk, IfErr, Ok, Err, None, map};
+ghost use Rattle.l4_commands.specs.Files.{list_name};
+ghost use Rattle.l4_machine.specs.Entries.{entries_fault, entry_from};
+ghost use Rattle.l4_machine.specs.Outcomes.{IsCompactReplay, compact_findings_of};
+ghost use Rattle.l4_schedules.specs.InFiles.{schedule_in_file};
+ghost use Rattle.l4_jobs.specs.Inputs.{IsRead};
+ghost use Rattle.l4_jobs.specs.Schedules.{IsListFault, IsOutcomeOfAny, IsScheduleFault};
+ghost use Rattle.l4_jobs.specs.Schedules.{asked_schedule, gone_on};
+ghost use Rattle.l4_jobs.specs.declared.fault.Fault.TheVariants.{NoMemory as OutOfMemory};
+
+use crate::fault::Fault;
+use crate::job::list_name;
+use crate::reading::read_list;
+use crate::streams::Source;
+use l4_machine::{CompactOutcome, Entry, RunFault, replay_compact};
+use l4_rounds::replay_then_rest;
+use l4_schedules::files::schedule_in_file;
+use l4_schedules::items::schedule_of;
+use l4_script::machine::Machine;
+use l4_types::errors::NoMemory;
+use std::alloc::Global;
+
+// The entries of the schedule in the file of this name.
+fn entries_in_file<'a, L: Source>(
+    alloc: Global,
+    machine: &Machine,
+    name: &'a str,
+    list: &mut L,
+) -> Result<Vec<Entry>, Fault<'a>>
+    ensures ok { IfOk result (λ entries. (all : List ℕ) × L.gives list.old (Ok all) ×
+        (schedule_in_file machine.now all ≡ Ok (map entry_from entries.items))) }
+    ensures lawful { IfOk result (λ entries.
+        entries_fault machine.now (map entry_from entries.items) ≡ None) }
+    ensures err { IfErr result (λ fault. (fault ≡ OutOfMemory) ⊎
+        IsListFault machine.now name.now (L.gives list.old) fault) }
+{
+    let text = read_list(alloc, name, list)?;
+    Ok(schedule_in_file(alloc, machine, text.as_slice())?)
+}
+
+// The entries of the schedule that a job asks for, from its list or from the file that the list
+// names.
+pub(crate) fn asked_entries<'a, L: Source>(
+    alloc: Global,
+    machine: &Machine,
+    schedule: &'a str,
+    list: &mut L,
+) -> Result<Vec<Entry>, Fault<'a>>
+    ensures ok { IfOk result (λ entries. (text : List ℕ) ×
+        IsRead (list_name schedule.now) (L.gives list.old) text ×
+        (asked_schedule machine.now schedule.now text ≡ Ok (map entry_from entries.items))) }
+    ensures lawful { IfOk result (λ entries.
+        entries_fault machine.now (map entry_from entries.items) ≡ None) }
+    ensures err { IfErr result (λ fault. (fault ≡ OutOfMemory) ⊎
+        IsScheduleFault machine.now schedule.now (list_name schedule.now) (L.gives list.old)
+        fault) }
+    ensures unread { list_name schedule.now ≡ None → list.new ≡ list.old }
+{
+    match list_name(schedule) {
+        None => Ok(schedule_of(alloc, machine, schedule)?),
+        Some(name) => entries_in_file(alloc, machine, name, list),
+    }
+}
+
+// The outcome of a replay of these entries on the machine.
+fn replayed<'m>(
+    alloc: Global,
+    machine: &'m Machine,
+    entries: &[Entry],
+) -> Result<CompactOutcome<'m>, NoMemory>
+    requires { entries_fault machine.now (map entry_from entries.now) ≡ None }
+    ensures { IfOk result (λ o. IsCompactReplay machine.now (map entry_from entries.now) o) }
+{
+    match replay_compact(alloc, machine, entries) {
+        Ok(outcome) => Ok(outcome),
+        Err(_) => Err(NoMemory),
+    }
+}
+
+// The outcome of a replay of these entries, which may go on in rounds.
+pub(crate) fn gone_on<'m>(
+    alloc: Global,
+    machine: &'m Machine,
+    entries: &[Entry],
+    rest: Option<u64>,
+) -> Result<CompactOutcome<'m>, RunFault>
+    requires { entries_fault machine.now (map entry_from entries.now) ≡ None }
+    ensures ok { IfOk result (λ o.
+        IsOutcomeOfAny machine.now (gone_on machine.now rest (map entry_from entries.now))
+        (compact_findings_of o)) }
+    ensures err { IfErr result (λ fault. (fault ≡ RunFault.NoMemory) ⊎
+        (gone_on machine.now rest (map entry_from entries.now) ≡ Err fault)) }
+{
+    match rest {
+        None => Ok(replayed(alloc, machine, entries)?),
+        Some(turns) => replay_then_rest(alloc, machine, entries, turns),
+    }
+}

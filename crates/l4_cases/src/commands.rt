@@ -12,7 +12,7 @@ use l4_jobs::lints::perform_lint;
 use l4_jobs::list_lints::perform_list_lint_on_files;
 use l4_jobs::perform::perform;
 use l4_jobs::refusal::refuse;
-use l4_jobs::streams::WithInput;
+use l4_jobs::streams::{STANDARD_INPUT, WithInput};
 use l4_jobs::words::job_of;
 use std::alloc::{AllocError, Global};
 use std::io;
@@ -55,6 +55,7 @@ fn do_job<R: Files + AllocGlobal + Threads + Sync>(
         let folder = WithInput {
             folder: rt,
             input: trace,
+            input_name: STANDARD_INPUT,
         };
         if let Some(expecting) = job.expecting() {
             let alloc = rt.alloc();

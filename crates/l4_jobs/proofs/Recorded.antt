@@ -123,11 +123,11 @@ record_done job r machine trace keeps out faults status is (lines, text, made, k
     subst (λ j. IsDone j machine trace out faults status) (sym is)
     (made.text, [], lines, made.given, tt, shown_made r machine lines text [] status made, wrote, quiet)
 
-pub record_kept : (job : Job) (r : Recording) (machine : Gives) (keeps : List ℕ → Takes) (out : Takes) (faults : Type 0) (status : ℕ) → job ≡ job_of r →
-    IsRecordDone (job_of r) machine (keeps r.name.now) out faults status →
-    IfSome (record_of job) (λ name. IsRecordDone job machine (keeps name) out faults status)
+pub record_kept : (job : Job) (r : Recording) (machine : Gives) (keeps : (read : List ℕ) → List ℕ → Takes) (out : Takes) (faults : Type 0) (status : ℕ) →
+    job ≡ job_of r → IsRecordDone (job_of r) machine (keeps r.file.now r.name.now) out faults status →
+    IfSome (record_of job) (λ name. IsRecordDone job machine (keeps (file_of job) name) out faults status)
 record_kept job r machine keeps out faults status is done =
-    subst (λ j. IfSome (record_of j) (λ name. IsRecordDone j machine (keeps name) out faults status)) (sym is) done
+    subst (λ j. IfSome (record_of j) (λ name. IsRecordDone j machine (keeps (file_of j) name) out faults status)) (sym is) done
 
 no_record : (job : Job) (P : List ℕ → Type 0) → record_of job ≡ None → IfSome (record_of job) P
 no_record job P none = subst (λ o. IfSome o P) (sym none) tt
@@ -137,15 +137,17 @@ pub nothing_kept : (job : Job) (machine : Gives) (keeps : List ℕ → Takes) (o
 nothing_kept job machine keeps out faults status = no_record job _
 
 pub not_recorded : {File : Type 0} (opens : List ℕ → Result File ErrorKind → Type 0) (gives : File → Gives) (job : Job) (r : Recording)
-    (machine trace : Gives) (keeps : List ℕ → Takes) (keeps_file : Type 0) (out : Takes) (keeps_out : Type 0) (faults : Takes) → job ≡ job_of r →
-    IsNotRecorded (job_of r) machine (keeps r.name.now) keeps_file out keeps_out faults →
-    IsNotDone job machine trace (λ f. IsFaultBehind opens gives (second_file_of job) job machine f ⊎ IsRecordFault job machine keeps f) out keeps_out faults
+    (machine trace : Gives) (keeps : (read : List ℕ) → List ℕ → Takes) (keeps_file : Type 0) (out : Takes) (keeps_out : Type 0) (faults : Takes) →
+    job ≡ job_of r → IsNotRecorded (job_of r) machine (keeps r.file.now r.name.now) keeps_file out keeps_out faults →
+    IsNotDone job machine trace (λ f. IsFaultBehind opens gives (second_file_of job) job machine f ⊎ IsRecordFault job machine (keeps (file_of job)) f)
+    out keeps_out faults
 not_recorded opens gives job r machine trace keeps keeps_file out keeps_out faults is h =
-    subst (λ j. IsNotDone j machine trace (λ f. IsFaultBehind opens gives (second_file_of j) j machine f ⊎ IsRecordFault j machine keeps f) out keeps_out faults)
-    (sym is) (by h)
+    subst (λ j. IsNotDone j machine trace (λ f. IsFaultBehind opens gives (second_file_of j) j machine f ⊎ IsRecordFault j machine (keeps (file_of j)) f)
+    out keeps_out faults) (sym is) (by h)
   where
-    by : IsNotRecorded (job_of r) machine (keeps r.name.now) keeps_file out keeps_out faults →
-        IsNotDone (job_of r) machine trace (λ f. IsJobFault (job_of r) machine (λ given. ⊥) f ⊎ IsRecordFault (job_of r) machine keeps f) out keeps_out faults
+    by : IsNotRecorded (job_of r) machine (keeps r.file.now r.name.now) keeps_file out keeps_out faults →
+        IsNotDone (job_of r) machine trace (λ f. IsJobFault (job_of r) machine (λ given. ⊥) f ⊎ IsRecordFault (job_of r) machine (keeps r.file.now) f)
+        out keeps_out faults
     by (inl (f, faulty, file, kept, reported)) = inl (f, inl faulty, kept, reported)
     by (inr (inl (f, faulty, kept, reported))) = inl (f, inr faulty, kept, reported)
     by (inr (inr (lines, text, status, made, kept, wrote, reported))) =

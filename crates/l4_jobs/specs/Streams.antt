@@ -1,5 +1,5 @@
 -- What is read and written, as far as the contracts of byte readers and writers tell.
-use Rattle.std.specs.Prelude.{◌≡◌, ◌⊎◌, ℕ, Bool, true, false, Option, Some, None, Result, Ok, Err, List, ◌++◌}
+use Rattle.std.specs.Prelude.{◌≡◌, ◌⊎◌, ℕ, Bool, true, false, if◌then◌else◌, Option, Some, None, Result, Ok, Err, List, ◌++◌}
 use Rattle.std.specs.Io.KnownBytes.{Appends}
 use Rattle.std.specs.declared.io.ErrorKind.{ErrorKind}
 use Rattle.l4_commands.specs.Files.{is_input}
@@ -25,16 +25,20 @@ abbrev pub MayTake : (old new : Option (List ℕ)) → (bytes : List ℕ) → (a
 MayTake old new bytes true = Appends old new bytes
 MayTake old new bytes false = (left : List ℕ) × HasAppended old new bytes left
 
--- What writing these bytes to a new file of a name may come to: it is created and then written.
-abbrev pub IsCreated : {Made : Type 0} →
-    (creates : List ℕ → Result Made ErrorKind → Type 0) →
-    (takes : (old new : Made) → List ℕ → Bool → Type 0) →
-    (name bytes : List ℕ) → (all : Bool) → Type 0
-IsCreated {Made} creates takes name bytes true =
-    (made : Made) × (written : Made) × creates name (Ok made) × takes made written bytes true
-IsCreated {Made} creates takes name bytes false =
-    ((kind : ErrorKind) × creates name (Err kind))
-    ⊎ ((made : Made) × (written : Made) × creates name (Ok made) × takes made written bytes false)
+-- What writing these bytes to the file of a name may come to, where the file that is read must stay
+-- as it is: the folder told that the two are not the same, and then the file was written. Or they
+-- are the same, and nothing was.
+abbrev pub IsWrittenApart : (tells_same : (name read : List ℕ) → (same : Bool) → Type 0) →
+    (writes : (name bytes : List ℕ) → (all : Bool) → Type 0) → (read name bytes : List ℕ) →
+    (all : Bool) → Type 0
+IsWrittenApart tells_same writes read name bytes true =
+    tells_same name read false × writes name bytes true
+IsWrittenApart tells_same writes read name bytes false =
+    tells_same name read true ⊎ (tells_same name read false × writes name bytes false)
+
+-- The name of a file that is read, where `-` names an input: that of the input's file.
+abbrev pub name_read : (input_name name : List ℕ) → List ℕ
+name_read input_name name = if is_input name then input_name else name
 
 -- What reading the file of a name may come to: it is opened and then read.
 abbrev pub FileGives : {File : Type 0} → (opens : List ℕ → Result File ErrorKind → Type 0) →

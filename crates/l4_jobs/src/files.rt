@@ -2,7 +2,7 @@
 ghost use Rattle.std.specs.Prelude.{◌≡◌, ◌≢◌, ◌⊎◌, IfSome};
 ghost use Rattle.l4_jobs.specs.Lints.{IsLintEnded};
 ghost use Rattle.l4_jobs.specs.Recording.{IsRecordDone, IsRecordFault};
-ghost use Rattle.l4_jobs.specs.Streams.{FileGives, IsCreated};
+ghost use Rattle.l4_jobs.specs.Streams.{FileGives, IsWrittenApart};
 ghost use Rattle.l4_jobs.specs.Jobs.{IsDone, IsFaultBehind, IsNotDone, IsOpenedFault, TraceGives};
 ghost use Rattle.l4_commands.specs.Files.{file_of, record_of, second_file_of};
 ghost use Rattle.l4_jobs.specs.Jobs.{IsStatusOf, IsTrulyDone};
@@ -12,7 +12,7 @@ use crate::job::Job;
 use crate::lints::perform_lint;
 use crate::perform::perform_heard;
 use crate::recording::perform_recorded;
-use crate::streams::{Folder, NewFile, Sink, Source};
+use crate::streams::{Folder, OutputFile, Sink, Source};
 use l4_explore::progress::{Progress, Unheard};
 use std::alloc::Global;
 use std::thread::Threads;
@@ -82,25 +82,26 @@ fn on_machine<R: Threads + Sync, F: Folder, M: Source, W: Sink, E: Sink, P: Prog
         (W.takes out.old out.new) (faults.new ≡ faults.old) result }
     ensures recorded { result ≢ 1 → IfSome (record_of job.now) (λ name.
         IsRecordDone job.now (M.gives machine.old)
-        (IsCreated (F.creates folder.now) F.Made.takes name)
+        (IsWrittenApart (F.tells_same folder.now) (F.writes folder.now) (file_of job.now) name)
         (W.takes out.old out.new) (faults.new ≡ faults.old) result) }
     ensures whole { result ≡ 1 →
         IsNotDone job.now (M.gives machine.old)
         (TraceGives (F.opens folder.now) F.File.gives job.now)
         (λ f. IsFaultBehind (F.opens folder.now) F.File.gives (second_file_of job.now) job.now
         (M.gives machine.old) f ⊎
-        IsRecordFault job.now (M.gives machine.old) (IsCreated (F.creates folder.now) F.Made.takes)
-        f)
+        IsRecordFault job.now (M.gives machine.old)
+        (IsWrittenApart (F.tells_same folder.now) (F.writes folder.now) (file_of job.now)) f)
         (W.takes out.old out.new) (out.new ≡ out.old) (E.takes faults.old faults.new) }
     ensures statuses { IsStatusOf job.now result }
 {
     match job.recording() {
         Some(recording) => {
-            let mut new_file = NewFile {
+            let mut record = OutputFile {
                 folder,
                 name: recording.name,
+                read: recording.file,
             };
-            perform_recorded(rt, alloc, &recording, machine, &mut new_file, out, faults)
+            perform_recorded(rt, alloc, &recording, machine, &mut record, out, faults)
         }
         None => on_second_file(rt, alloc, folder, job, machine, out, faults, progress),
     }
@@ -122,15 +123,15 @@ fn on_opened<R: Threads + Sync, F: Folder, M: Source, W: Sink, E: Sink, P: Progr
         (W.takes out.old out.new) (faults.new ≡ faults.old) result }
     ensures recorded { result ≢ 1 → IfSome (record_of job.now) (λ name.
         IsRecordDone job.now (M.gives machine.old)
-        (IsCreated (F.creates folder.now) F.Made.takes name)
+        (IsWrittenApart (F.tells_same folder.now) (F.writes folder.now) (file_of job.now) name)
         (W.takes out.old out.new) (faults.new ≡ faults.old) result) }
     ensures whole { result ≡ 1 →
         IsNotDone job.now (M.gives machine.old)
         (TraceGives (F.opens folder.now) F.File.gives job.now)
         (λ f. IsFaultBehind (F.opens folder.now) F.File.gives (second_file_of job.now) job.now
         (M.gives machine.old) f ⊎
-        IsRecordFault job.now (M.gives machine.old) (IsCreated (F.creates folder.now) F.Made.takes)
-        f)
+        IsRecordFault job.now (M.gives machine.old)
+        (IsWrittenApart (F.tells_same folder.now) (F.writes folder.now) (file_of job.now)) f)
         (W.takes out.old out.new) (out.new ≡ out.old) (E.takes faults.old faults.new) ⊎
         IsLintEnded job.now (M.gives machine.old) (W.takes out.old out.new)
         (faults.new ≡ faults.old) (E.takes faults.old faults.new) }
@@ -146,7 +147,7 @@ fn on_opened<R: Threads + Sync, F: Folder, M: Source, W: Sink, E: Sink, P: Progr
 /// schedule, before it reads anything.
 ///
 /// A job may ask to record its run. Then the lines and the record are made whole, the record's file
-/// is created and written, and then the lines are written.
+/// is written, and then the lines are written. Where the record's file is FILE, it is not written.
 ///
 /// The exit status is that of `perform` or `perform_recorded`, or 1 where a file can't be opened.
 pub fn perform_on_files<R: Threads + Sync, F: Folder, W: Sink, E: Sink>(
@@ -166,14 +167,14 @@ pub fn perform_on_files<R: Threads + Sync, F: Folder, W: Sink, E: Sink>(
         (TraceGives (F.opens folder.now) F.File.gives job.now) (W.takes out.old out.new) result }
     ensures recorded { result ≢ 1 → IfSome (record_of job.now) (λ name.
         IsRecordDone job.now (FileGives (F.opens folder.now) F.File.gives (file_of job.now))
-        (IsCreated (F.creates folder.now) F.Made.takes name)
+        (IsWrittenApart (F.tells_same folder.now) (F.writes folder.now) (file_of job.now) name)
         (W.takes out.old out.new) (faults.new ≡ faults.old) result) }
     ensures whole { result ≡ 1 →
         IsNotDone job.now (FileGives (F.opens folder.now) F.File.gives (file_of job.now))
         (TraceGives (F.opens folder.now) F.File.gives job.now)
         (λ f. IsOpenedFault (F.opens folder.now) F.File.gives job.now f ⊎
         IsRecordFault job.now (FileGives (F.opens folder.now) F.File.gives (file_of job.now))
-        (IsCreated (F.creates folder.now) F.Made.takes) f)
+        (IsWrittenApart (F.tells_same folder.now) (F.writes folder.now) (file_of job.now)) f)
         (W.takes out.old out.new) (out.new ≡ out.old) (E.takes faults.old faults.new) ⊎
         IsLintEnded job.now (FileGives (F.opens folder.now) F.File.gives (file_of job.now))
         (W.takes out.old out.new) (faults.new ≡ faults.old) (E.takes faults.old faults.new) }
@@ -202,14 +203,14 @@ pub fn perform_on_files_heard<R: Threads + Sync, F: Folder, W: Sink, E: Sink, P:
         (TraceGives (F.opens folder.now) F.File.gives job.now) (W.takes out.old out.new) result }
     ensures recorded { result ≢ 1 → IfSome (record_of job.now) (λ name.
         IsRecordDone job.now (FileGives (F.opens folder.now) F.File.gives (file_of job.now))
-        (IsCreated (F.creates folder.now) F.Made.takes name)
+        (IsWrittenApart (F.tells_same folder.now) (F.writes folder.now) (file_of job.now) name)
         (W.takes out.old out.new) (faults.new ≡ faults.old) result) }
     ensures whole { result ≡ 1 →
         IsNotDone job.now (FileGives (F.opens folder.now) F.File.gives (file_of job.now))
         (TraceGives (F.opens folder.now) F.File.gives job.now)
         (λ f. IsOpenedFault (F.opens folder.now) F.File.gives job.now f ⊎
         IsRecordFault job.now (FileGives (F.opens folder.now) F.File.gives (file_of job.now))
-        (IsCreated (F.creates folder.now) F.Made.takes) f)
+        (IsWrittenApart (F.tells_same folder.now) (F.writes folder.now) (file_of job.now)) f)
         (W.takes out.old out.new) (out.new ≡ out.old) (E.takes faults.old faults.new) ⊎
         IsLintEnded job.now (FileGives (F.opens folder.now) F.File.gives (file_of job.now))
         (W.takes out.old out.new) (faults.new ≡ faults.old) (E.takes faults.old faults.new) }

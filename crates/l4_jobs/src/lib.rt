@@ -12,9 +12,8 @@
 //! record repeats the recorded run. No contract says what the variants with `_heard` tell their
 //! listener of a search.
 //!
-//! `streams` assumes what the system's files and streams do, and `.ci/command-lines` tries it.
-//! `l4_host_tests` tries streams that fail, and refused memory. `l4_cases` has what each command
-//! prints.
+//! `streams` assumes what the system's files and streams do. `.ci/command-lines` tries it, also with
+//! streams that fail. `l4_cases` has what each command prints, and what a fault displays.
 //!
 //! ```rust
 //! let job = job_of(alloc, &["l4run", "run", "examples/first.l4"])?;

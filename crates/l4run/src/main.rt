@@ -26,7 +26,7 @@ use l4_jobs::fault::{Fault, report};
 use l4_jobs::files::perform_on_files_heard;
 use l4_jobs::list_lints::perform_list_lint_on_files;
 use l4_jobs::refusal::refuse;
-use l4_jobs::streams::{Sink, Source, WithInput};
+use l4_jobs::streams::{STANDARD_INPUT, Sink, Source, WithInput};
 use l4_jobs::words::job_of;
 use std::alloc::{AllocError, Global};
 use std::io::IsTerminal;
@@ -67,7 +67,11 @@ fn on_words<
     match job_of(rt.alloc(), words) {
         Ok(job) => {
             let job = job.on_output(shows_lines(rt, is_terminal), columns(rt));
-            let folder = WithInput { folder: rt, input };
+            let folder = WithInput {
+                folder: rt,
+                input,
+                input_name: STANDARD_INPUT,
+            };
             let alloc = rt.alloc();
             match job.expecting() {
                 Some(expecting) => perform_expected_on_files(

@@ -1,5 +1,6 @@
+use Rattle.l4_commands.specs.Files.{file_of}
 use Rattle.l4_jobs.specs.Jobs.{TraceGives}
-use Rattle.l4_jobs.specs.Streams.{IsCreated}
+use Rattle.l4_jobs.specs.Streams.{IsWrittenApart}
 use Rattle.l4_jobs.proofs.Linted.{lint_done, lint_not_done, lint_records, lint_status}
 use Rattle.l4_jobs.proofs.files.on_opened.Goals as goal
 
@@ -16,7 +17,7 @@ pub returns-in-Lint-clause-whole : goal.returns-in-Lint-clause-whole
 returns-in-Lint-clause-whole g c = λ failed.
     lint_not_done (g.F.Folder.opens c.args.folder.now) g.F.File.Source.gives c.args.job.now c.in-Lint.file (g.M.Source.gives c.args.machine.now)
     (TraceGives (g.F.Folder.opens c.args.folder.now) g.F.File.Source.gives c.args.job.now)
-    (IsCreated (g.F.Folder.creates c.args.folder.now) g.F.Made.Sink.takes) (g.W.Sink.takes c.args.out.now c.perform_lint.new.out) _ _
+    (IsWrittenApart (g.F.Folder.tells_same c.args.folder.now) (g.F.Folder.writes c.args.folder.now) (file_of c.args.job.now)) (g.W.Sink.takes c.args.out.now c.perform_lint.new.out) _ _
     (g.E.Sink.takes c.args.faults.now c.perform_lint.new.faults) _ c.in-Lint.is c.perform_lint.ensures failed
 
 pub returns-in-Lint-clause-statuses : goal.returns-in-Lint-clause-statuses

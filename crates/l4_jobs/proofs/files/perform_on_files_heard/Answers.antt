@@ -2,7 +2,7 @@ use Rattle.std.proofs.Common.{subst}
 use Rattle.std.specs.Prelude.{Ok}
 use Rattle.l4_commands.specs.Files.{file_of}
 use Rattle.l4_jobs.specs.Jobs.{TraceGives}
-use Rattle.l4_jobs.specs.Streams.{FileGives, IsCreated}
+use Rattle.l4_jobs.specs.Streams.{FileGives, IsWrittenApart}
 use Rattle.l4_jobs.proofs.Opened.{truly_on_file}
 use Rattle.l4_jobs.proofs.Linted.{ended_on_file}
 use Rattle.l4_jobs.proofs.Recorded.{kept_more}
@@ -13,7 +13,7 @@ returns-in-Ok-clause-whole g c = λ failed.
     let opens = g.F.Folder.opens c.args.folder.now in
     let opened = subst (λ name. opens name (Ok c.in-Ok.machine)) c.file-file.ensures c.in-Ok.ensures in
     ended_on_file opens g.F.File.Source.gives c.args.job.now (TraceGives opens g.F.File.Source.gives c.args.job.now) c.in-Ok.machine
-    (IsCreated (g.F.Folder.creates c.args.folder.now) g.F.Made.Sink.takes) (g.W.Sink.takes c.args.out.now c.on_opened.new.out) _ _
+    (IsWrittenApart (g.F.Folder.tells_same c.args.folder.now) (g.F.Folder.writes c.args.folder.now) (file_of c.args.job.now)) (g.W.Sink.takes c.args.out.now c.on_opened.new.out) _ _
     (g.E.Sink.takes c.args.faults.now c.on_opened.new.faults) opened (c.on_opened.ensures.whole failed)
 
 pub returns-in-Ok-clause-recorded : goal.returns-in-Ok-clause-recorded
@@ -21,7 +21,7 @@ returns-in-Ok-clause-recorded g c = λ right.
     let opens = g.F.Folder.opens c.args.folder.now in
     let opened = subst (λ name. opens name (Ok c.in-Ok.machine)) c.file-file.ensures c.in-Ok.ensures in
     kept_more c.args.job.now (g.F.File.Source.gives c.in-Ok.machine) (FileGives opens g.F.File.Source.gives (file_of c.args.job.now))
-    (IsCreated (g.F.Folder.creates c.args.folder.now) g.F.Made.Sink.takes) (g.W.Sink.takes c.args.out.now c.on_opened.new.out) _ _
+    (IsWrittenApart (g.F.Folder.tells_same c.args.folder.now) (g.F.Folder.writes c.args.folder.now) (file_of c.args.job.now)) (g.W.Sink.takes c.args.out.now c.on_opened.new.out) _ _
     (λ bytes given. (c.in-Ok.machine, opened, given)) (c.on_opened.ensures.recorded right)
 
 pub returns-in-Ok-clause-headline : goal.returns-in-Ok-clause-headline

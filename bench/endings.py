@@ -4,7 +4,7 @@
 
 A core run has at most so many events, and its ticks go to the least deadline of their processor. Each ending, a state at rest that core runs lead to, is printed
 once, with the first schedule that leads there and its report; the last line says how many states there are, how deep all were found, and whether there are no
-more. With --waits who waits for whom stands behind each report. What of NAME an ending does not meet is told on standard error. Faults are not told as the
+more, of which runs. With --waits who waits for whom stands behind each report. What of NAME an ending does not meet is told on standard error. Faults are not told as the
 program tells them.
 """
 
@@ -79,8 +79,14 @@ def is_asked(asked, ending):
     )
 
 
-def last_line(found):
-    return f"states {len(found.states)} depth {found.depth} {'whole' if found.is_whole else 'cut'}\n"
+def whole(machine):
+    """What a whole search knows of: runs whose ticks go to least deadlines, and in which threads of one processor take turns in one order."""
+    cpus = [declaration.cpu for declaration in machine.threads.values()]
+    return "whole, least ticks" + (", in turn" if len(set(cpus)) < len(cpus) else "")
+
+
+def last_line(machine, found):
+    return f"states {len(found.states)} depth {found.depth} {whole(machine) if found.is_whole else 'cut'}\n"
 
 
 def answer(text, asked):
@@ -97,7 +103,7 @@ def full_answer(text, asked, expected):
     lines = "".join(ending.text(number, asked.waits) for number, ending in enumerate(endings, 1))
     unmet = "".join(ending.unmet(number, expected) for number, ending in enumerate(endings, 1))
     status = UNMET if unmet else FOUND if asked.none and endings else WHOLE if found.is_whole else CUT
-    return lines + last_line(found), unmet, status
+    return lines + last_line(machine, found), unmet, status
 
 
 def number(word):

@@ -19,7 +19,7 @@ LINT = re.compile(rf"line (\d+) column \d+: ({KINDS})(?:: `[ -~]*`)?: [ -~]+".en
 DOUBT = re.compile(rb"line \d+ column \d+: (?:always|perhaps): `[ -~]*`: [ -~]+")
 BEHIND = rb"(?:waits \S+ \S+ (?:send|receive)\n)*(?:(?:circle|deadlock)(?: \S+)+\n)*(?:counts \S+ turns \d+ sends \d+ delivered \d+ received \d+ refused(?: [2-7]:\d+){6}\n)*"
 PASSED = re.compile(rb"passed \d+ (?:quiet|spent)\n" + BEHIND)
-ENDINGS = re.compile(rb"(^|\n)states \d+ depth \d+ (whole|cut)\n$")
+ENDINGS = re.compile(rb"(^|\n)states \d+ depth \d+ (whole, least ticks(, in turn)?|cut)\n$")
 ITEM = re.compile(rb"schedule item (\d+): (?:`[ -~]*`: )?[ -~]+")
 # What a report does not meet, and which ending that is of.
 UNMET = re.compile(r"(?:(?:ending \d+ \S*|line \d+: (?:wanted|never): [ -~]+; found: [ -~]+)\n)+")

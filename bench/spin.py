@@ -54,7 +54,7 @@ def endings(program, text, words):
     found = len(re.findall(r"^ending \d", said, re.MULTILINE))
     if (status == FOUND) != (found > 0):
         sys.exit(f"{text} {words}: status {status} does not fit\n{said}")
-    return Answer(found, number(r"^states (\d+) depth \d+ whole$", said))
+    return Answer(found, number(r"^states (\d+) depth \d+ whole, least ticks(?:, in turn)?$", said))
 
 
 def spin(model, condition, folder):

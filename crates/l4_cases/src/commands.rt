@@ -8,7 +8,7 @@ use l4_explore::progress::Unheard;
 use l4_jobs::job::Job;
 use l4_jobs::perform::{perform, perform_on_files};
 use l4_jobs::refusal::refuse;
-use l4_jobs::streams::WithInput;
+use l4_jobs::streams::{STANDARD_INPUT, WithInput};
 use l4_jobs::words::job_of;
 use std::alloc::{AllocError, Global};
 use std::io;
@@ -51,6 +51,7 @@ fn do_job<R: Files + AllocGlobal + Threads + Sync>(
         let folder = WithInput {
             folder: rt,
             input: trace,
+            input_name: STANDARD_INPUT,
         };
         return perform_on_files(rt, rt.alloc(), &folder, job, output, faults, &mut Unheard);
     }

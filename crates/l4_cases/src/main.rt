@@ -1,5 +1,5 @@
 //! Does the commands of the cases that its words name, and prints each whose outcome differs from
-//! what its case says.
+//! what its case says. It also prints each fault that displays something else than its line.
 //!
 //! A case is a file of `data/`: a machine text with its commands and what each is to print, worked
 //! out by hand from docs/MODEL.md and docs/FORMATS.md. Each goes the way of the program, by
@@ -20,6 +20,7 @@ mod case;
 mod commands;
 mod counts;
 mod differences;
+mod faults;
 mod outcome;
 mod repeats;
 mod said;
@@ -28,6 +29,7 @@ use crate::case::Case;
 use crate::commands::do_command;
 use crate::counts::as_counted;
 use crate::differences::print_difference;
+use crate::faults::count_of_faults;
 use crate::repeats::written_out;
 use crate::said::said_of;
 use std::process::ExitCode;
@@ -129,9 +131,9 @@ fn count_of_cases<R: Files + AllocGlobal + Threads + Sync + Print>(
 
 fn main(rt: HostRuntime) -> io::Result<ExitCode> {
     let names: Vec<String> = env::args(&rt)?.skip(1).collect(rt.alloc())?;
-    let others = count_of_cases(&rt, names.as_slice())?;
+    let others = count_of_cases(&rt, names.as_slice())?.saturating_add(count_of_faults(&rt)?);
     if others != 0 {
-        println!(rt; "{others} commands differ")?;
+        println!(rt; "{others} commands or faults differ")?;
         return Ok(ExitCode::FAILURE);
     }
     println!(rt; "all cases as wanted")?;

@@ -1,5 +1,5 @@
 -- What the words of the command line ask for.
-use Rattle.std.specs.Prelude.{◌≡◌, ◌≢◌, ◌⊎◌, ◌&&◌, ◌||◌, ℕ, Bool, true, false, ⊤, if◌then◌else◌, Option, Some, None, is_none, is_some, List, [], ◌∷◌, ◌++◌, codes, option_map, option_and_then}
+use Rattle.std.specs.Prelude.{◌≡◌, ◌≢◌, ◌⊎◌, ◌&&◌, ◌||◌, ℕ, Bool, true, false, ⊤, if◌then◌else◌, not, Option, Some, None, is_none, is_some, List, [], ◌∷◌, ◌++◌, codes, option_map, option_and_then}
 use Rattle.std.specs.Option.{option_copied}
 use Rattle.std.specs.Str.{bytes_eq}
 use Rattle.std.specs.Str.Parse.{digits_value, without_leading_plus}
@@ -84,9 +84,10 @@ judged_in rows = do
   extras ← extras_in rows
   Some (record { report = report; explain = explain; extras = extras })
 
--- Whether the schedule would overwrite the machine text.
+-- Whether the schedule would overwrite the machine text. `-` is a file where it is written, and the
+-- standard input where it is read.
 abbrev pub is_same : (file name : Option Text) → Bool
-is_same (Some file) (Some name) = bytes_eq name file
+is_same (Some file) (Some name) = bytes_eq name file && not (is_input file)
 is_same file name = false
 
 abbrev pub is_over_file : List Row → Bool

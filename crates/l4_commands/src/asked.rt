@@ -66,12 +66,13 @@ fn judged(matches: &ArgMatches<'_>) -> Option<Judged>
     })
 }
 
-// Whether both names are given and are the same.
+// Whether both names are given and are those of one file. `-` is a file where it is written, and the
+// standard input where it is read.
 fn is_same(file: Option<&str>, name: Option<&str>) -> bool
     ensures { result ≡ is_same (option_copied file.entry) (option_copied name.entry) }
 {
     match (file, name) {
-        (Some(file), Some(name)) => name == file,
+        (Some(file), Some(name)) => name == file && file != INPUT,
         _ => false,
     }
 }

@@ -23,7 +23,8 @@ With `--report` it prints what the two threads have come to in place of it.
 Behind that, `--waits` tells who waits for whom, as `waits 1.1 2.1 send`, and which threads wait \
 in a circle, as
 `circle 1.1 2.1`, or as `deadlock 1.1 2.1` where none of them can go on by any step
-of theirs. `--counts` tells what each thread did, as
+of theirs. While one order is undone or one retarget owed, of whatever thread, each is a `circle`.
+`--counts` tells what each thread did, as
 
   counts 1.1 turns 4 sends 1 delivered 1 received 0 refused 2:0 3:0 4:0 5:0 6:0 7:0
 
@@ -122,6 +123,12 @@ takes, and its
 report. The last line says how many states were looked at, how long the longest schedule was, and \
 whether that is
 the `whole` or was `cut`: then there may be more endings, and the status is 3.
+
+Behind `whole` it says of which runs there are no more. `least ticks`: each tick goes to the least \
+deadline of its
+processor, as `t0` does; `l4run run` moves all clocks to the least deadline of all, and may end as \
+none of these.
+`in turn`: some processor has two threads, which take their turns in one order, not in every order.
 
 Status 4: `--none` found one, or an ending does not meet `--expect`. 0: neither, and the search \
 was whole. 2: wrong

@@ -1,5 +1,5 @@
 -- What is read and written, as far as the contracts of byte readers and writers tell.
-use Rattle.std.specs.Prelude.{◌≡◌, ◌⊎◌, ℕ, Bool, true, false, Option, Some, None, Result, Ok, Err, List, ◌++◌}
+use Rattle.std.specs.Prelude.{◌≡◌, ◌⊎◌, ℕ, Bool, true, false, if◌then◌else◌, Option, Some, None, Result, Ok, Err, List, ◌++◌}
 use Rattle.std.specs.Io.KnownBytes.{Appends}
 use Rattle.std.specs.declared.io.ErrorKind.{ErrorKind}
 use Rattle.std.specs.declared.io.ErrorKind.TheVariants.{NotFound}
@@ -28,16 +28,31 @@ abbrev pub MayTake : (old new : Option (List ℕ)) → (bytes : List ℕ) → (a
 MayTake old new bytes true = Appends old new bytes
 MayTake old new bytes false = (left : List ℕ) × HasAppended old new bytes left
 
--- What writing these bytes to a new file of a name may come to: it is created and then written.
-abbrev pub IsCreated : {Made : Type 0} →
-    (creates : List ℕ → Result Made ErrorKind → Type 0) →
-    (takes : (old new : Made) → List ℕ → Bool → Type 0) →
-    (name bytes : List ℕ) → (all : Bool) → Type 0
-IsCreated {Made} creates takes name bytes true =
-    (made : Made) × (written : Made) × creates name (Ok made) × takes made written bytes true
-IsCreated {Made} creates takes name bytes false =
-    ((kind : ErrorKind) × creates name (Err kind))
-    ⊎ ((made : Made) × (written : Made) × creates name (Ok made) × takes made written bytes false)
+-- A folder told whether writing to the file of this name changes one that is read, where there is
+-- such a file.
+abbrev pub TellsOver : (tells_same : (name read : List ℕ) → (same : Bool) → Type 0) →
+    (name : List ℕ) → (read : Option (List ℕ)) → (same : Bool) → Type 0
+TellsOver tells_same name None same = same ≡ false
+TellsOver tells_same name (Some read) same = tells_same name read same
+
+-- What writing these bytes to the file of a name may come to, where up to three files that are read
+-- must stay as they are: the folder told that it is none of them, and then the file was written. Or
+-- it is one of them, and nothing was.
+abbrev pub IsWrittenApart : (tells_same : (name read : List ℕ) → (same : Bool) → Type 0) →
+    (writes : (name bytes : List ℕ) → (all : Bool) → Type 0) →
+    (machine second expects : Option (List ℕ)) → (name bytes : List ℕ) → (all : Bool) → Type 0
+IsWrittenApart tells_same writes machine second expects name bytes true =
+    TellsOver tells_same name machine false × TellsOver tells_same name second false
+    × TellsOver tells_same name expects false × writes name bytes true
+IsWrittenApart tells_same writes machine second expects name bytes false =
+    TellsOver tells_same name machine true ⊎ TellsOver tells_same name second true
+    ⊎ TellsOver tells_same name expects true
+    ⊎ (TellsOver tells_same name machine false × TellsOver tells_same name second false
+    × TellsOver tells_same name expects false × writes name bytes false)
+
+-- The name of a file that is read, where `-` names an input: that of the input's file.
+abbrev pub name_read : (input_name name : List ℕ) → List ℕ
+name_read input_name name = if is_input name then input_name else name
 
 -- What reading a source may give, where there is one. Where there is none, nothing is found.
 abbrev pub GivenGives : {Of : Type 0} → (gives : Of → Result (List ℕ) ErrorKind → Type 0) →

@@ -25,11 +25,13 @@ use std::alloc::{AllocError, Global};
 use std::fmt;
 use std::fmt::Display;
 use std::io::ErrorKind;
+use thiserror::Error;
 
-/// Why a job was not done.
-#[derive(Debug, Drop)]
+/// Why a job was not done. Its line is `l4run: ` and what its `Display` says.
+#[derive(Debug, Drop, Error)]
 pub enum Fault<'a> {
     /// The machine text is faulty.
+    #[error("line {line}: {}", spelled_kind(*.kind))]
     Text {
         /// The faulty line, counted from 1, or 0 where the text as a whole is faulty.
         line: usize,
@@ -38,31 +40,43 @@ pub enum Fault<'a> {
     },
     /// The number of turns is 0 or above 1,000,000, or a schedule is too long. Without a file, that
     /// is above 1,000,000 items. In a file, it is above 1,000,015 items or 32 MiB.
+    #[error("turns out of range")]
     Turns,
     /// The depth of a search is 0 or above 1,000,000.
+    #[error("depth out of range")]
     Depth,
     /// The number of states of a search is 0 or above 1,000,000.
+    #[error("states out of range")]
     States,
     /// This item of the schedule, counted from 1, is no item, or names no processor of the machine.
+    #[error("schedule item {0}")]
     Schedule(usize),
     /// This item of the list of threads, counted from 1, is the first that is no thread of the
     /// machine.
+    #[error("threads item {0}")]
     Threads(usize),
     /// This line of the trace, counted from 1, is the first that spells no step, or has no line
     /// end.
+    #[error("trace line {0}")]
     Trace(usize),
     /// This step of the trace, counted from 1, is the first that is not possible.
+    #[error("refused at step {0}")]
     Refused(usize),
     /// This line of the expectations, counted from 1, is the first that no report can have, and
     /// why.
+    #[error("expectation line {0}: {wrong}", wrong = spelled_wrong(*.1))]
     Expectation(usize, Wrong),
     /// Memory was refused.
+    #[error("no memory")]
     NoMemory,
     /// This file can't be read.
+    #[error("cannot read {0}")]
     Read(&'a str),
-    /// This file can't be written.
+    /// This file can't be written, or is one that the job reads.
+    #[error("cannot write {0}")]
     Unwritten(&'a str),
     /// The output is closed or full.
+    #[error("cannot write")]
     Write,
 }
 
@@ -178,11 +192,15 @@ fn spelled_wrong(wrong: Wrong) -> &'static str
     }
 }
 
-impl Display for Fault<'_> {
-    ghost output = { λ fault. Some (fault_words fault) };
+// The words of a fault. They are those of its `Display`, which has no contract.
+#[derive(Clone, Copy)]
+struct Words<'f, 'a>(&'f Fault<'a>);
+
+impl Display for Words<'_, '_> {
+    ghost output = { λ words. Some (fault_words words.0.now) };
 
     fn fmt<W: fmt::Write>(&self, f: &mut fmt::Formatter<W>) -> fmt::Result {
-        match self {
+        match self.0 {
             Fault::Text { line, kind } => write!(f, "line {line}: {}", spelled_kind(*kind)),
             Fault::Turns => f.write_str("turns out of range"),
             Fault::Depth => f.write_str("depth out of range"),
@@ -206,7 +224,7 @@ impl Display for Fault<'_> {
 pub(crate) fn line_of(alloc: Global, fault: &Fault<'_>) -> Result<String, AllocError>
     ensures { IfOk result (λ line. string_bytes line ≡ fault_line fault.now) }
 {
-    format!(in alloc; "l4run: {fault}\n")
+    format!(in alloc; "l4run: {}\n", Words(fault))
 }
 
 /// Writes the line of a fault and returns the exit status 1. If memory for the line is refused, it

@@ -11,8 +11,8 @@
 //! say which file is which, and which fault comes first. No contract says what the listener of a
 //! search is told.
 //!
-//! `streams` assumes what the system's files and streams do. `.ci/command-lines` tries that, and
-//! streams that fail. `l4_cases` has what each command prints.
+//! `streams` assumes what the system's files and streams do. `.ci/command-lines` tries it, also with
+//! streams that fail. `l4_cases` has what each command prints, and what a fault displays.
 //!
 //! ```rust
 //! let job = job_of(alloc, &["l4run", "run", "examples/first.l4"])?;

@@ -1,5 +1,5 @@
 //! Writing what a job comes to.
-ghost use Rattle.std.specs.Prelude.{◌≡◌, ◌≢◌, ◌×◌, IfErr, IfOk, List, ℕ, None, Ok, map};
+ghost use Rattle.std.specs.Prelude.{◌≡◌, ◌≢◌, ◌×◌, IfErr, IfOk, List, ℕ, None, Ok, Some, map};
 ghost use Rattle.std.specs.Option.{option_copied};
 ghost use Rattle.l4_commands.specs.Files.{alone, expected_of, file_of, second_file_of};
 ghost use Rattle.l4_jobs.specs.Inputs.{IsRead, gives_nothing};
@@ -8,7 +8,7 @@ ghost use Rattle.l4_jobs.specs.Outputs.{output_of};
 ghost use Rattle.l4_jobs.specs.Performing.{AreOpened, AreUnopened, IsLinesOut, IsOpened};
 ghost use Rattle.l4_jobs.specs.Performing.{IsPerformed, IsPerformedOn, IsSaid, IsTrulyDone};
 ghost use Rattle.l4_jobs.specs.Performing.{IsTrulyDoneOn, IsUnopened, IsWrittenOut, keeps_none, sinks};
-ghost use Rattle.l4_jobs.specs.Streams.{IsCreated};
+ghost use Rattle.l4_jobs.specs.Streams.{IsWrittenApart};
 
 use crate::done::Done;
 use crate::fault::{Fault, report, unread};
@@ -204,7 +204,8 @@ pub fn perform_on_files<R: Threads + Sync, F: Folder, W: Sink, E: Sink, P: Progr
     progress: &mut P,
 ) -> u8
     ensures performed { IsPerformedOn (F.opens folder.now) F.File.gives job.now
-        (sinks (IsCreated (F.creates folder.now) F.Made.takes) (Unit {0})
+        (sinks (IsWrittenApart (F.tells_same folder.now) (F.writes folder.now)
+        (Some (file_of job.now)) (second_file_of job.now) (expected_of job.now)) (Unit {0})
         (W.takes out.old out.new) (out.new ≡ out.old)
         (E.takes faults.old faults.new) (faults.new ≡ faults.old)) result }
     ensures headline { result ≢ 1 →
@@ -222,7 +223,12 @@ pub fn perform_on_files<R: Threads + Sync, F: Folder, W: Sink, E: Sink, P: Progr
         &mut files.machine,
         &mut files.second,
         &mut files.expects,
-        &mut InFolder { folder },
+        &mut InFolder {
+            folder,
+            file: job.file(),
+            second: job.second_file(),
+            expects: job.expected(),
+        },
         out,
         faults,
         progress,

@@ -1,16 +1,21 @@
 //! What a job reads from and writes to: sources, sinks, and folders that open files. Unlike those
 //! of std's readers and writers, their contracts also say when a call failed.
 ghost use Rattle.std.specs.Prelude.{◌≡◌, ◌⊎◌, ℕ, Bool, List, take, true, false, Result, Ok, Err};
-ghost use Rattle.std.specs.Prelude.{IfOk, OnErr, MatchResult};
+ghost use Rattle.std.specs.Prelude.{IfOk, OnErr, MatchResult, Some};
+ghost use Rattle.std.specs.Option.{option_copied};
 ghost use Rattle.std.specs.declared.io.ErrorKind.{ErrorKind as Kind};
-ghost use Rattle.l4_jobs.specs.Streams.{GivenGives, HasAppended, IsCreated, MayGive, MayTake};
-ghost use Rattle.l4_jobs.specs.Streams.{OpenedGives, OpensWithInput};
+ghost use Rattle.l4_jobs.specs.Streams.{GivenGives, HasAppended, IsWrittenApart, MayGive, MayTake};
+ghost use Rattle.l4_jobs.specs.Streams.{OpenedGives, OpensWithInput, TellsOver, name_read};
 
 use crate::job::INPUT;
+use arrayvec::ArrayString;
 use std::alloc::Global;
-use std::fs;
+use std::fmt::Write as WriteText;
+use std::fs::File;
 use std::io::{ErrorKind, Read, Write};
+use std::os::unix::fs::MetadataExt;
 use std::rt::Files;
+use std::{fs, io};
 
 /// A source of a text. A failed read gives the kind of its error.
 pub trait Source {
@@ -97,11 +102,9 @@ impl<W: Write> Sink for W {
     }
 }
 
-/// A folder, in which files are opened by their names.
+/// A folder, in which files are opened and written by their names.
 pub trait Folder {
     type File: Source + Drop;
-
-    type Made: Sink + Drop;
 
     // What opening the file of this name may give.
     ghost opens: { Self → (name : List ℕ) → Result Self.File Kind → Type 0 };
@@ -110,12 +113,23 @@ pub trait Folder {
     fn open(&self, name: &str) -> Result<Self::File, ErrorKind>
         ensures { opens self.now name.now result };
 
-    // What creating a file of this name may give.
-    ghost creates: { Self → (name : List ℕ) → Result Self.Made Kind → Type 0 };
+    // What the folder may tell of the files of two names.
+    ghost tells_same: { Self → (name read : List ℕ) → (same : Bool) → Type 0 };
 
-    /// Creates the file of this name. Where there is one, it is emptied.
-    fn create(&self, name: &str) -> Result<Self::Made, ErrorKind>
-        ensures { creates self.now name.now result };
+    /// Whether writing to the file `name` changes the file `read`: both names are of one file. A
+    /// name that can't be looked at is of no file.
+    fn are_same(&self, name: &str, read: &str) -> bool
+        ensures { tells_same self.now name.now read.now result };
+
+    // What writing these bytes to the file of this name may do. `all` says whether all of them were
+    // written.
+    ghost writes: { Self → (name bytes : List ℕ) → (all : Bool) → Type 0 };
+
+    /// Writes the file of this name. Where there is none, there is one only when it has all of the
+    /// bytes. Else it is emptied, and then written.
+    fn write(&self, name: &str, bytes: &[u8]) -> Result<(), NotWritten>
+        ensures { MatchResult result (λ _. writes self.now name.now bytes.now true)
+            (λ _. writes self.now name.now bytes.now false) };
 }
 
 /// What was opened: a file, or an input that needs no opening.
@@ -172,20 +186,23 @@ impl<S: Source> Source for Given<S> {
     }
 }
 
-/// A folder in which the name `-` stands for an input, such as the standard input. `job_of` refuses
-/// words that name it twice.
+/// A folder in which the name `-` of a file that is read stands for an input, such as the standard
+/// input. `job_of` refuses words that name it twice.
 #[derive(Clone, Copy)]
 pub struct WithInput<'a, F, I> {
     /// The folder.
     pub folder: &'a F,
     /// The input.
     pub input: I,
+    /// The name that the file of the input has in the folder.
+    pub input_name: &'a str,
 }
+
+/// The name that the file of the standard input has.
+pub const STANDARD_INPUT: &str = "/dev/stdin";
 
 impl<F: Folder, I: Source + Copy + Drop> Folder for WithInput<'_, F, I> {
     type File = Opened<F::File, I>;
-
-    type Made = F::Made;
 
     ghost opens = { λ s name opened. OpensWithInput (F.opens s.folder.now) s.input name opened };
 
@@ -199,10 +216,18 @@ impl<F: Folder, I: Source + Copy + Drop> Folder for WithInput<'_, F, I> {
         }
     }
 
-    ghost creates = { λ s name made. F.creates s.folder.now name made };
+    ghost tells_same = { λ s name read same.
+        F.tells_same s.folder.now name (name_read s.input_name.now read) same };
 
-    fn create(&self, name: &str) -> Result<F::Made, ErrorKind> {
-        self.folder.create(name)
+    fn are_same(&self, name: &str, read: &str) -> bool {
+        let read = if read == INPUT { self.input_name } else { read };
+        self.folder.are_same(name, read)
+    }
+
+    ghost writes = { λ s name bytes all. F.writes s.folder.now name bytes all };
+
+    fn write(&self, name: &str, bytes: &[u8]) -> Result<(), NotWritten> {
+        self.folder.write(name, bytes)
     }
 }
 
@@ -217,22 +242,133 @@ pub trait Records {
             (λ _. keeps self.old self.new name.now text.now false) };
 }
 
-/// Each record is a new file of a folder, which is created only when it is kept.
+/// The records are files of a folder. None is written over a file that is read.
 #[derive(Clone, Copy)]
 pub struct InFolder<'a, F> {
     /// The folder.
     pub folder: &'a F,
+    /// The name of the file with the machine text.
+    pub file: &'a str,
+    /// The name of the file with the trace or the list, where one is read.
+    pub second: Option<&'a str>,
+    /// The name of the file with what is expected, where one is read.
+    pub expects: Option<&'a str>,
+}
+
+impl<F: Folder> InFolder<'_, F> {
+    // Whether writing to the file of this name changes one that is read, where that has a name.
+    fn is_over(&self, name: &str, read: Option<&str>) -> bool
+        ensures { TellsOver (F.tells_same self.now.folder.now) name.now (option_copied read.entry)
+            result }
+    {
+        match read {
+            Some(read) => self.folder.are_same(name, read),
+            None => false,
+        }
+    }
 }
 
 impl<F: Folder> Records for InFolder<'_, F> {
     ghost keeps = { λ old new name bytes all.
-        IsCreated (F.creates old.folder.now) F.Made.takes name bytes all };
+        IsWrittenApart (F.tells_same old.folder.now) (F.writes old.folder.now)
+        (Some old.file.now) (option_copied old.second) (option_copied old.expects)
+        name bytes all };
 
     fn keep(&mut self, name: &str, text: &[u8]) -> Result<(), NotWritten> {
-        match self.folder.create(name) {
-            Ok(mut made) => made.put(text),
-            Err(_) => Err(NotWritten),
+        if self.is_over(name, Some(self.file)) {
+            return Err(NotWritten);
         }
+        if self.is_over(name, self.second) {
+            return Err(NotWritten);
+        }
+        if self.is_over(name, self.expects) {
+            return Err(NotWritten);
+        }
+        self.folder.write(name, text)
+    }
+}
+
+/// No record is kept.
+#[derive(Clone, Copy, Debug, PartialEq, Eq)]
+pub struct NoRecords;
+
+impl Records for NoRecords {
+    ghost keeps = { λ old new name bytes all. all ≡ false };
+
+    fn keep(&mut self, _name: &str, _text: &[u8]) -> Result<(), NotWritten> {
+        Err(NotWritten)
+    }
+}
+
+// Whether both names are of one file of the system, by its device and number. What is written to a
+// pipe or to a device does not change what was read.
+fn are_one_file<R: Files>(files: &R, name: &str, read: &str) -> io::Result<bool> {
+    let written = fs::metadata(files, name)?;
+    let read = fs::metadata(files, read)?;
+    Ok(written.is_file() && written.dev() == read.dev() && written.ino() == read.ino())
+}
+
+// How long the name of a file of the system is at most.
+const MOST_NAME: usize = 4096;
+
+// How many new files of one name may be under way at a time.
+const MOST_PARTS: u32 = 100;
+
+// A file for what is not yet whole, and its name.
+#[derive(Drop)]
+struct Part<F> {
+    name: ArrayString<MOST_NAME>,
+    file: F,
+}
+
+// Creates the file NAME.partN, with the least N whose file is not there. None where there can be
+// none.
+fn new_part<R: Files>(files: &R, name: &str) -> Option<Part<R::File>> {
+    for number in 1..=MOST_PARTS {
+        let mut part = ArrayString::new();
+        write!(part, "{name}.part{number}").ok()?;
+        match File::create_new(files, part.as_str()) {
+            Ok(file) => return Some(Part { name: part, file }),
+            Err(error) if matches!(error.kind(), ErrorKind::AlreadyExists) => {}
+            Err(_) => return None,
+        }
+    }
+    None
+}
+
+// Writes the bytes to a part, and gives it its name when it is whole. Else it is removed.
+fn put_in_place<R: Files>(
+    files: &R,
+    name: &str,
+    part: Part<R::File>,
+    bytes: &[u8],
+) -> Result<(), NotWritten> {
+    let Part {
+        name: part,
+        mut file,
+    } = part;
+    let written = file.put(bytes);
+    if written.is_ok() && fs::rename(files, part.as_str(), name).is_ok() {
+        return Ok(());
+    }
+    // Where this fails too, a part is left.
+    let _ = fs::remove_file(files, part.as_str());
+    Err(NotWritten)
+}
+
+// Empties the file of this name, and writes it where it is.
+fn overwrite<R: Files>(files: &R, name: &str, bytes: &[u8]) -> Result<(), NotWritten> {
+    match fs::create(files, name) {
+        Ok(mut file) => file.put(bytes),
+        Err(_) => Err(NotWritten),
+    }
+}
+
+// Whether there is no file of this name, nor a link.
+fn is_free<R: Files>(files: &R, name: &str) -> bool {
+    match fs::symlink_metadata(files, name) {
+        Ok(_) => false,
+        Err(error) => matches!(error.kind(), ErrorKind::NotFound),
     }
 }
 
@@ -251,8 +387,6 @@ impl Records for NoRecords {
 impl<R: Files> Folder for R {
     type File = R::File;
 
-    type Made = R::File;
-
     ghost opens = { λ s name opened. Unit {0} };
 
     fn open(&self, name: &str) -> Result<R::File, ErrorKind> {
@@ -262,12 +396,21 @@ impl<R: Files> Folder for R {
         }
     }
 
-    ghost creates = { λ s name made. Unit {0} };
+    ghost tells_same = { λ s name read same. Unit {0} };
 
-    fn create(&self, name: &str) -> Result<R::File, ErrorKind> {
-        match fs::create(self, name) {
-            Ok(file) => Ok(file),
-            Err(error) => Err(error.kind()),
+    fn are_same(&self, name: &str, read: &str) -> bool {
+        are_one_file(self, name, read).unwrap_or(false)
+    }
+
+    ghost writes = { λ s name bytes all. Unit {0} };
+
+    fn write(&self, name: &str, bytes: &[u8]) -> Result<(), NotWritten> {
+        if !is_free(self, name) {
+            return overwrite(self, name, bytes);
+        }
+        match new_part(self, name) {
+            Some(part) => put_in_place(self, name, part, bytes),
+            None => overwrite(self, name, bytes),
         }
     }
 }

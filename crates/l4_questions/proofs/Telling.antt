@@ -37,7 +37,7 @@ answered m q lines unmet status a = record {
   searched = a.searched;
   lines_are =
       a.lines_are
-      ∙ ap (λ (text : List ℕ). text ++ last_line a.states a.depth a.is_whole)
+      ∙ ap (λ (text : List ℕ). text ++ last_line m a.states a.depth a.is_whole)
       (alone m 1 (asked_of m q a.endings));
   status_is =
       a.status_is

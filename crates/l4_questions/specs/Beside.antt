@@ -39,7 +39,7 @@ abbrev pub answer_beside : (waits : Bool) → Machine → Question →
     (endings : List (List Entry)) → (states depth : ℕ) → (is_whole : Bool) → List ℕ
 answer_beside waits m q endings states depth is_whole =
     numbered_text (ending_beside waits m) 1 (asked_of m q endings)
-    ++ last_line states depth is_whole
+    ++ last_line m states depth is_whole
 
 -- An ending meets what is expected of its report.
 abbrev pub meets : Option (List Expected) → Machine → List Entry → Bool

@@ -1,6 +1,7 @@
 -- What is printed of endings, and the exit status.
-use Rattle.std.specs.Prelude.{Bool, true, false, ◌+◌, ℕ, List, [], ◌∷◌, ◌++◌, codes, decimal}
-use Rattle.l4_model.specs.Machine.{Machine}
+use Rattle.std.specs.Prelude.{Bool, true, false, ◌+◌, ◌==◌, ◌||◌, ℕ, List, [], ◌∷◌, ◌++◌, codes, decimal}
+use Rattle.std.specs.List.{list_any}
+use Rattle.l4_model.specs.Machine.{Declaration, Machine}
 use Rattle.l4_choices.specs.Entries.{Entry}
 use Rattle.l4_schedules.specs.Written.{schedule_text}
 use Rattle.l4_words.specs.Lines.{line_of_words}
@@ -25,21 +26,34 @@ endings_text m number [] = []
 endings_text m number (e ∷ endings) =
     ending_text m number e ++ endings_text m (number + 1) endings
 
-abbrev pub whole_word : (is_whole : Bool) → List ℕ
-whole_word true = codes "whole"
-whole_word false = codes "cut"
+-- Some two of these threads share a processor.
+abbrev pub share_processor : List Declaration → Bool
+share_processor [] = false
+share_processor (d ∷ threads) =
+    list_any (λ (e : Declaration). e.cpu == d.cpu) threads || share_processor threads
+
+-- Whether there are no more. No more of which runs: of those in which a clock goes on to its least
+-- deadline alone, and threads that share a processor take their turns in one order.
+
+abbrev pub whole_words : (in_turn : Bool) → List ℕ
+whole_words false = codes "whole, least ticks"
+whole_words true = codes "whole, least ticks, in turn"
+
+abbrev pub end_words : Machine → (is_whole : Bool) → List ℕ
+end_words m true = whole_words (share_processor m.threads)
+end_words m false = codes "cut"
 
 -- The number of states, the depth to which all were found, and whether there are no more.
-abbrev pub last_line : (states depth : ℕ) → (is_whole : Bool) → List ℕ
-last_line states depth is_whole =
+abbrev pub last_line : Machine → (states depth : ℕ) → (is_whole : Bool) → List ℕ
+last_line m states depth is_whole =
     line_of_words
-    (codes "states" ∷ decimal states ∷ codes "depth" ∷ decimal depth ∷ whole_word is_whole ∷ [])
+    (codes "states" ∷ decimal states ∷ codes "depth" ∷ decimal depth ∷ end_words m is_whole ∷ [])
 
 -- The endings that are asked for, numbered from 1, and last the line about the search.
 abbrev pub answer_text : Machine → Question → (endings : List (List Entry)) → (states depth : ℕ) →
     (is_whole : Bool) → List ℕ
 answer_text m q endings states depth is_whole =
-    endings_text m 1 (asked_of m q endings) ++ last_line states depth is_whole
+    endings_text m 1 (asked_of m q endings) ++ last_line m states depth is_whole
 
 -- 0 where the search is whole, 3 where it was cut. Where such an ending should not exist, 4 as soon
 -- as one is found.

@@ -193,6 +193,7 @@ pub fn answers_beside<P: Progress>(
         &mut written,
     )?;
     write_last(
+        machine,
         found.states,
         found.depth,
         found.is_whole,

@@ -2,7 +2,7 @@
 //!
 //! `answers` searches for all endings of core runs. Of each that is asked for it prints the number,
 //! a shortest schedule and the report. Last come the number of states, the depth, and whether there
-//! are no more.
+//! are no more, of which runs.
 //!
 //! Contracts see the bytes: they are those of all endings that the question asks for, and of no
 //! others. `l4_lines` reads the lines that it asks for. `answers_beside` also tells who waits for

@@ -1,10 +1,12 @@
 //! The lines of an answer.
 ghost use Rattle.std.specs.Prelude.{◌≡◌, ◌++◌, OnOk, map};
 ghost use Rattle.l4_machine.specs.Entries.{entry_from};
-ghost use Rattle.l4_questions.specs.Printed.{head_line, last_line, whole_word};
+ghost use Rattle.l4_questions.specs.Printed.{end_words, head_line, last_line, share_processor};
+ghost use Rattle.l4_questions.specs.Printed.{whole_words};
 
 use l4_machine::Entry;
 use l4_schedules::writing::write_schedule;
+use l4_script::machine::{Declaration, Machine};
 use l4_types::errors::NoMemory;
 
 /// Appends the first line of an ending: its number, and the entries that lead there.
@@ -29,30 +31,59 @@ pub(crate) fn write_head(
     Ok(())
 }
 
+// Whether some two of these threads share a processor.
+fn share_processor(threads: &[Declaration]) -> bool
+    ensures { result ≡ share_processor threads.now }
+{
+    match threads {
+        [] => false,
+        [first, others @ ..] => {
+            others.iter().any(|other| other.cpu() == first.cpu()) || share_processor(others)
+        }
+    }
+}
+
 /// Appends the last line: the number of states, the depth to which all were found, and whether
-/// there are no more.
+/// there are no more, of which runs.
 ///
 /// `NoMemory`: memory was refused, and a part of the line may have been appended.
 pub(crate) fn write_last(
+    machine: &Machine,
     states: usize,
     depth: usize,
     is_whole: bool,
     lines: &mut Vec<u8>,
 ) -> Result<(), NoMemory>
-    ensures { OnOk result (lines.new.items ≡ lines.old.items ++ last_line states depth is_whole) }
+    ensures { OnOk result (lines.new.items ≡
+        lines.old.items ++ last_line machine.now states depth is_whole) }
 {
     let mut words = String::new(*lines.allocator());
     writeln!(
         words,
         "states {states} depth {depth} {}",
-        spelled_whole(is_whole)
+        spelled_end(machine, is_whole)
     )?;
     lines.extend_from_slice(words.as_bytes())?;
     Ok(())
 }
 
-fn spelled_whole(is_whole: bool) -> &'static str
-    ensures { result.now ≡ whole_word is_whole }
+fn spelled_whole(in_turn: bool) -> &'static str
+    ensures { result.now ≡ whole_words in_turn }
 {
-    if is_whole { "whole" } else { "cut" }
+    if in_turn {
+        "whole, least ticks, in turn"
+    } else {
+        "whole, least ticks"
+    }
+}
+
+// Whether there are no more, and of which runs.
+fn spelled_end(machine: &Machine, is_whole: bool) -> &'static str
+    ensures { result.now ≡ end_words machine.now is_whole }
+{
+    if is_whole {
+        spelled_whole(share_processor(machine.threads()))
+    } else {
+        "cut"
+    }
 }

@@ -24,7 +24,7 @@ use l4_explore::progress::Progress;
 use l4_jobs::fault::{Fault, report};
 use l4_jobs::perform::perform_on_files;
 use l4_jobs::refusal::refuse;
-use l4_jobs::streams::{Sink, Source, WithInput};
+use l4_jobs::streams::{STANDARD_INPUT, Sink, Source, WithInput};
 use l4_jobs::words::job_of;
 use std::alloc::{AllocError, Global};
 use std::io::IsTerminal;
@@ -65,7 +65,11 @@ fn on_words<
     match job_of(rt.alloc(), words) {
         Ok(job) => {
             let job = job.on_output(shows_lines(rt, is_terminal), columns(rt));
-            let folder = WithInput { folder: rt, input };
+            let folder = WithInput {
+                folder: rt,
+                input,
+                input_name: STANDARD_INPUT,
+            };
             let alloc = rt.alloc();
             perform_on_files(rt, alloc, &folder, &job, out, faults, progress)
         }

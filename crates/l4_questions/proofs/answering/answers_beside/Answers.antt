@@ -48,7 +48,7 @@ returns-clause-ok g c =
       };
       lines_are =
           c.in_ok-write_last.ensures
-          ∙ ap (λ (text : List ℕ). text ++ last_line found.states found.depth found.is_whole) printed;
+          ∙ ap (λ (text : List ℕ). text ++ last_line m found.states found.depth found.is_whole) printed;
       unmet_are = unmet;
       status_is =
           c.status_beside.ensures

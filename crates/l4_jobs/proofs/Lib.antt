@@ -3,14 +3,14 @@ pub mod Audited
 pub mod Behind
 pub mod Charted
 pub mod Faults
-pub mod Jobs
+pub mod Making
 pub mod Judged
-pub mod Lints
+pub mod Linting
 pub mod Listed
 pub mod Performed
 pub mod ReadAs
 pub mod Records
-pub mod Runs
+pub mod Running
 pub mod Spelled
 pub mod Statuses
 pub mod Traces

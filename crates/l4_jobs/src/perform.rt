@@ -1,5 +1,5 @@
 //! Writing what a job comes to.
-ghost use Rattle.std.specs.Prelude.{◌≡◌, ◌≢◌, ◌×◌, IfErr, IfOk, List, ℕ, None, Ok, Some, map};
+ghost use Rattle.std.specs.Prelude.{◌≡◌, ◌≢◌, IfErr, IfOk, List, ℕ, None, Ok, Some, map};
 ghost use Rattle.std.specs.Option.{option_copied};
 ghost use Rattle.l4_commands.specs.Files.{alone, expected_of, file_of, second_file_of};
 ghost use Rattle.l4_jobs.specs.Inputs.{IsRead, gives_nothing};

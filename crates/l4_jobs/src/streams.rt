@@ -372,18 +372,6 @@ fn is_free<R: Files>(files: &R, name: &str) -> bool {
     }
 }
 
-/// No record is kept.
-#[derive(Clone, Copy, Debug, PartialEq, Eq)]
-pub struct NoRecords;
-
-impl Records for NoRecords {
-    ghost keeps = { λ old new name bytes all. all ≡ false };
-
-    fn keep(&mut self, _name: &str, _text: &[u8]) -> Result<(), NotWritten> {
-        Err(NotWritten)
-    }
-}
-
 impl<R: Files> Folder for R {
     type File = R::File;
 

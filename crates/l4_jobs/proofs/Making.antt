@@ -17,7 +17,7 @@ use Rattle.l4_jobs.specs.Outputs.{Output}
 use Rattle.l4_jobs.specs.Reading.{IsReadAs}
 use Rattle.l4_jobs.specs.declared.fault.Fault.{Fault}
 use Rattle.l4_jobs.specs.declared.fault.Fault.TheVariants as fault
-use Rattle.l4_jobs.proofs.Lints.{linted_as, list_linted_as}
+use Rattle.l4_jobs.proofs.Linting.{linted_as, list_linted_as}
 
 -- By a text of expectations
 

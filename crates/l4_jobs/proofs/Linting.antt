@@ -68,13 +68,16 @@ named_told m list name gives old new none is =
 pub alone : (text : List ℕ) (m : Machine) (schedule : Option (Bor (List ℕ))) (gives : Gives) (o : Output) → schedule ≡ None → faults_of text ≡ [] → IsLinted text o →
     (read : List ℕ) × IsRead (list_name_in schedule) gives read × IsListLinted text m schedule read o
 alone text m schedule gives o none right is =
-    subst (λ (s : Option (Bor (List ℕ))). (read : List ℕ) × IsRead (list_name_in s) gives read × IsListLinted text m s read o) (sym none)
-    ([], tt, record {
-      lines_are = is.lines_are ∙ sym (append-nil (lint_text text));
-      status_is = is.status_is ∙ ap status_of right;
-      said = is.said;
-      unrecorded = is.unrecorded;
-    })
+    subst (λ (s : Option (Bor (List ℕ))). (read : List ℕ) × IsRead (list_name_in s) gives read × IsListLinted text m s read o) (sym none) (
+      [],
+      tt,
+      record {
+        lines_are = is.lines_are ∙ sym (append-nil (lint_text text));
+        status_is = is.status_is ∙ ap status_of right;
+        said = is.said;
+        unrecorded = is.unrecorded;
+      },
+    )
 
 pub with_list : (text : List ℕ) (m : Machine) (schedule : Option (Bor (List ℕ))) (list : Bor (List ℕ)) (gives : Gives) (o : Output) (lines : List ℕ) (none : Bool) →
     schedule ≡ Some list → lines ≡ lint_text text →
@@ -82,10 +85,13 @@ pub with_list : (text : List ℕ) (m : Machine) (schedule : Option (Bor (List �
     × (none ≡ (length (named_faults m (list_name list.now) list.now read) == 0)) → o.status ≡ (if none then 0 else 1) → o.said ≡ [] → o.list ≡ None →
     (read : List ℕ) × IsRead (list_name_in schedule) gives read × IsListLinted text m schedule read o
 with_list text m schedule list gives o lines none is told (read, reads, added, all) ended said unrecorded =
-    subst (λ (s : Option (Bor (List ℕ))). (read : List ℕ) × IsRead (list_name_in s) gives read × IsListLinted text m s read o) (sym is)
-    (read, reads, record {
-      lines_are = added ∙ ap (λ l. l ++ faults_text (named_faults m (list_name list.now) list.now read)) told;
-      status_is = ended ∙ ap (λ (b : Bool). if b then 0 else 1) all;
-      said = said;
-      unrecorded = unrecorded;
-    })
+    subst (λ (s : Option (Bor (List ℕ))). (read : List ℕ) × IsRead (list_name_in s) gives read × IsListLinted text m s read o) (sym is) (
+      read,
+      reads,
+      record {
+        lines_are = added ∙ ap (λ l. l ++ faults_text (named_faults m (list_name list.now) list.now read)) told;
+        status_is = ended ∙ ap (λ (b : Bool). if b then 0 else 1) all;
+        said = said;
+        unrecorded = unrecorded;
+      },
+    )

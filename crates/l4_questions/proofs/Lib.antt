@@ -1,3 +1,4 @@
 pub mod Following
 pub mod Printing
 pub mod Telling
+pub mod Sharing

@@ -26,14 +26,18 @@ endings_text m number [] = []
 endings_text m number (e ∷ endings) =
     ending_text m number e ++ endings_text m (number + 1) endings
 
--- Some two of these threads share a processor.
+-- One of these threads is on this processor, and some two of them share one.
+
+abbrev pub has_thread_on : (cpu : ℕ) → List Declaration → Bool
+has_thread_on cpu threads = list_any (λ (d : Declaration). d.cpu == cpu) threads
+
 abbrev pub share_processor : List Declaration → Bool
 share_processor [] = false
-share_processor (d ∷ threads) =
-    list_any (λ (e : Declaration). e.cpu == d.cpu) threads || share_processor threads
+share_processor (d ∷ threads) = has_thread_on d.cpu threads || share_processor threads
 
--- Whether there are no more. No more of which runs: of those in which a clock goes on to its least
--- deadline alone, and threads that share a processor take their turns in one order.
+-- The last words of a search. Where it is whole there are no more endings, of the runs in which each
+-- tick goes to the least deadline of its processor, and threads that share a processor take their
+-- turns in one order.
 
 abbrev pub whole_words : (in_turn : Bool) → List ℕ
 whole_words false = codes "whole, least ticks"

@@ -1,8 +1,8 @@
 //! The lines of an answer.
 ghost use Rattle.std.specs.Prelude.{◌≡◌, ◌++◌, OnOk, map};
 ghost use Rattle.l4_machine.specs.Entries.{entry_from};
-ghost use Rattle.l4_questions.specs.Printed.{end_words, head_line, last_line, share_processor};
-ghost use Rattle.l4_questions.specs.Printed.{whole_words};
+ghost use Rattle.l4_questions.specs.Printed.{end_words, has_thread_on, head_line, last_line};
+ghost use Rattle.l4_questions.specs.Printed.{share_processor, whole_words};
 
 use l4_machine::Entry;
 use l4_schedules::writing::write_schedule;
@@ -31,15 +31,20 @@ pub(crate) fn write_head(
     Ok(())
 }
 
+// Whether one of these threads is on this processor.
+fn has_thread_on(cpu: u8, threads: &[Declaration]) -> bool
+    ensures { result ≡ has_thread_on cpu threads.now }
+{
+    threads.iter().any(|thread| thread.cpu() == cpu)
+}
+
 // Whether some two of these threads share a processor.
 fn share_processor(threads: &[Declaration]) -> bool
     ensures { result ≡ share_processor threads.now }
 {
     match threads {
         [] => false,
-        [first, others @ ..] => {
-            others.iter().any(|other| other.cpu() == first.cpu()) || share_processor(others)
-        }
+        [first, others @ ..] => has_thread_on(first.cpu(), others) || share_processor(others),
     }
 }
 

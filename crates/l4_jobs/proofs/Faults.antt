@@ -25,17 +25,13 @@ use Rattle.l4_commands.specs.declared.job.Job.TheVariants.{Run, Replay, Audit, C
 use Rattle.l4_jobs.specs.Audits.{IsAudited, IsFaultOfTrace, IsPassed, IsTraceFault, tells_refusals}
 use Rattle.l4_jobs.specs.ChartJobs.{fault_of_threads}
 use Rattle.l4_jobs.specs.Expectations.{IsExpected, scope_of}
-use Rattle.l4_jobs.specs.Inputs.{FailsWith, Gives, IsRead}
+use Rattle.l4_jobs.specs.Inputs.{FailsWith, IsRead, gives_one}
 use Rattle.l4_jobs.specs.Jobs.{IsAskedFault, IsDoneFor, IsDoneOn, IsFaultBehind, IsFaultFor, IsFaultOn}
 use Rattle.l4_jobs.specs.Outputs.{Output}
 use Rattle.l4_jobs.specs.Schedules.{IsReplayFault, IsScheduleFault, asked_schedule, fault_of_result, fault_of_run, named_schedule, replayed}
 use Rattle.l4_jobs.specs.Searches.{fault_of_question}
 use Rattle.l4_jobs.specs.declared.fault.Fault.{Fault}
 use Rattle.l4_jobs.proofs.Spelled.{trace_right}
-
--- A source that gives one text, and no other.
-abbrev one : List ℕ → Gives
-one text given = given ≡ Ok text
 
 abbrev gives_all : List ℕ → Result (List ℕ) ErrorKind
 gives_all text = Ok text
@@ -95,17 +91,17 @@ replay_right m rest list trace r f done (inr is) = rest_right m rest list trace 
 
 -- On the machine of a text
 
-unread : (name : Option (List ℕ)) (text : List ℕ) (f : Fault) → IsSomeAnd name (λ n. FailsWith n (one text) f) → ⊥
+unread : (name : Option (List ℕ)) (text : List ℕ) (f : Fault) → IsSomeAnd name (λ n. FailsWith n (gives_one text) f) → ⊥
 unread None text f is = is
 unread (Some name) text f (kind, given, failed) = never_unread text kind given
 
-same_list : (m : Machine) (rest : Option ℕ) (schedule : List ℕ) (name : Option (List ℕ)) (list read : List ℕ) (r : CoreRun) → IsRead name (one read) list →
+same_list : (m : Machine) (rest : Option ℕ) (schedule : List ℕ) (name : Option (List ℕ)) (list read : List ℕ) (r : CoreRun) → IsRead name (gives_one read) list →
     replayed m rest (named_schedule m name schedule list) ≡ Ok r → replayed m rest (named_schedule m name schedule read) ≡ Ok r
 same_list m rest schedule None list read r reads is = is
 same_list m rest schedule (Some name) list read r reads is = ap (λ t. replayed m rest (schedule_in_file m t)) (sym (all_given read list reads)) ∙ is
 
 right_on : (job : Job) (text : List ℕ) (m : Machine) (read : List ℕ) (expected : Option (List Expected)) (o : Output) (f : Fault) →
-    IsDoneOn job text m (one read) expected o → IsFaultOn job m (one read) f → ⊥
+    IsDoneOn job text m (gives_one read) expected o → IsFaultOn job m (gives_one read) f → ⊥
 right_on (Run file turns printed record_to name) text m read expected o f s is =
     absurd (let bad : None ≡ Some f = sym (ap (option_map fault_of_run) s.is.lawful) ∙ is in cc)
 right_on (Replay file schedule rest printed name) text m read expected o f (list, reads, s) is =
@@ -123,17 +119,17 @@ right_on (Lint file schedule) text m read expected o f s is = unread (list_name_
 -- By what is expected
 
 expected_right : (job : Job) (text : List ℕ) (m : Machine) (read asked : List ℕ) (name : Option (List ℕ)) (expected : Option (List Expected)) (o : Output) (f : Fault) →
-    IsExpected name (scope_of job) (one asked) expected → IsDoneOn job text m (one read) expected o →
-    IsFaultBehind job name m (one read) (one asked) f → ⊥
+    IsExpected name (scope_of job) (gives_one asked) expected → IsDoneOn job text m (gives_one read) expected o →
+    IsFaultBehind job name m (gives_one read) (gives_one asked) f → ⊥
 expected_right job text m read asked None expected o f wants is faulty = right_on job text m read expected o f is faulty
 expected_right job text m read asked (Some name) expected o f wants is (inl (kind, given, failed)) = never_unread asked kind given
 expected_right job text m read asked (Some name) expected o f (t, lines, given, reads, some) is (inr (u, other, faulty)) =
     let alike : expectations_of (scope_of job) u ≡ Ok lines =
     ap (expectations_of (scope_of job)) (all_given asked u other ∙ sym (all_given asked t given)) ∙ reads in
-    right_on job text m read expected o f is (subst (λ r. IsAskedFault job m (one read) r f) alike faulty)
+    right_on job text m read expected o f is (subst (λ r. IsAskedFault job m (gives_one read) r f) alike faulty)
 
 right_for : (job : Job) (text : List ℕ) (d : Result Machine TextFault) (read asked : List ℕ) (o : Output) (f : Fault) →
-    IsDoneFor job text d (one read) (one asked) o → IsFaultFor job d (one read) (one asked) f → ⊥
+    IsDoneFor job text d (gives_one read) (gives_one asked) o → IsFaultFor job d (gives_one read) (gives_one asked) f → ⊥
 right_for job text (Ok m) read asked o f (expected, wants, is) faulty = expected_right job text m read asked (expected_of job) expected o f wants is faulty
 right_for (Lint file schedule) text (Err t) read asked o f is faulty = faulty
 right_for (Run file turns printed record_to name) text (Err t) read asked o f is faulty = is
@@ -142,6 +138,6 @@ right_for (Audit file name judged) text (Err t) read asked o f is faulty = is
 right_for (Chart chart) text (Err t) read asked o f is faulty = is
 right_for (Endings search) text (Err t) read asked o f is faulty = is
 
-pub no_fault : (job : Job) (text read asked : List ℕ) (o : Output) (f : Fault) → IsDoneFor job text (machine_of_text text) (one read) (one asked) o →
-    IsFaultFor job (machine_of_text text) (one read) (one asked) f → ⊥
+pub no_fault : (job : Job) (text read asked : List ℕ) (o : Output) (f : Fault) → IsDoneFor job text (machine_of_text text) (gives_one read) (gives_one asked) o →
+    IsFaultFor job (machine_of_text text) (gives_one read) (gives_one asked) f → ⊥
 no_fault job text read asked o f = right_for job text (machine_of_text text) read asked o f

@@ -2,6 +2,7 @@ pub mod Appending
 pub mod Audited
 pub mod Behind
 pub mod Charted
+pub mod Drawing
 pub mod Faults
 pub mod Making
 pub mod Judged

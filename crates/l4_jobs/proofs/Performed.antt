@@ -24,8 +24,8 @@ pub performed_as : (job : Job) (machine second expects : Gives) (list other : Li
     (keeps_faults : Type 0) (status : ℕ) → ((name bytes : List ℕ) (all : Bool) → list name bytes all → other name bytes all) → (keeps → others) →
     IsPerformed job machine second expects (sinks list keeps out keeps_out faults keeps_faults) status →
     IsPerformed job machine second expects (sinks other others out keeps_out faults keeps_faults) status
-performed_as job machine second expects list other keeps others out keeps_out faults keeps_faults status lists keep (inl (f, is, kept, left, reported, one)) =
-    inl (f, is, keep kept, left, reported, one)
+performed_as job machine second expects list other keeps others out keeps_out faults keeps_faults status lists keep (inl (f, is, (kept, left, reported, one))) =
+    inl (f, is, (keep kept, left, reported, one))
 performed_as job machine second expects list other keeps others out keeps_out faults keeps_faults status lists keep (inr (o, is, wrote)) = inr (o, is, by o.list wrote)
   where
     by : (l : Option (List ℕ × List ℕ)) → IsKeptOut o l (sinks list keeps out keeps_out faults keeps_faults) status →
@@ -47,7 +47,7 @@ kept_status job o (Some p) s status is (inl (kept, lines)) = lines_status job o 
 kept_status job o (Some p) s status is (inr (f, named, kept, left, reported, one)) = inr (inl one)
 
 pub performed_status : (job : Job) (machine second expects : Gives) (s : Sinks) (status : ℕ) → IsPerformed job machine second expects s status → IsStatusOf job status
-performed_status job machine second expects s status (inl (f, is, kept, left, reported, one)) = inr (inl one)
+performed_status job machine second expects s status (inl (f, is, (kept, left, reported, one))) = inr (inl one)
 performed_status job machine second expects s status (inr (o, is, wrote)) =
     kept_status job o o.list s status (done_status job machine second expects o is) wrote
 
@@ -100,7 +100,7 @@ kept_true job machine second expects o (Some p) s status d (inr (f, named, kept,
 
 pub performed_true : (job : Job) (machine second expects : Gives) (s : Sinks) (status : ℕ) → IsPerformed job machine second expects s status → (status ≡ 1 → ⊥) →
     IsTrulyDone job machine s.out status
-performed_true job machine second expects s status (inl (f, is, kept, left, reported, one)) right = elim (right one) [ ]
+performed_true job machine second expects s status (inl (f, is, (kept, left, reported, one))) right = elim (right one) [ ]
 performed_true job machine second expects s status (inr (o, is, wrote)) right = kept_true job machine second expects o o.list s status is wrote right
 
 -- What is true of a job without its record is true of the job.
@@ -119,5 +119,5 @@ truly_alone job machine out status (text, lines, given, wrote, is) = (text, line
 -- Where a job comes to nothing, its fault is told.
 pub nothing_done : (job : Job) (machine second expects : Gives) (s : Sinks) (status : ℕ) → ((o : Output) → IsDone job machine second expects o → ⊥) →
     IsPerformed job machine second expects s status → (status ≡ 1) × s.keeps_out
-nothing_done job machine second expects s status never (inl (f, is, kept, left, reported, one)) = (one, left)
+nothing_done job machine second expects s status never (inl (f, is, (kept, left, reported, one))) = (one, left)
 nothing_done job machine second expects s status never (inr (o, is, wrote)) = elim (never o is) [ ]

@@ -46,6 +46,6 @@ passes printed m o lines alone is_true written =
         reaches = written.reaches;
         ending = ending;
         quiet = quiet written.world written.reaches;
-        lines_are = sym (append-nil (passed_line (length o.history) ending));
+        lines_are = sym (append-nil (passed_line (length o.history) ending)) ∙ ap (λ l. passed_line (length o.history) ending ++ l) (sym (append-nil []));
       };
     }

@@ -31,3 +31,7 @@ FailsWith file gives f = (kind : ErrorKind) × gives (Err kind) × IsUnread file
 -- There is no source. Reading it comes to `NotFound`.
 abbrev pub gives_nothing : Gives
 gives_nothing read = read ≡ Err NotFound
+
+-- It gives this text, and no other.
+abbrev pub gives_one : (text : List ℕ) → Gives
+gives_one text read = read ≡ Ok text

@@ -15,7 +15,7 @@ use Rattle.l4_commands.specs.declared.job.Printed.{Printed}
 use Rattle.l4_jobs.specs.Audits.{IsAuditDone, IsTraceFault, tells_refusals}
 use Rattle.l4_jobs.specs.ChartJobs.{IsChartDone, IsChartFault}
 use Rattle.l4_jobs.specs.Expectations.{IsExpected, fault_of_expect, scope_of}
-use Rattle.l4_jobs.specs.Inputs.{FailsWith, Gives, IsRead, gives_nothing}
+use Rattle.l4_jobs.specs.Inputs.{FailsWith, Gives, IsRead}
 use Rattle.l4_jobs.specs.Lints.{IsLinted, IsListLinted}
 use Rattle.l4_jobs.specs.Outputs.{Output}
 use Rattle.l4_jobs.specs.Runs.{IsRunDone, IsWritten, status_of_ending}
@@ -109,11 +109,6 @@ IsFault job machine second expects f =
     ⊎ FailsWith (file_of job) machine f
     ⊎ ((text : List ℕ) × machine (Ok text)
     × IsFaultFor job (machine_of_text text) second expects f)
-
--- A job has a fault for this text and this trace or list, where nothing is expected.
-abbrev pub IsFaulty : Job → (text read : List ℕ) → Type 0
-IsFaulty job text read =
-    (f : Fault) × IsFaultFor job (machine_of_text text) (λ given. given ≡ Ok read) gives_nothing f
 
 -- The exit statuses. 4 stands for an ending that should not exist, or for an expectation that does
 -- not hold.

@@ -1,4 +1,4 @@
-//! Laws of what is printed: of records, of traces, and of statuses.
+//! Laws of what is printed: of records, of traces, and of faults.
 ghost use Rattle.std.specs.Prelude.{◌≡◌, ℕ, List, None, Some, Option};
 ghost use Rattle.l4_commands.specs.Files.{list_name};
 ghost use Rattle.l4_commands.specs.declared.job.Job.{Job as AJob};
@@ -6,13 +6,15 @@ ghost use Rattle.l4_commands.specs.declared.job.Printed.{Printed};
 ghost use Rattle.l4_expect.specs.Expected.{Expected};
 ghost use Rattle.l4_machine.specs.Outcomes.{Findings, IsTrueOf};
 ghost use Rattle.l4_model.specs.Machine.{Machine as ModelMachine};
-ghost use Rattle.l4_jobs.specs.Inputs.{Gives};
-ghost use Rattle.l4_jobs.specs.Jobs.{IsDone, IsStatusOf};
+ghost use Rattle.l4_script.specs.Texts.{machine_of_text};
+ghost use Rattle.l4_jobs.specs.Inputs.{gives_one};
+ghost use Rattle.l4_jobs.specs.Jobs.{IsDoneFor, IsFaultFor};
 ghost use Rattle.l4_jobs.specs.Outputs.{Output};
 ghost use Rattle.l4_jobs.specs.Records.{IsRepeatedBy};
 ghost use Rattle.l4_jobs.specs.Runs.{IsRunDone, IsWritten};
 ghost use Rattle.l4_jobs.specs.Schedules.{IsRunAsked};
 ghost use Rattle.l4_jobs.specs.Traces.{IsTraceAlone, IsTraceThatPasses};
+ghost use Rattle.l4_jobs.specs.declared.fault.Fault.{Fault as AFault};
 
 /// On the machine of a recorded run, a replay of its record prints exactly what the run printed,
 /// and ends with its status.
@@ -31,4 +33,12 @@ pub fn law_trace_passes()
     ensures { (printed : Printed) (m : ModelMachine) (o : Findings) (lines : List ℕ) →
         IsTraceAlone printed → IsTrueOf m o → IsWritten printed m o lines →
         IsTraceThatPasses m o lines }
+{}
+
+/// A job that has a fault for a text, a trace or a list, and expectations comes to nothing for
+/// them.
+pub fn law_faulty()
+    ensures { (job : AJob) (text read asked : List ℕ) (o : Output) (fault : AFault) →
+        IsDoneFor job text (machine_of_text text) (gives_one read) (gives_one asked) o →
+        IsFaultFor job (machine_of_text text) (gives_one read) (gives_one asked) fault → ⊥ }
 {}

@@ -1,10 +1,10 @@
 //! Writing what a job comes to.
-ghost use Rattle.std.specs.Prelude.{◌≡◌, ◌≢◌, IfErr, IfOk, List, ℕ, None, Ok, Some, map};
+ghost use Rattle.std.specs.Prelude.{◌≡◌, ◌≢◌, IfErr, IfOk, None, Some};
 ghost use Rattle.std.specs.Option.{option_copied};
 ghost use Rattle.l4_commands.specs.Files.{alone, expected_of, file_of, second_file_of};
-ghost use Rattle.l4_jobs.specs.Inputs.{IsRead, gives_nothing};
-ghost use Rattle.l4_jobs.specs.Jobs.{IsFaulty, IsStatusOf};
-ghost use Rattle.l4_jobs.specs.Outputs.{output_of};
+ghost use Rattle.l4_jobs.specs.Inputs.{gives_nothing};
+ghost use Rattle.l4_jobs.specs.Jobs.{IsDone, IsStatusOf};
+ghost use Rattle.l4_jobs.specs.Outputs.{Output, output_of};
 ghost use Rattle.l4_jobs.specs.Performing.{AreOpened, AreUnopened, IsLinesOut, IsOpened};
 ghost use Rattle.l4_jobs.specs.Performing.{IsPerformed, IsPerformedOn, IsSaid, IsTrulyDone};
 ghost use Rattle.l4_jobs.specs.Performing.{IsTrulyDoneOn, IsUnopened, IsWrittenOut, keeps_none, sinks};
@@ -129,9 +129,8 @@ pub fn perform<R: Threads + Sync, M: Source, T: Source, W: Sink, E: Sink>(
         (E.takes faults.old faults.new) (faults.new ≡ faults.old)) result }
     ensures headline { result ≢ 1 →
         IsTrulyDone job.now (M.gives machine.old) (W.takes out.old out.new) result }
-    ensures faulty { ((text read : List ℕ) → M.gives machine.old (Ok text) →
-        IsRead (second_file_of job.now) (T.gives trace.old) read →
-        IsFaulty (alone job.now) text read) → (result ≡ 1) × (out.new ≡ out.old) }
+    ensures faulty { ((o : Output) → IsDone (alone job.now) (M.gives machine.old)
+        (T.gives trace.old) gives_nothing o → ⊥) → (result ≡ 1) × (out.new ≡ out.old) }
     ensures statuses { IsStatusOf (alone job.now) result }
     ensures unread { second_file_of job.now ≡ None → trace.new ≡ trace.old }
 {

@@ -214,7 +214,7 @@ pub(crate) fn run_done<'a, R: Threads + Sync>(
     expected: Option<&Expectations<'_>>,
 ) -> Result<Done<'a>, Fault<'a>>
     ensures ok { IfOk result (λ done.
-        IsRunDone printed machine.now (IsRunAsked machine.now turns) (option_copied record_to)
+        IsRunDone printed machine.now (IsRunAsked machine.now turns) (option_copied record_to.entry)
         (option_copied expected.entry) (output_of done)) }
     ensures err { IfErr result (λ fault. (fault ≡ OutOfMemory) ⊎
         (fault_of_turns turns ≡ Some fault)) }

@@ -30,10 +30,10 @@ fn refusal(alloc: Global, refused: Option<usize>) -> Result<Vec<u8>, NoMemory>
 impl TraceOutput {
     /// The output of the job. The step that is not possible is said behind its lines.
     pub(crate) fn into_done<'a>(self, alloc: Global) -> Result<Done<'a>, NoMemory>
-        ensures lines { IfOk result (λ done. done.lines ≡ self.lines) }
-        ensures said { IfOk result (λ done. done.said.items ≡ refusal_text self.refused) }
-        ensures status { IfOk result (λ done. done.status ≡ self.status) }
-        ensures unrecorded { IfOk result (λ done. done.list ≡ None) }
+        ensures lines { IfOk result (λ done. (output_of done).lines ≡ self.lines.items) }
+        ensures said { IfOk result (λ done. (output_of done).said ≡ refusal_text self.refused) }
+        ensures status { IfOk result (λ done. (output_of done).status ≡ self.status) }
+        ensures unrecorded { IfOk result (λ done. (output_of done).list ≡ None) }
     {
         Ok(Done {
             said: refusal(alloc, self.refused)?,

@@ -1,7 +1,7 @@
 use Rattle.std.proofs.Common.{◌≡◌, false, rules}
 use Rattle.std.specs.Prelude.{◌||◌, IfErr}
 use Rattle.l4_trace.proofs.ReadTexts.{written}
-use Rattle.l4_jobs.specs.Jobs.{fault_of_reading}
+use Rattle.l4_jobs.specs.Audits.{fault_of_reading}
 use Rattle.l4_jobs.proofs.Behind.{passed_alone, passed_behind, passed_history}
 use Rattle.l4_jobs.proofs.Spelled.{line_fault}
 use Rattle.l4_jobs.proofs.audits.audited.Goals as goal

@@ -1,0 +1,5 @@
+use Rattle.l4_jobs.proofs.Traces.{passes}
+use Rattle.l4_jobs.proofs.laws.law_trace_passes.Goals as goal
+
+pub returns : goal.returns
+returns c = λ printed m o lines alone is_true written. passes printed m o lines alone is_true written

@@ -1,18 +1,19 @@
 -- From what is made of a text to what is made of all that the sources of a job give.
 use Rattle.std.proofs.Common.{◌≡◌, ℕ, Option, Some, None, Result, Ok, Err, List, ap, sym, subst, inl, inr, ◌∙◌}
-use Rattle.std.specs.Prelude.{◌⊎◌, IfErr}
+use Rattle.std.specs.Prelude.{◌⊎◌, IfErr, IfOk}
 use Rattle.l4_model.specs.Machine.{Machine}
 use Rattle.l4_expect.specs.Expected.{Expected, expectations_of}
 use Rattle.l4_expect.specs.declared.expectations.ExpectFault.{ExpectFault}
 use Rattle.l4_expect.specs.declared.expectations.ExpectFault.TheVariants as expect_fault
 use Rattle.l4_script.specs.Texts.{machine_of_text}
 use Rattle.l4_script.specs.declared.text.fault.TextFault.{TextFault}
+use Rattle.l4_script.specs.declared.text.fault.TextFaultKind.TheVariants.{NoMemory as NoMemoryKind}
 use Rattle.l4_commands.specs.Files.{expected_of, file_of}
 use Rattle.l4_commands.specs.declared.job.Job.{Job}
 use Rattle.l4_commands.specs.declared.job.Job.TheVariants.{Run, Replay, Audit, Chart, Endings, Lint}
 use Rattle.l4_jobs.specs.Expectations.{IsExpected, fault_of_expect, scope_of}
 use Rattle.l4_jobs.specs.Inputs.{FailsWith, Gives}
-use Rattle.l4_jobs.specs.Jobs.{IsAskedFault, IsDone, IsDoneFor, IsDoneOn, IsFault, IsFaultBehind, IsFaultFor, IsFaultOn}
+use Rattle.l4_jobs.specs.Jobs.{IsAskedFault, IsDone, IsDoneFor, IsDoneOn, IsFault, IsFaultBehind, IsFaultFor, IsFaultOn, IsFaultyDone}
 use Rattle.l4_jobs.specs.Outputs.{Output}
 use Rattle.l4_jobs.specs.Reading.{IsReadAs}
 use Rattle.l4_jobs.specs.declared.fault.Fault.{Fault}
@@ -127,3 +128,14 @@ pub text_unread : {X : Type 0} (job : Job) (machine second expects : Gives) (r :
     FailsWith (file_of job) machine e → IfErr r (IsFault job machine second expects)
 text_unread job machine second expects (Ok x) e is failed = tt
 text_unread job machine second expects (Err f) e is failed = inr (inl (subst (FailsWith (file_of job) machine) (sym is) failed))
+
+-- For a text with a fault
+
+pub both_ok : {X Y : Type 0} (r : Result X Y) (P Q R : X → Type 0) → ((x : X) → P x → Q x → R x) → IfOk r P → IfOk r Q → IfOk r R
+both_ok (Ok x) P Q R h p q = h x p q
+both_ok (Err y) P Q R h p q = tt
+
+pub faulty_done : (job : Job) (text : List ℕ) (d : Result Machine TextFault) (t : TextFault) (second expects : Gives) (o : Output) →
+    (t ≡ record { line = 0; kind = NoMemoryKind }) ⊎ (d ≡ Err t) → IsFaultyDone job text o → (t.kind ≡ NoMemoryKind → ⊥) → IsDoneFor job text d second expects o
+faulty_done job text d t second expects o (inl none) is declared = elim (declared (ap (λ (f : TextFault). f.kind) none)) [ ]
+faulty_done job text d t second expects o (inr at) is declared = subst (λ r. IsDoneFor job text r second expects o) (sym at) is

@@ -15,8 +15,11 @@ use Rattle.l4_jobs.specs.Expectations.{is_met_by}
 use Rattle.l4_jobs.specs.Inputs.{Gives}
 use Rattle.l4_jobs.specs.Jobs.{IsDone, IsDoneFor, IsDoneOn, IsStatusOf, IsTrueFor, IsTrueShown}
 use Rattle.l4_jobs.specs.Outputs.{Output}
-use Rattle.l4_jobs.specs.Performing.{IsKeptOut, IsLinesOut, IsPerformed, IsTrulyDone, Sinks, Takes, sinks}
+use Rattle.l4_jobs.specs.Performing.{IsKeptOut, IsLinesOut, IsPerformed, IsTrulyDone, IsUnwritten, IsWrittenOut, Sinks, Takes, sinks}
 use Rattle.l4_jobs.specs.Runs.{IsRunDone, report_of, status_of_ending}
+use Rattle.l4_jobs.specs.FaultLines.{IsReported}
+use Rattle.l4_jobs.specs.Streams.{IsWrittenApart}
+use Rattle.l4_jobs.specs.declared.fault.Fault.{Fault}
 use Rattle.l4_jobs.proofs.Statuses.{done_status}
 
 -- What is said of the records may be said in other words.
@@ -121,3 +124,17 @@ pub nothing_done : (job : Job) (machine second expects : Gives) (s : Sinks) (sta
     IsPerformed job machine second expects s status → (status ≡ 1) × s.keeps_out
 nothing_done job machine second expects s status never (inl (f, is, (kept, left, reported, one))) = (one, left)
 nothing_done job machine second expects s status never (inr (o, is, wrote)) = elim (never o is) [ ]
+
+-- A record that was not written
+pub not_kept : (o : Output) (s : Sinks) (p : List ℕ × List ℕ) (f : Fault) (status : ℕ) → o.list ≡ Some p → IsUnwritten p.0 f → s.list p.0 p.1 false → s.keeps_out →
+    IsReported s.faults f → status ≡ 1 → IsWrittenOut o s status
+not_kept o s p f status is named kept left reported one = subst (λ l. IsKeptOut o l s status) (sym is) (inr (f, named, kept, left, reported, one))
+
+-- The files that are read, by their names
+pub apart_as : (tells : (name read : List ℕ) → (same : Bool) → Type 0) (writes : (name bytes : List ℕ) → (all : Bool) → Type 0) (file other : List ℕ)
+    (second others expects wanted : Option (List ℕ)) (name bytes : List ℕ) (all : Bool) → file ≡ other → second ≡ others → expects ≡ wanted →
+    IsWrittenApart tells writes (Some file) second expects name bytes all → IsWrittenApart tells writes (Some other) others wanted name bytes all
+apart_as tells writes file other second others expects wanted name bytes all a b c is =
+    subst (λ f. IsWrittenApart tells writes (Some f) others wanted name bytes all) a
+    (subst (λ s. IsWrittenApart tells writes (Some file) s wanted name bytes all) b
+    (subst (λ e. IsWrittenApart tells writes (Some file) second e name bytes all) c is))

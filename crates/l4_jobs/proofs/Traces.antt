@@ -14,7 +14,7 @@ use Rattle.l4_trace.specs.Lines.{IsTraceOf, trace_of}
 use Rattle.l4_types.specs.declared.reports.Ending.{Ending}
 use Rattle.l4_commands.specs.declared.job.Extras.{Extras}
 use Rattle.l4_commands.specs.declared.job.Printed.{Printed}
-use Rattle.l4_jobs.specs.Audits.{IsPassed, passed_line}
+use Rattle.l4_jobs.specs.Audits.{IsPassed, passed_line, report_where}
 use Rattle.l4_jobs.specs.Extras.{behind}
 use Rattle.l4_jobs.specs.Runs.{IsWritten, lines_of_outcome}
 use Rattle.l4_jobs.specs.Traces.{IsTraceAlone, IsTraceThatPasses, plain}
@@ -33,6 +33,13 @@ trace_is printed m o lines alone written =
     written.lines_are ∙ nothing_behind printed.extras m written.world o.history (lines_of_outcome printed.report o) alone.no_waits alone.no_counts
     ∙ ap (λ report. lines_of_outcome report o) alone.no_report
 
+-- An audit without options tells nothing behind its line.
+nothing_told : (m : Machine) (w : World) (h : List Step) (ending : Ending) →
+    passed_line (length h) ending ≡ passed_line (length h) ending ++ report_where plain.report m w h ending ++ behind plain.extras m w h
+nothing_told m w h ending =
+    sym (nothing_behind plain.extras m w h (passed_line (length h) ending) refl refl)
+    ∙ ap (λ l. l ++ behind plain.extras m w h) (sym (append-nil (passed_line (length h) ending)))
+
 pub passes : (printed : Printed) (m : Machine) (o : Findings) (lines : List ℕ) → IsTraceAlone printed → IsTrueOf m o → IsWritten printed m o lines →
     IsTraceThatPasses m o lines
 passes printed m o lines alone is_true written =
@@ -46,6 +53,6 @@ passes printed m o lines alone is_true written =
         reaches = written.reaches;
         ending = ending;
         quiet = quiet written.world written.reaches;
-        lines_are = sym (append-nil (passed_line (length o.history) ending)) ∙ ap (λ l. passed_line (length o.history) ending ++ l) (sym (append-nil []));
+        lines_are = nothing_told m written.world o.history ending;
       };
     }

@@ -1,8 +1,9 @@
 //! What a job comes to, for what its sources give.
-ghost use Rattle.std.specs.Prelude.{◌≡◌, ◌⊎◌, IfOk, IfErr, List, None, Ok, Some};
+ghost use Rattle.std.specs.Prelude.{◌≡◌, ◌≢◌, ◌⊎◌, IfOk, IfErr, List, None, Ok, Some};
 ghost use Rattle.std.specs.Option.{option_copied};
 ghost use Rattle.l4_expect.specs.Expected.{Expected, expectations_of};
 ghost use Rattle.l4_script.specs.Texts.{machine_of_text};
+ghost use Rattle.l4_script.specs.declared.text.fault.TextFaultKind.TheVariants.{NoMemory as NoMemoryKind};
 ghost use Rattle.l4_commands.specs.Files.{second_file_of};
 ghost use Rattle.l4_jobs.specs.Expectations.{scope_of};
 ghost use Rattle.l4_jobs.specs.Jobs.{IsAskedFault, IsDone, IsDoneFor, IsDoneOn, IsFault, IsFaultFor};
@@ -154,6 +155,7 @@ fn done_without<'a>(
     fault: TextFault,
 ) -> Result<Done<'a>, Fault<'a>>
     ensures ok { IfOk result (λ done. IsFaultyDone job.now text.now (output_of done)) }
+    ensures declared { IfOk result (λ done. fault.kind ≢ NoMemoryKind) }
     ensures err { IfErr result (λ found. (found ≡ OutOfMemory) ⊎
         IsTextFault job.now fault found) }
 {

@@ -24,10 +24,10 @@ shared (d ∷ threads) first cpu some is same =
 pub shared_by_first : (threads : List Declaration) (first : Declaration) (cpu : ℕ) (found : Bool) →
     1 ≤ length threads → first ≡ get_or threads 0 first → cpu ≡ first.cpu →
     found ≡ has_thread_on cpu (others threads) → found ≡ true → found ≡ share_processor threads
-shared_by_first threads first cpu found some is same told yes =
-    yes
+shared_by_first threads first cpu found some is same told found_is =
+    found_is
     ∙ sym (shared threads first cpu some is same
-    ∙ ap (λ (b : Bool). b || share_processor (others threads)) (sym told ∙ yes))
+    ∙ ap (λ (b : Bool). b || share_processor (others threads)) (sym told ∙ found_is))
 
 pub shared_by_others : (threads : List Declaration) (first : Declaration) (cpu : ℕ)
     (found rest : Bool) → 1 ≤ length threads → first ≡ get_or threads 0 first → cpu ≡ first.cpu →

@@ -23,6 +23,7 @@ class Chart {
 
     clear(text) {
         this.numbers = [];
+        this.width = 0;
         this.root.replaceChildren(el("p", { className: "none", textContent: text }));
     }
 
@@ -57,6 +58,7 @@ class Chart {
         const grid = el("div", { className: "grid" }, corner, above, this.lines, body, this.later, this.now);
         grid.style.setProperty("--columns", `${width}px`);
         this.root.replaceChildren(grid);
+        this.width = width + this.lines.offsetWidth;
     }
 
     line(row, place) {
@@ -66,7 +68,7 @@ class Chart {
         const short = title.replace(/^(deliver \S+) (\S+) .*$/, "$1 → $2");
         const made = el("div", { title }, el("span", { textContent: number }), short);
         made.dataset.step = number;
-        if (row.querySelector(".sfail,.rfail")) made.className = "failure";
+        if (row.classList.contains("failure")) made.className = "failure";
         return made;
     }
 

@@ -1,17 +1,19 @@
-// A text area over a picture of its own text: colours, line numbers, marks of lint, and where threads are.
+// A text area over a picture of its own text: colours, line numbers, marks of lint, and where threads are. Lines are wrapped; those of a
+// long text are not, and only those in sight are drawn.
 class Editor {
     static PADDING = 8; // pixels above the first line, as in the style
-    static AROUND = 40; // lines that are drawn above and below those in sight
+    static LONG = 1500; // lines
+    static AROUND = 40; // lines that are drawn above and below those in sight, of a long text
 
     constructor(root, { onChange, onLine }) {
         this.root = root;
         this.area = root.querySelector("textarea");
         this.paint = root.querySelector(".paint");
-        this.gutter = root.querySelector(".gutter");
         this.tip = root.querySelector(".tip");
         this.marks = [];
         this.places = new Map();
         this.lines = [""];
+        this.drawn = new Map(); // by line, counted from 0: what it was drawn from, and its element
         this.first = this.last = 0;
         new ResizeObserver(() => this.draw()).observe(this.area);
         this.area.addEventListener("input", () => {
@@ -39,6 +41,9 @@ class Editor {
         this.draw();
     }
 
+    get isLong() {
+        return this.lines.length > Editor.LONG;
+    }
     get pitch() {
         return parseFloat(getComputedStyle(this.area).lineHeight);
     }
@@ -66,34 +71,45 @@ class Editor {
         const word = (this.lines[line - 1] ?? "").slice(column - 1).match(/^\S+/)?.[0] ?? "";
         this.area.focus();
         this.area.setSelectionRange(at, at + word.length);
-        this.show(line);
+        const top = this.topOf(line);
+        const { scrollTop, clientHeight } = this.area;
+        if (top < scrollTop || top + 2 * this.pitch > scrollTop + clientHeight) this.area.scrollTop = Math.max(0, top - clientHeight / 3);
         this.area.dispatchEvent(new Event("click"));
     }
 
-    // Brings a line into sight.
-    show(line) {
-        const top = (line - 1) * this.pitch;
-        const { scrollTop, clientHeight } = this.area;
-        if (top < scrollTop || top + 2 * this.pitch > scrollTop + clientHeight) this.area.scrollTop = Math.max(0, top - clientHeight / 3);
-        this.follow();
+    // How far below the first line a line begins.
+    topOf(line) {
+        if (this.isLong) return (line - 1) * this.pitch;
+        return this.drawn.get(line - 1)?.element.offsetTop ?? 0;
+    }
+
+    lineAt(y) {
+        if (this.isLong) return Math.floor(y / this.pitch) + 1;
+        let line = 1;
+        while (line < this.lines.length && this.topOf(line + 1) <= y) line += 1;
+        return line;
     }
 
     hover(event) {
         const box = this.area.getBoundingClientRect();
-        const line = Math.floor((event.clientY - box.top + this.area.scrollTop - Editor.PADDING) / this.pitch) + 1;
+        const line = this.lineAt(event.clientY - box.top + this.area.scrollTop - Editor.PADDING);
         const marks = this.marks.filter((mark) => mark.line === line).map(markText);
         const here = this.places.get(line)?.map(({ note }) => note).join(", ");
         const notes = here ? [...marks, `here: ${here}`] : marks;
         this.tip.hidden = notes.length === 0;
+        if (this.tip.hidden) return;
         this.tip.textContent = notes.join("\n");
-        this.tip.style.top = `${Math.min(box.height - 30, line * this.pitch + 12 - this.area.scrollTop)}px`;
+        const below = this.topOf(line) + this.pitch + Editor.PADDING + 6 - this.area.scrollTop;
+        this.tip.style.top = `${Math.min(box.height - 30, below)}px`;
     }
 
     draw() {
         this.lines = this.area.value.split("\n");
         const longest = Math.max(0, ...[...this.places.values()].map(([first, ...more]) => first.id.length + (more.length ? 1 : 0)));
         const digits = `${this.lines.length}`.length;
-        this.gutter.style.width = `calc(${digits + longest}ch + ${longest ? 30 : 14}px)`;
+        this.root.style.setProperty("--gutter", `calc(${digits + longest}ch + ${longest ? 28 : 14}px)`);
+        this.root.classList.toggle("long", this.isLong);
+        this.paint.style.width = this.isLong ? "" : `${this.area.clientWidth}px`;
         this.render();
         this.follow();
     }
@@ -101,29 +117,31 @@ class Editor {
     follow() {
         const { scrollTop, scrollLeft, clientHeight } = this.area;
         const top = scrollTop / this.pitch;
-        if ((top < this.first + 5 && this.first > 0) || top + clientHeight / this.pitch > this.last - 5) this.render();
-        const by = this.first * this.pitch - scrollTop;
+        const isNear = top < this.first + 5 || top + clientHeight / this.pitch > this.last - 5;
+        if (this.isLong && isNear) this.render();
+        const by = (this.isLong ? this.first * this.pitch : 0) - scrollTop;
         this.paint.style.transform = `translate(${-scrollLeft}px, ${by}px)`;
-        this.gutter.firstElementChild.style.transform = `translateY(${by}px)`;
+        this.paint.style.setProperty("--scrolled", `${scrollLeft}px`);
     }
 
-    // Draws the lines in sight and some around them.
+    // Draws all lines, or of a long text those in sight and some around them. A line that is as it was is not drawn anew.
     render() {
         const top = Math.floor(this.area.scrollTop / this.pitch);
-        this.first = Math.max(0, top - Editor.AROUND);
-        this.last = top + Math.ceil(this.area.clientHeight / this.pitch) + Editor.AROUND;
+        const inSight = Math.ceil(this.area.clientHeight / this.pitch);
+        this.first = this.isLong ? Math.max(0, top - Editor.AROUND) : 0;
+        this.last = this.isLong ? top + inSight + Editor.AROUND : this.lines.length;
         const marks = new Map();
         for (const mark of this.marks) if (!marks.has(mark.line) || marks.get(mark.line).isDoubt) marks.set(mark.line, mark);
-        const painted = [];
-        const numbers = [];
+        const drawn = new Map();
         for (let place = this.first; place < Math.min(this.lines.length, this.last); place += 1) {
             const mark = marks.get(place + 1);
             const here = this.places.get(place + 1);
-            painted.push(Editor.painted(this.lines[place], mark, here));
-            numbers.push(Editor.number(place + 1, mark, here));
+            const from = JSON.stringify([this.lines[place], mark, here]);
+            const was = this.drawn.get(place);
+            drawn.set(place, was?.from === from ? was : { from, element: Editor.painted(place + 1, this.lines[place], mark, here) });
         }
-        this.paint.replaceChildren(...painted);
-        this.gutter.firstElementChild.replaceChildren(...numbers);
+        this.drawn = drawn;
+        this.paint.replaceChildren(...[...drawn.values()].map(({ element }) => element));
     }
 
     static tone(mark) {
@@ -131,39 +149,38 @@ class Editor {
         return mark.isDoubt ? "doubt" : "fault";
     }
 
-    static painted(line, mark, here) {
-        const made = el("div", { className: here ? `here ${here[0].tone}` : "" }, ...Editor.coloured(line), line ? "" : " ");
-        if (mark) {
-            const word = line.slice(mark.column - 1).match(/^\S+/)?.[0] ?? "";
-            const under = el("u", { className: Editor.tone(mark) });
-            under.style.left = `${mark.column - 1}ch`;
-            under.style.width = `${Math.max(1, word.length)}ch`;
-            made.append(under);
-        }
+    static painted(line, text, mark, here) {
+        const made = el("div", { className: here ? `here ${here[0].tone}` : "" }, Editor.number(line, mark, here), ...Editor.coloured(text, mark));
+        if (!text) made.append("\u200b");
         return made;
     }
 
     static number(line, mark, here) {
-        const made = el("div", { className: Editor.tone(mark) });
+        const made = el("span", { className: `line ${Editor.tone(mark)}` });
         if (here) {
             const title = here.map(({ note }) => note).join(", ");
             made.append(el("b", { className: here[0].tone, title, textContent: `${here[0].id}${here.length > 1 ? "+" : ""}` }));
         }
-        made.append(el("span", { textContent: line }));
+        made.append(`${line}`);
         return made;
     }
 
-    // The words of a line in their colours.
-    static coloured(line) {
-        if (line.startsWith(";")) return [el("i", { className: "comment", textContent: line })];
-        return line.split(" ").flatMap((word, place) => {
-            const made = el("i", { className: Editor.kind(word, place), textContent: word });
+    // The words of a line in their colours, that of a mark underlined.
+    static coloured(text, mark) {
+        if (text.startsWith(";")) return [el("i", { className: `comment${mark ? ` under ${Editor.tone(mark)}` : ""}`, textContent: text })];
+        let column = 1;
+        const words = text.split(" ").flatMap((word, place) => {
+            const isMarked = mark && mark.column >= column && mark.column < column + Math.max(1, word.length);
+            column += word.length + 1;
+            const kind = Editor.kind(word, place);
+            const made = el("i", { className: isMarked ? `${kind} under ${Editor.tone(mark)}` : kind, textContent: word });
             return place ? [" ", made] : [made];
         });
+        return mark && mark.column >= column ? [...words, el("i", { className: `under ${Editor.tone(mark)}`, textContent: "\u00a0" })] : words;
     }
     static kind(word, place) {
         if (place === 0) return word === "thread" ? "head" : "key";
         if (/^\d+\.\d+$|^#/.test(word)) return "id";
-        return /^(never|zero|nil|any|anylocal|last|cpu|space)$/.test(word) ? "name" : "number";
+        return /^(never|zero|nil|any|anylocal|last|cpu|space)$/.test(word) ? "name" : "value";
     }
 }

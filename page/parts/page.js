@@ -76,7 +76,9 @@ function tab(name, withFocus = false) {
         if (isChosen && withFocus) $(`tab-${it}`).focus();
     }
     doc.tab = name;
-    if (name === "steps") chart.choose(chart.row, chart.since);
+    if (name !== "steps") return;
+    fit();
+    chart.choose(chart.row, chart.since);
 }
 
 // Lint, on each pause in typing.
@@ -451,8 +453,7 @@ function wire() {
     addEventListener("keydown", onKey);
     matchMedia("(prefers-color-scheme: dark)").addEventListener("change", colours);
     addEventListener("click", ({ target }) => {
-        const open = document.querySelector(".limits[open]");
-        if (open && !open.contains(target)) open.open = false;
+        for (const open of document.querySelectorAll(".limits[open]")) open.open = open.contains(target);
     });
 }
 
@@ -461,6 +462,7 @@ async function start() {
     colours();
     editor = new Editor($("editor"), { onChange: onTyped, onLine: tellLine });
     chart = new Chart($("chart"), toStep);
+    new ResizeObserver(fit).observe($("pane"));
     wire();
     if (!window.DecompressionStream || !window.WebAssembly) {
         tell("This browser is too old: it has no WebAssembly, or cannot unpack.");

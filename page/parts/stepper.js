@@ -185,7 +185,16 @@ async function draw(shown, row, told, isOld) {
         chart.draw(svg.out, steps.length);
         showPager(from, to, steps.length);
     }
+    fit();
     chart.choose(row, told ? row - told + 1 : row + 1);
+}
+
+// The threads stand beside the chart where there is room for both, else below it.
+const ROOM_FOR_THREADS = 250; // pixels
+const ROOM_FOR_BOTH = 900;
+function fit() {
+    const { clientWidth } = $("pane");
+    $("pane").classList.toggle("beside", clientWidth >= ROOM_FOR_BOTH || clientWidth - chart.width >= ROOM_FOR_THREADS);
 }
 
 function showPager(from, to, total) {

@@ -8,8 +8,8 @@ const vm = require("vm");
 const { call } = require("../module/call.js");
 
 const [, , module_, top] = process.argv;
-const MOST_ENDINGS = 3;
-const MOST_ITEMS = 60; // of a list
+const MOST_ENDINGS = 2;
+const MOST_ITEMS = 30; // of a list
 const EACH = 7; // items, at which the way to rest is tried
 
 const scope = vm.createContext({ console });

@@ -99,6 +99,12 @@ async function comparesCases(browser, { run, go }) {
     console.log(`${name}: ${commands.length} commands of the cases, ${others} differ, ${left} left out, ${(inPage / 1000).toFixed(1)} s in the page`);
 }
 
+// The picture of a text lies under the text: as high, so each line is broken at the same words.
+async function liesUnderItsText(hand, what) {
+    const [area, paint] = await hand.run("return [Math.max(editor.area.scrollHeight, editor.area.clientHeight), Math.max(editor.paint.offsetHeight + 16, editor.area.clientHeight)]");
+    check(`${what}: the colours lie under the words`, Math.abs(area - paint) <= 1, [area, paint]);
+}
+
 // Each example is run, drawn and searched without a fault.
 async function runsExamples(browser, hand) {
     await hand.go("#example=first.l4");
@@ -110,6 +116,7 @@ async function runsExamples(browser, hand) {
         await hand.fill("examples", example, "change");
         await hand.idle();
         check(`${example} has no fault`, (await hand.count("#lint .fault")) === 0);
+        await liesUnderItsText(hand, example);
         await hand.verb("run");
         const rows = await hand.count("#chart .lines > div");
         check(`${example}: its chart has its steps`, rows > 0 && rows === (await hand.run("return session.whole.length")), rows);
@@ -124,7 +131,7 @@ async function findsDeadlock(browser, hand) {
     await hand.verb("run");
     const verdict = await hand.text("verdict");
     check("a deadlock is told", /Deadlock/.test(verdict) && /1\.1 waits for a message of 9\.1/.test(verdict) && /8\.1 waits for 1\.1 to take its message/.test(verdict), verdict);
-    check("the text shows who waits where", (await hand.count(".gutter b.stuck")) === 3);
+    check("the text shows who waits where", (await hand.count(".paint b.stuck")) === 3);
     check("three threads are stuck", (await hand.count(".card.stuck")) === 3);
     await hand.picture("callback-1200");
 }
@@ -133,10 +140,10 @@ async function findsDeadlock(browser, hand) {
 async function marksFaults(browser, hand) {
     await hand.go("#example=first.l4");
     await hand.type("l4 1 64\ncpus 1\nthread 1.1 cpu 0 space 1\nset 64 10\nipx 2.1\nipc 9.1 nil never never\n");
-    check("two lines are marked", (await hand.count(".gutter .fault")) === 2);
+    check("two lines are marked", (await hand.count(".paint .line.fault")) === 2);
     check("the list tells the hint", /a register, 1 to 63/.test(await hand.text("lint")), await hand.text("lint"));
     check("the fault stands above", /Line 4: BadNumber.*1 to 63/.test(await hand.text("verdict")), await hand.text("verdict"));
-    const [left, top_] = await hand.run("const box = document.querySelector('.paint u').getBoundingClientRect(); return [box.left + 4, box.top - 6]");
+    const [left, top_] = await hand.run("const box = document.querySelector('.paint .under').getBoundingClientRect(); return [box.left + 4, box.top + 6]");
     await browser.move(left, top_);
     await sleep(150);
     check("the hint is told on hover", /1 to 63/.test(await hand.run("return document.querySelector('.tip').hidden ? '' : document.querySelector('.tip').textContent")));
@@ -145,7 +152,7 @@ async function marksFaults(browser, hand) {
     check("a mark leads to its word", (await hand.run("const at = document.getElementById('text'); return at.value.slice(at.selectionStart, at.selectionEnd)")) === "64");
     check("the line of the caret is told", /line 4: .*1 to 63/.test(await hand.text("atline")), await hand.text("atline"));
     await hand.type("l4 1 64\ncpus 1\nthread 1.1 cpu 0 space 1\nipc 9.1 nil never never\n");
-    check("a doubt is marked", (await hand.count(".gutter .doubt")) === 1 && (await hand.count(".gutter .fault")) === 0);
+    check("a doubt is marked", (await hand.count(".paint .line.doubt")) === 1 && (await hand.count(".paint .line.fault")) === 0);
 }
 
 // The stuck ending of locks.l4, found by the search and again by hand.
@@ -366,6 +373,7 @@ async function looks(browser, hand) {
         await hand.go(hash);
         const width = await hand.run("return document.documentElement.scrollWidth");
         check(`${file}: no wider than a phone`, width <= 400, width);
+        await liesUnderItsText(hand, `${file}, narrow`);
         await hand.picture(`${file}-400`);
     }
     await browser.dark(true);

@@ -26,8 +26,8 @@ async function search(isStuckOnly) {
         sayIn("found", { tone: "bad", head: made.faults.trim(), lines: [] });
     } else {
         const found = endingsOf(made.out);
-        const isPart = isStuckOnly || words.includes("--with") || words.includes("--never");
-        sayIn("found", searchText({ ...found, isPart }));
+        const isPart = words.includes("--with") || words.includes("--never");
+        sayIn("found", searchText({ ...found, isStuckOnly, isPart }));
         $("count").textContent = found.endings.length;
         showEndings(found.endings, text);
         tellCommand(made, [], found.last);
@@ -72,7 +72,7 @@ function endingCard({ number, list, report }, differs, text) {
     return el(
         "button",
         { className: `ending ${isBad ? "bad" : "good"}`, onclick: () => guarded(open) },
-        el("span", { className: "name" }, el("b", { textContent: `Ending ${number}` }), isBad ? " somebody is stuck" : "", el("small", { textContent: counted(list.length, "item") })),
+        el("span", { className: "name" }, el("b", { textContent: `Ending ${number}` }), isBad ? "somebody is stuck" : "", el("small", { textContent: counted(list.length, "item") })),
         ...deadlocks,
         ...told.map(({ row }) => row),
         more > 0 && el("span", { className: "small", textContent: `and ${counted(more, "thread")} more` }),

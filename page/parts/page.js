@@ -13,6 +13,7 @@ const button = (textContent, work) => el("button", { type: "button", textContent
 const { lessons, files: LESSON_FILES } = JSON.parse($("lessons").textContent);
 const TABS = ["steps", "endings", "expect", "output"];
 const LINT_AFTER = 250; // ms without a key
+const ADDRESS_AFTER = 400; // ms without a change
 const LONGEST_ADDRESS = 8000; // letters; a longer text is in the address only where a link is asked for
 const MOST_LINES_OF_LINT = 200;
 
@@ -23,7 +24,11 @@ const doc = { name: "first.l4", tab: "steps" };
 
 // The line at the bottom: what was asked, how it ended, how long it took.
 let commandShown = "";
-const tell = (text) => ($("status").textContent = text);
+let told = "";
+function tell(text) {
+    told = text;
+    $("status").textContent = text;
+}
 function tellCommand(made, list, note = "") {
     const words = made.words.map((word) => (word === "m.l4" ? doc.name : word === "@list" ? list.join(",") : word));
     commandShown = `l4run ${words.map(quoted).join(" ")}`;
@@ -40,11 +45,12 @@ function onBusy(isBusy) {
     if (isBusy === (clock !== 0)) return;
     clearInterval(clock);
     clock = 0;
+    $("status").textContent = told;
     if (!isBusy) return;
     busySince = performance.now();
     clock = setInterval(() => {
         const seconds = (performance.now() - busySince) / 1000;
-        if (seconds > 0.6) tell(`at work for ${seconds.toFixed(0)} s; Stop ends it`);
+        if (seconds > 0.6) $("status").textContent = `at work for ${seconds.toFixed(0)} s; Stop ends it`;
     }, 500);
 }
 
@@ -121,7 +127,7 @@ async function settled() {
     // A text that nobody has stepped through yet is begun anew at once.
     if (editor.text !== session.text && !session.list.length) await begin(editor.text);
     $("stale").hidden = editor.text === session.text;
-    await address();
+    addressSoon();
 }
 
 // What is typed is kept, for when the page is opened again.
@@ -154,7 +160,13 @@ async function address() {
     const found = isLesson ? `#example=${doc.name}` : await addressOf();
     go(found.length <= LONGEST_ADDRESS ? found : "#");
 }
+let addressing = 0;
+function addressSoon() {
+    clearTimeout(addressing);
+    addressing = setTimeout(() => guarded(address), ADDRESS_AFTER);
+}
 function go(hash) {
+    clearTimeout(addressing);
     ownAddress = hash;
     if (location.hash !== hash) location.replace(hash);
 }
@@ -199,7 +211,6 @@ async function opened(name, text, list = [], at = list.length) {
     sayIn("found", { tone: "", head: "No search yet.", lines: [] });
     tellLine(1);
     await Promise.all([lint(), begin(editor.text, list, at)]);
-    await address();
 }
 async function openedFile(file) {
     if (file) await opened(file.name, await file.text());
@@ -232,7 +243,6 @@ async function run() {
     print(made);
     await begin(editor.text, listOf(made.recorded));
     tellCommand(made, [], isFault(made) ? "" : `${counted(session.list.length, "item")} recorded`);
-    await address();
 }
 
 // The report of the state that is shown.

@@ -37,6 +37,7 @@ async function showWanted() {
         await show(session, at);
     }
     nextSoon();
+    addressSoon();
 }
 
 async function show(shown, at) {

@@ -34,19 +34,21 @@ function verdictOf({ report, steps }, isBeginning) {
     return { tone: "", head: `It goes on: ${counted(steps.length, "step")} so far.`, lines: [] };
 }
 
-// What a search for endings came to.
-function searchText({ endings, last, isPart }) {
+// What a search for endings came to: of all, of the stuck ones, or of those with or without a line.
+function searchText({ endings, last, isStuckOnly, isPart }) {
     const [, states, , depth, whole] = last.split(" ");
-    const bad = endings.filter(({ report }) => report.threads.some((thread) => thread.isStuck)).length;
-    const such = isPart ? "such " : "";
-    const head = `${endings.length || "No"} ${such}${endings.length === 1 ? "ending" : "endings"}`;
     const isWhole = whole === "whole";
+    const bad = endings.filter(({ report }) => report.threads.some((thread) => thread.isStuck)).length;
     const tone = bad ? "bad" : isWhole ? "good" : "fair";
-    const lines = [
-        isWhole
-            ? `All orders of the processors were searched: ${counted(states, "state")}, up to ${counted(depth, "item")}.`
-            : `Cut off after ${counted(states, "state")}, ${counted(depth, "item")}: there may be more. Limits has the numbers.`,
-    ];
-    if (endings.length) lines.push("Choose one to step through it.");
-    return { tone, head: `${head}${bad ? `, ${bad} of them with somebody stuck` : ""}.`, lines };
+    const searched = isWhole
+        ? `All orders of the processors were searched: ${counted(states, "state")}, up to ${counted(depth, "item")}.`
+        : `Cut off after ${counted(states, "state")}, ${counted(depth, "item")}: there may be more. Limits has the numbers.`;
+    const choose = endings.length ? ["Choose one to step through it."] : [];
+    return { tone, head: endingsText(endings.length, bad, isStuckOnly, isPart), lines: [searched, ...choose] };
+}
+function endingsText(all, bad, isStuckOnly, isPart) {
+    const such = isPart ? "such " : "";
+    if (isStuckOnly) return all ? `${counted(all, `${such}ending`)} in which somebody waits for ever.` : `No ${such}ending in which somebody waits for ever.`;
+    const some = bad ? `, ${bad} of them with somebody who waits for ever` : "";
+    return all ? `${counted(all, `${such}ending`)}${some}.` : `No ${such}ending.`;
 }

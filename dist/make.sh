@@ -14,6 +14,7 @@ fail() {
 need() {
     command -v "$1" >/dev/null || fail "there is no $1: it is in the package $2"
 }
+need gcc gcc
 need musl-gcc musl-tools
 need objcopy binutils
 need dpkg-deb dpkg
@@ -30,15 +31,16 @@ work=$(mktemp -d)
 trap 'rm -rf "$work"' EXIT
 rm -rf "$out" && mkdir -p "$out"
 
-# The program, linked with musl and with nothing of the system. Its main gets another name, since musl's start has words to keep.
+# The program, linked with musl and with nothing of the system. Its main gets another name, since musl's start has words to keep. The linker is
+# called without musl-gcc, which knows no program that is static and may lie anywhere.
 static_program() {
-    local kit
+    local kit musl=/usr/lib/x86_64-linux-musl
     kit=$(dirname "$(dirname "$(readlink -f "$(command -v rt)")")")
     "$here/object.py" "$work/whole.o" $proof
     objcopy --redefine-sym main=l4run_main "$work/whole.o" "$work/l4run.o"
     musl-gcc -O2 -fPIE -c "$here/musl.c" -o "$work/musl.o"
-    musl-gcc -static-pie -Wl,--gc-sections,-z,relro,-z,now,--build-id=none -s -o "$1" \
-        "$work/musl.o" "$work/l4run.o" "$kit/c/libos_c.a" "$kit/c/liblibc_c.a"
+    gcc -static-pie -nostdlib -Wl,--gc-sections,-z,relro,-z,now,-z,text,--build-id=none -s -o "$1" "$musl/rcrt1.o" "$musl/crti.o" \
+        "$work/musl.o" "$work/l4run.o" "$kit/c/libos_c.a" "$kit/c/liblibc_c.a" "$musl/libc.a" -lgcc "$musl/crtn.o"
     "$1" --version >/dev/null
 }
 

@@ -3,7 +3,7 @@
 const waitText = ({ id, wait }) =>
     wait.phase === "send" ? `${id} waits for ${wait.to} to take its message` : `${id} waits for a message of ${wait.to}`;
 const shortWait = (wait) => (wait.phase === "send" ? `sends to ${wait.to}` : `waits for ${wait.to}`);
-const counted = (number, one, many = `${one}s`) => `${number} ${number === 1 ? one : many}`;
+const counted = (number, one, many = `${one}s`) => `${number} ${Number(number) === 1 ? one : many}`;
 const among = (list, most) => (list.length > most ? [...list.slice(0, most), `and ${list.length - most} more`] : list);
 
 // A tone, a sentence, and lines below it, of the state behind so many items.

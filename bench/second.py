@@ -90,7 +90,7 @@ def waits_and_counts(machine, history, counts):
 
 
 # Words that stand in the place of those of a report: some leave a line open, and some make it another.
-OTHER_WORDS = ("*", "0", "sending", "ended", "deleted", "1.1", "quiet", "nil")
+OTHER_WORDS = ("*", "0", "1", "7", "41", "#40", "#41", "any", "sending", "ended", "deleted", "1.1", "quiet", "nil")
 
 
 def expectation(dice, report):

@@ -2,10 +2,13 @@
 
 import dataclasses
 
+from second import words
+
 ANY_WORD, ANY_WORDS, NEVER = "*", "..", "never "
 ANY_SEND = "#*"
 STATES = ("ready", "sending", "receiving", "ordering", "ended", "deleted")
 ENDINGS = ("quiet", "spent")
+CODES = ("0", "2", "3", "4", "5", "6", "7")
 PRINTABLE = range(0x20, 0x7F)
 DIGITS = "0123456789abcdef"
 
@@ -92,32 +95,49 @@ def is_register(word):
     return is_small(word, 16, 2**64)
 
 
-def is_code(word):
-    return is_small(word, 10, 2**64)
+def is_tag(word):
+    return is_register(word) and int(word, 16) & words.TYPED_MASK == 0
+
+
+def is_local(word):
+    """Whether a word is `#` and the word of a local id: no other word has its low six bits zero but that of nilthread and of anylocalthread."""
+    if not word.startswith("#") or not is_register(word[1:]):
+        return False
+    local = int(word[1:], 16)
+    return local & words.LOCAL_MASK == 0 and local not in (words.NIL, words.ANY_LOCAL)
+
+
+def is_sender(word):
+    return word == "nil" or is_thread(word)
+
+
+def is_destination(word):
+    return word in ("any", "anylocal") or is_local(word) or is_thread(word)
 
 
 def is_id(word):
-    return word in ("nil", "any", "anylocal") or (word.startswith("#") and is_register(word[1:])) or is_thread(word)
+    return word == "nil" or is_destination(word)
 
 
-# What stands behind the first word of a line. Behind the first register of a thread there may be others.
+# What stands behind the first word of a line. In that of a thread may follow registers.
 COLUMNS = {
-    "thread": [is_thread, STATES.__contains__, is_code, is_id, is_id, is_register],
-    "waiting": [is_send, is_id],
+    "thread": [is_thread, STATES.__contains__, CODES.__contains__, is_sender, is_id, is_tag],
+    "waiting": [is_send, is_destination],
     "ending": [ENDINGS.__contains__],
 }
+REGISTERS = {"thread": [is_register] * 63, "waiting": [], "ending": []}
 
 
-def are_in_columns(first, words):
-    columns = COLUMNS[first]
-    for place, word in enumerate(words):
-        if words[place:] == [ANY_WORDS]:
-            return True
-        if place >= len(columns) and first != "thread":
-            return False
-        if word != ANY_WORD and not columns[min(place, len(columns) - 1)](word):
-            return False
-    return len(words) >= len(columns)
+def are_in_columns(first, asked):
+    """Whether a line may have these words behind its first. Registers are told up to the last that is not 0."""
+    columns, registers = COLUMNS[first], REGISTERS[first]
+    is_open = asked[-1:] == [ANY_WORDS]
+    told = asked[:-1] if is_open else asked
+    if len(told) > len(columns) + len(registers):
+        return False
+    if not is_open and (len(told) < len(columns) or len(told) > len(columns) and told[-1] == "0"):
+        return False
+    return all(word == ANY_WORD or may_stand(word) for word, may_stand in zip(told, columns + registers))
 
 
 def kind_of(asked, of_endings):

@@ -134,10 +134,15 @@ def of_order(world, caller, target, what):
     yield from of_ready(world, caller)
     context = world.members[caller].context
     order = context.instruction()
-    is_order = isinstance(order, machines.Order)
-    yield is_order and threads.is_admitted(world.machine, context, order), "NoOrder"
+    told = machines.Order(target, what)
+    gives = isinstance(order, machines.Order) and threads.is_admitted(world.machine, context, order)
+    # Which order a thread gives says more than that it could not give this one.
+    may_give = gives or threads.is_admitted(world.machine, context, told)
+    yield may_give or target in world.members, f"NotAdmittedFor {words.spelled(target)}"
+    yield may_give, "NotAdmittedThere"
+    yield gives, "NoOrder"
     asked = f"{words.spelled(order.target)} {order.what}"
-    yield order == machines.Order(target, what), f"OtherOrder {asked}"
+    yield order == told, f"OtherOrder {asked}"
 
 
 def of_obey(world, caller):

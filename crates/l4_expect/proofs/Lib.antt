@@ -1,3 +1,10 @@
+pub mod Fitting
 pub mod Kept
 pub mod Printing
 pub mod Reading
+mod Errors
+mod Reached
+mod Refused
+mod Reported
+mod Told
+mod Walking

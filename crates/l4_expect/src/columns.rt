@@ -1,12 +1,17 @@
 //! The words that the lines of reports have in their places.
 ghost use Rattle.std.specs.Prelude.{◌≡◌};
-ghost use Rattle.std.specs.Option.{option_copied};
 ghost use Rattle.std.specs.Str.{bytes_eq};
+ghost use Rattle.l4_model.specs.Words.{last_register};
 ghost use Rattle.l4_words.specs.Words.{words_in};
-ghost use Rattle.l4_expect.specs.Columns.{columns_behind, fits_columns, is_ending, is_id};
-ghost use Rattle.l4_expect.specs.Columns.{is_local, is_of, is_state, may_be_line, may_stand, next_column};
+ghost use Rattle.l4_expect.specs.Columns.{are_more, are_none, are_registers, fits_columns};
+ghost use Rattle.l4_expect.specs.Columns.{is_code, is_destination, is_ending, is_last_register};
+ghost use Rattle.l4_expect.specs.Columns.{is_local, is_nil, is_of, is_register, is_state, is_tag};
+ghost use Rattle.l4_expect.specs.Columns.{may_be_line, may_stand};
 
 use l4_lines::lines::{fits_word, is_any, is_rest, thread_asked};
+use l4_types::ids::{Kind, ThreadId};
+use l4_types::registers::MESSAGE_REGISTERS;
+use l4_types::tags::MsgTag;
 use l4_words::names::name;
 use l4_words::numbers::{decimal, hexadecimal};
 use l4_words::threads::thread;
@@ -23,12 +28,16 @@ pub(crate) enum Column {
     State,
     /// Its ErrorCode, in decimal.
     Code,
+    /// The sender that it received from, or nilthread.
+    Sender,
     /// Any id.
     Id,
-    /// The word of a register, in hexadecimal.
-    Register,
+    /// The word of MR0, in hexadecimal.
+    Tag,
     /// The name of a send, or any send of a thread.
     Send,
+    /// An id that a send may go to.
+    Destination,
     /// How a run ended.
     Ending,
 }
@@ -39,12 +48,12 @@ const OF_THREAD: &[Column] = &[
     Column::Thread,
     Column::State,
     Column::Code,
+    Column::Sender,
     Column::Id,
-    Column::Id,
-    Column::Register,
+    Column::Tag,
 ];
 
-const OF_SEND: &[Column] = &[Column::First, Column::Send, Column::Id];
+const OF_SEND: &[Column] = &[Column::First, Column::Send, Column::Destination];
 
 const OF_ENDING: &[Column] = &[Column::First, Column::Ending];
 
@@ -71,24 +80,48 @@ fn is_ending(word: &[u8]) -> bool
     is(word, b"quiet") || is(word, b"spent")
 }
 
+// Whether a word is an ErrorCode: 0, or that of an ipc that failed or of an order that was not
+// admitted.
+fn is_code(word: &[u8]) -> bool
+    ensures { result ≡ is_code word.now }
+{
+    matches!(decimal(word), Some(0 | 2..=7))
+}
+
 // Whether a word is a local id.
 fn is_local(word: &[u8]) -> bool
     ensures { result ≡ is_local word.now }
 {
     match word {
-        [b'#', digits @ ..] => hexadecimal(digits).is_some(),
+        [b'#', digits @ ..] => match hexadecimal(digits) {
+            Some(local) => ThreadId::from_raw(local).kind() == Kind::Local,
+            None => false,
+        },
         _ => false,
     }
 }
 
-fn is_id(word: &[u8]) -> bool
-    ensures { result ≡ is_id word.now }
+fn is_nil(word: &[u8]) -> bool
+    ensures { result ≡ is_nil word.now }
 {
     is(word, b"nil")
-        || is(word, b"any")
-        || is(word, b"anylocal")
-        || is_local(word)
-        || thread(word).is_some()
+}
+
+// Whether a word is an id that a send may go to.
+fn is_destination(word: &[u8]) -> bool
+    ensures { result ≡ is_destination word.now }
+{
+    is(word, b"any") || is(word, b"anylocal") || is_local(word) || thread(word).is_some()
+}
+
+// Whether a word is one of MR0, which has no typed items.
+fn is_tag(word: &[u8]) -> bool
+    ensures { result ≡ is_tag word.now }
+{
+    match hexadecimal(word) {
+        Some(tag) => MsgTag::from_raw(tag).is_ok(),
+        None => false,
+    }
 }
 
 fn is_of(column: Column, word: &[u8]) -> bool
@@ -98,60 +131,88 @@ fn is_of(column: Column, word: &[u8]) -> bool
         Column::First => true,
         Column::Thread => thread(word).is_some(),
         Column::State => is_state(word),
-        Column::Code => decimal(word).is_some(),
-        Column::Id => is_id(word),
-        Column::Register => hexadecimal(word).is_some(),
+        Column::Code => is_code(word),
+        Column::Sender => is_nil(word) || thread(word).is_some(),
+        Column::Id => is_nil(word) || is_destination(word),
+        Column::Tag => is_tag(word),
         Column::Send => name(word).is_some() || thread_asked(word).is_some(),
+        Column::Destination => is_destination(word),
         Column::Ending => is_ending(word),
     }
 }
 
-// Whether there is a column, and the word may stand in it.
-fn may_stand(column: Option<Column>, word: &[u8]) -> bool
+fn may_stand(column: Column, word: &[u8]) -> bool
     ensures { result ≡ may_stand column word.now }
 {
-    match column {
-        Some(column) => is_any(word) || is_of(column, word),
-        None => false,
+    is_any(word) || is_of(column, word)
+}
+
+fn is_register(word: &[u8]) -> bool
+    ensures { result ≡ is_register word.now }
+{
+    is_any(word) || hexadecimal(word).is_some()
+}
+
+// Whether a word may be the last of a line of a thread, behind that of MR0.
+fn is_last_register(word: &[u8]) -> bool
+    ensures { result ≡ is_last_register word.now }
+{
+    is_any(word) || matches!(hexadecimal(word), Some(1..))
+}
+
+// Whether words may stand behind that of MR0: those of the registers up to the last that is not 0.
+fn are_registers(mut words: Words<'_>) -> bool
+    ensures { result ≡ are_registers last_register words.entry }
+{
+    let mut most = MESSAGE_REGISTERS - 1;
+    'words: while let Some(word) = words.next() {
+        if words.is_done() {
+            return is_rest(word) || (most > 0 && is_last_register(word));
+        }
+        if most == 0 || !is_register(word) {
+            return false;
+        }
+        most -= 1;
+    }
+    true
+}
+
+fn are_none(mut words: Words<'_>) -> bool
+    ensures { result ≡ are_none words.entry }
+{
+    match words.next() {
+        Some(word) => is_rest(word) && words.is_done(),
+        None => true,
     }
 }
 
-// The first of the columns that are left. Behind them come more registers, or nothing.
-fn next_column(has_more: bool, columns: &[Column]) -> Option<Column>
-    ensures { result ≡ next_column has_more columns.now }
+fn are_more(has_registers: bool, words: Words<'_>) -> bool
+    ensures { result ≡ are_more has_registers words.entry }
 {
-    match columns.first() {
-        Some(column) => Some(*column),
-        None if has_more => Some(Column::Register),
-        None => None,
-    }
-}
-
-fn columns_behind(columns: &[Column]) -> &[Column]
-    ensures { result.now ≡ columns_behind columns.now }
-{
-    match columns.split_first() {
-        Some((_, behind)) => behind,
-        None => columns,
+    if has_registers {
+        are_registers(words)
+    } else {
+        are_none(words)
     }
 }
 
 // Whether each word of a line may stand in its column, and none is missing.
-fn fits_columns(has_more: bool, columns: &[Column], asked: &[u8]) -> bool
-    ensures { result ≡ fits_columns has_more columns.now (words_in asked.now) }
+fn fits_columns(has_registers: bool, columns: &[Column], asked: &[u8]) -> bool
+    ensures { result ≡ fits_columns has_registers columns.now (words_in asked.now) }
 {
-    let mut left = columns;
     let mut words = Words::of(asked);
-    'words: while let Some(word) = words.next() {
+    for column in columns {
+        let Some(word) = words.next() else {
+            return false;
+        };
         if is_rest(word) && words.is_done() {
             return true;
         }
-        if !may_stand(next_column(has_more, left), word) {
+        if !may_stand(*column, word) {
             return false;
         }
-        left = columns_behind(left);
     }
-    left.is_empty()
+    are_more(has_registers, words)
 }
 
 /// Whether a line that is asked for may be one of a report: of a thread, a send or the ending.

@@ -1,3 +1,4 @@
+mod Causes
 mod ReadBack
 mod ReadValues
 mod Stopping

@@ -1,4 +1,4 @@
--- The words of a reason and its value are read as this reason, so no two reasons have one line.
+-- The words of a cause and its value are read as this cause, so no two causes have one line.
 use Rattle.std.proofs.Common.{◌≡◌, ℕ, ◌^◌, true, List, [], ◌∷◌, ◌++◌, Option, Some, None, refl, sym, ap, ◌∙◌}
 use Rattle.std.specs.Prelude.{◌==◌, if◌then◌else◌, codes}
 use Rattle.std.specs.Option.{option_map}
@@ -11,7 +11,9 @@ use Rattle.l4_words.specs.Numbers.{number_of}
 use Rattle.l4_words.specs.Threads.{thread_of}
 use Rattle.l4_words.proofs.Numerals.{decimal_is_read, hexadecimal_is_read}
 use Rattle.l4_words.proofs.Spelled.{thread_is_read}
-use Rattle.l4_explain.specs.Reasons.{sentence, value_text, reason_text, has_word}
+use Rattle.l4_explain.specs.Reasons.{sentence, value_text, cause_text, has_word}
+use Rattle.l4_explain.specs.declared.reasons.Cause.{Cause}
+use Rattle.l4_explain.specs.declared.reasons.Cause.TheVariants as causes
 use Rattle.l4_explain.proofs.ReadValues.{state_read, state_is_read, id_read, id_is_read, order_read, order_is_read}
 
 -- What stands behind these words.
@@ -21,103 +23,107 @@ behind (b ∷ bs) [] = None
 behind (b ∷ bs) (c ∷ cs) = if b == c then behind bs cs else None
 
 -- What is read behind them, or else what is read of another row.
-tried : Option (List ℕ) → (List ℕ → Option Reason) → (other : Option Reason) → Option Reason
+tried : Option (List ℕ) → (List ℕ → Option Cause) → (other : Option Cause) → Option Cause
 tried None read other = other
 tried (Some value) read other = read value
 
-alone : (words : List ℕ) → Reason → (text : List ℕ) → (other : Option Reason) → Option Reason
+alone : (words : List ℕ) → Cause → (text : List ℕ) → (other : Option Cause) → Option Cause
 alone words r text other = tried (behind words text) (λ value. Some r) other
 
-with : {A : Type 0} → (words : List ℕ) → (List ℕ → Option A) → (A → Reason) → (text : List ℕ) → (other : Option Reason) → Option Reason
+with : {A : Type 0} → (words : List ℕ) → (List ℕ → Option A) → (A → Cause) → (text : List ℕ) → (other : Option Cause) → Option Cause
 with words read make text other = tried (behind (words ++ codes " ") text) (λ value. option_map make (read value)) other
 
-read : List ℕ → Option Reason
+read : List ℕ → Option Cause
 read text =
-    alone (codes "the thread is not declared") Undeclared text
-    (with (codes "the thread is not ready but") state_read NotReady text
-    (alone (codes "the instruction is an ipc with a phase or an order") NotLocal text
-    (with (codes "the send is not the next after number") (number_of 10) NotNext text
-    (alone (codes "the instruction has no send phase") NoSendPhase text
-    (alone (codes "the instruction does not begin with a receive phase") NoReceivePhase text
-    (alone (codes "the instruction gives no order") NoOrder text
-    (with (codes "the instruction gives the order") order_read OtherOrder text
-    (alone (codes "no send of this name is undecided") NotUndecided text
-    (with (codes "the destination is no declared thread but") id_read NoReceiver text
-    (with (codes "the destination is the deleted thread") thread_of ReceiverDeleted text
-    (alone (codes "the send waits in a list already") Waiting text
-    (alone (codes "the send waits in no list") NotWaiting text
-    (with (codes "the send must wait for a retarget of") id_read MustWait text
-    (with (codes "the receiver is not receiving but") state_read NotReceiving text
-    (alone (codes "the receiver accepts no send in its list") AcceptsNone text
-    (with (codes "the receiver accepts first the send of") thread_of NotFirst text
-    (with (codes "the send goes to") thread_of OtherReceiver text
-    (with (codes "the shown sender is") thread_of OtherShown text
-    (with (codes "the actual sender is") thread_of OtherSender text
-    (with (codes "the received tag is") (number_of 16) OtherTag text
-    (alone (codes "the message has other words") OtherWords text
-    (with (codes "the send does not time out at clock") (number_of 10) NotTimedOut text
-    (with (codes "the destination is the living thread") id_read HasDestination text
-    (alone (codes "no cancellation of the send is asked for") SendNotCancelled text
-    (with (codes "the sender is not deleted but") state_read SenderNotDeleted text
-    (with (codes "the receive does not time out at clock") (number_of 10) ReceiveNotPassed text
-    (with (codes "the receive is not from nobody but from") id_read HasPartner text
-    (with (codes "the receiver accepts the waiting send of") thread_of AcceptsFirst text
-    (alone (codes "no cancellation of the receive is asked for") ReceiveNotCancelled text
-    (alone (codes "the thread has no undone order") AskedNothing text
-    (with (codes "the order is for the undeclared thread") thread_of TargetUndeclared text
-    (alone (codes "the machine has no such processor") NoProcessor text
-    (with (codes "the clock is already at") (number_of 10) ClockAt text
-    (alone (codes "the clock stays below 4611686018427387904") PastClocks text
-    (alone (codes "no retarget of this name is owed") NotOwed text
-    (with (codes "the retarget is of the undeclared thread") thread_of OriginatorUndeclared text
-    None))))))))))))))))))))))))))))))))))))
+    alone (codes "the thread is not declared") (causes.Rule Undeclared) text
+    (with (codes "the thread is not ready but") state_read (λ x. causes.Rule (NotReady x)) text
+    (alone (codes "the instruction is an ipc with a phase or an order") (causes.Rule NotLocal) text
+    (with (codes "the send is not the next after number") (number_of 10) (λ x. causes.Rule (NotNext x)) text
+    (alone (codes "the instruction has no send phase") (causes.Rule NoSendPhase) text
+    (alone (codes "the instruction does not begin with a receive phase") (causes.Rule NoReceivePhase) text
+    (alone (codes "the instruction gives no admitted order") (causes.Rule NoOrder) text
+    (with (codes "the instruction gives the order") order_read (λ x. causes.Rule (OtherOrder x)) text
+    (alone (codes "no send of this name is undecided") (causes.Rule NotUndecided) text
+    (with (codes "the destination is no declared thread but") id_read (λ x. causes.Rule (NoReceiver x)) text
+    (with (codes "the destination is the deleted thread") thread_of (λ x. causes.Rule (ReceiverDeleted x)) text
+    (alone (codes "the send waits in a list already") (causes.Rule Waiting) text
+    (alone (codes "the send waits in no list") (causes.Rule NotWaiting) text
+    (with (codes "the send must wait for a retarget of") id_read (λ x. causes.Rule (MustWait x)) text
+    (with (codes "the receiver is not receiving but") state_read (λ x. causes.Rule (NotReceiving x)) text
+    (alone (codes "the receiver accepts no send in its list") (causes.Rule AcceptsNone) text
+    (with (codes "the receiver accepts first the send of") thread_of (λ x. causes.Rule (NotFirst x)) text
+    (with (codes "the send goes to") thread_of (λ x. causes.Rule (OtherReceiver x)) text
+    (with (codes "the shown sender is") thread_of (λ x. causes.Rule (OtherShown x)) text
+    (with (codes "the actual sender is") thread_of (λ x. causes.Rule (OtherSender x)) text
+    (with (codes "the received tag is") (number_of 16) (λ x. causes.Rule (OtherTag x)) text
+    (alone (codes "the message has other words") (causes.Rule OtherWords) text
+    (with (codes "the send does not time out at clock") (number_of 10) (λ x. causes.Rule (NotTimedOut x)) text
+    (with (codes "the destination is the living thread") id_read (λ x. causes.Rule (HasDestination x)) text
+    (alone (codes "no cancellation of the send is asked for") (causes.Rule SendNotCancelled) text
+    (with (codes "the sender is not deleted but") state_read (λ x. causes.Rule (SenderNotDeleted x)) text
+    (with (codes "the receive does not time out at clock") (number_of 10) (λ x. causes.Rule (ReceiveNotPassed x)) text
+    (with (codes "the receive is not from nobody but from") id_read (λ x. causes.Rule (HasPartner x)) text
+    (with (codes "the receiver accepts the waiting send of") thread_of (λ x. causes.Rule (AcceptsFirst x)) text
+    (alone (codes "no cancellation of the receive is asked for") (causes.Rule ReceiveNotCancelled) text
+    (alone (codes "the thread has no undone order") (causes.Rule AskedNothing) text
+    (with (codes "the order is for the undeclared thread") thread_of (λ x. causes.Rule (TargetUndeclared x)) text
+    (alone (codes "the machine has no such processor") (causes.Rule NoProcessor) text
+    (with (codes "the clock is already at") (number_of 10) (λ x. causes.Rule (ClockAt x)) text
+    (alone (codes "the clock stays below 4611686018427387904") (causes.Rule PastClocks) text
+    (alone (codes "no retarget of this name is owed") (causes.Rule NotOwed) text
+    (with (codes "the retarget is of the undeclared thread") thread_of (λ x. causes.Rule (OriginatorUndeclared x)) text
+    (with (codes "the order is not admitted, as it is for the undeclared thread") thread_of causes.TargetUndeclared text
+    (alone (codes "the order is not admitted, as the threads are of different spaces") causes.OtherSpace text
+    None))))))))))))))))))))))))))))))))))))))
 
-shown : Reason → List ℕ
-shown r = (sentence r).0 ++ value_text (sentence r).1
+shown : Cause → List ℕ
+shown c = (sentence c).0 ++ value_text (sentence c).1
 
-is_read : (r : Reason) → has_word r ≡ true → read (shown r) ≡ Some r
+is_read : (c : Cause) → has_word c ≡ true → read (shown c) ≡ Some c
 unfolding read shown alone with tried behind
-is_read Undeclared h = refl
-is_read (NotReady state) h = ap (option_map NotReady) (state_is_read state)
-is_read NotLocal h = refl
-is_read (NotNext number) h = ap (option_map NotNext) (decimal_is_read number (ltb-true number (2 ^ 64) h))
-is_read NoSendPhase h = refl
-is_read NoReceivePhase h = refl
-is_read NoOrder h = refl
-is_read (OtherOrder order) h = ap (option_map OtherOrder) (order_is_read order h)
-is_read NotUndecided h = refl
-is_read (NoReceiver id) h = ap (option_map NoReceiver) (id_is_read id h)
-is_read (ReceiverDeleted thread) h = ap (option_map ReceiverDeleted) (thread_is_read thread h)
-is_read Waiting h = refl
-is_read NotWaiting h = refl
-is_read (MustWait id) h = ap (option_map MustWait) (id_is_read id h)
-is_read (NotReceiving state) h = ap (option_map NotReceiving) (state_is_read state)
-is_read AcceptsNone h = refl
-is_read (NotFirst thread) h = ap (option_map NotFirst) (thread_is_read thread h)
-is_read (OtherReceiver thread) h = ap (option_map OtherReceiver) (thread_is_read thread h)
-is_read (OtherShown thread) h = ap (option_map OtherShown) (thread_is_read thread h)
-is_read (OtherSender thread) h = ap (option_map OtherSender) (thread_is_read thread h)
-is_read (OtherTag word) h = ap (option_map OtherTag) (hexadecimal_is_read word (ltb-true word (2 ^ 64) h))
-is_read OtherWords h = refl
-is_read (NotTimedOut number) h = ap (option_map NotTimedOut) (decimal_is_read number (ltb-true number (2 ^ 64) h))
-is_read (HasDestination id) h = ap (option_map HasDestination) (id_is_read id h)
-is_read SendNotCancelled h = refl
-is_read (SenderNotDeleted state) h = ap (option_map SenderNotDeleted) (state_is_read state)
-is_read (ReceiveNotPassed number) h = ap (option_map ReceiveNotPassed) (decimal_is_read number (ltb-true number (2 ^ 64) h))
-is_read (HasPartner id) h = ap (option_map HasPartner) (id_is_read id h)
-is_read (AcceptsFirst thread) h = ap (option_map AcceptsFirst) (thread_is_read thread h)
-is_read ReceiveNotCancelled h = refl
-is_read AskedNothing h = refl
-is_read (TargetUndeclared thread) h = ap (option_map TargetUndeclared) (thread_is_read thread h)
-is_read NoProcessor h = refl
-is_read (ClockAt number) h = ap (option_map ClockAt) (decimal_is_read number (ltb-true number (2 ^ 64) h))
-is_read PastClocks h = refl
-is_read NotOwed h = refl
-is_read (OriginatorUndeclared thread) h = ap (option_map OriginatorUndeclared) (thread_is_read thread h)
+is_read (causes.Rule Undeclared) h = refl
+is_read (causes.Rule (NotReady state)) h = ap (option_map (λ x. causes.Rule (NotReady x))) (state_is_read state)
+is_read (causes.Rule NotLocal) h = refl
+is_read (causes.Rule (NotNext number)) h = ap (option_map (λ x. causes.Rule (NotNext x))) (decimal_is_read number (ltb-true number (2 ^ 64) h))
+is_read (causes.Rule NoSendPhase) h = refl
+is_read (causes.Rule NoReceivePhase) h = refl
+is_read (causes.Rule NoOrder) h = refl
+is_read (causes.Rule (OtherOrder order)) h = ap (option_map (λ x. causes.Rule (OtherOrder x))) (order_is_read order h)
+is_read (causes.Rule NotUndecided) h = refl
+is_read (causes.Rule (NoReceiver id)) h = ap (option_map (λ x. causes.Rule (NoReceiver x))) (id_is_read id h)
+is_read (causes.Rule (ReceiverDeleted thread)) h = ap (option_map (λ x. causes.Rule (ReceiverDeleted x))) (thread_is_read thread h)
+is_read (causes.Rule Waiting) h = refl
+is_read (causes.Rule NotWaiting) h = refl
+is_read (causes.Rule (MustWait id)) h = ap (option_map (λ x. causes.Rule (MustWait x))) (id_is_read id h)
+is_read (causes.Rule (NotReceiving state)) h = ap (option_map (λ x. causes.Rule (NotReceiving x))) (state_is_read state)
+is_read (causes.Rule AcceptsNone) h = refl
+is_read (causes.Rule (NotFirst thread)) h = ap (option_map (λ x. causes.Rule (NotFirst x))) (thread_is_read thread h)
+is_read (causes.Rule (OtherReceiver thread)) h = ap (option_map (λ x. causes.Rule (OtherReceiver x))) (thread_is_read thread h)
+is_read (causes.Rule (OtherShown thread)) h = ap (option_map (λ x. causes.Rule (OtherShown x))) (thread_is_read thread h)
+is_read (causes.Rule (OtherSender thread)) h = ap (option_map (λ x. causes.Rule (OtherSender x))) (thread_is_read thread h)
+is_read (causes.Rule (OtherTag word)) h = ap (option_map (λ x. causes.Rule (OtherTag x))) (hexadecimal_is_read word (ltb-true word (2 ^ 64) h))
+is_read (causes.Rule OtherWords) h = refl
+is_read (causes.Rule (NotTimedOut number)) h = ap (option_map (λ x. causes.Rule (NotTimedOut x))) (decimal_is_read number (ltb-true number (2 ^ 64) h))
+is_read (causes.Rule (HasDestination id)) h = ap (option_map (λ x. causes.Rule (HasDestination x))) (id_is_read id h)
+is_read (causes.Rule SendNotCancelled) h = refl
+is_read (causes.Rule (SenderNotDeleted state)) h = ap (option_map (λ x. causes.Rule (SenderNotDeleted x))) (state_is_read state)
+is_read (causes.Rule (ReceiveNotPassed number)) h = ap (option_map (λ x. causes.Rule (ReceiveNotPassed x))) (decimal_is_read number (ltb-true number (2 ^ 64) h))
+is_read (causes.Rule (HasPartner id)) h = ap (option_map (λ x. causes.Rule (HasPartner x))) (id_is_read id h)
+is_read (causes.Rule (AcceptsFirst thread)) h = ap (option_map (λ x. causes.Rule (AcceptsFirst x))) (thread_is_read thread h)
+is_read (causes.Rule ReceiveNotCancelled) h = refl
+is_read (causes.Rule AskedNothing) h = refl
+is_read (causes.Rule (TargetUndeclared thread)) h = ap (option_map (λ x. causes.Rule (TargetUndeclared x))) (thread_is_read thread h)
+is_read (causes.Rule NoProcessor) h = refl
+is_read (causes.Rule (ClockAt number)) h = ap (option_map (λ x. causes.Rule (ClockAt x))) (decimal_is_read number (ltb-true number (2 ^ 64) h))
+is_read (causes.Rule PastClocks) h = refl
+is_read (causes.Rule NotOwed) h = refl
+is_read (causes.Rule (OriginatorUndeclared thread)) h = ap (option_map (λ x. causes.Rule (OriginatorUndeclared x))) (thread_is_read thread h)
+is_read (causes.TargetUndeclared thread) h = ap (option_map causes.TargetUndeclared) (thread_is_read thread h)
+is_read causes.OtherSpace h = refl
 
-pub one_reason : (r s : Reason) → has_word r ≡ true → has_word s ≡ true → reason_text r ≡ reason_text s → r ≡ s
+pub one_cause : (r s : Cause) → has_word r ≡ true → has_word s ≡ true → cause_text r ≡ cause_text s → r ≡ s
 unfolding shown
-one_reason r s h k same =
+one_cause r s h k same =
     let text : shown r ≡ shown s =
     append_cancel_right (shown r) (shown s) (codes "\n") (append_cancel_left (codes "because ") (shown r ++ codes "\n") (shown s ++ codes "\n") same) in
     some_is r s (sym (is_read r h) ∙ ap read text ∙ is_read s k)

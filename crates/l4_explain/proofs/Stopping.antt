@@ -15,6 +15,8 @@ use Rattle.l4_audit.specs.declared.reasons.StepFault.TheVariants.{Refused}
 use Rattle.l4_audit.proofs.Reasoning.{is_impossible}
 use Rattle.l4_audit.proofs.Replaying.{Replayed}
 use Rattle.l4_explain.specs.Accounts.{IsRefused}
+use Rattle.l4_explain.specs.Reasons.{cause}
+use Rattle.l4_explain.specs.declared.reasons.Cause.{Cause}
 
 rest_is : (xs : List Step) (n : ℕ) (x : Step) → slice_get xs n ≡ Some x → drop n xs ≡ x ∷ drop (n + 1) xs
 rest_is xs n x at =
@@ -28,7 +30,7 @@ first_is m h n a x r at impossible =
     ∙ ap (λ o. place_or_rest o (n + 1) (λ v. refused_from m v (n + 1 + 1) (drop (n + 1) h))) impossible
 
 refused_here : (m : Machine) (h : List Step) (n : ℕ) (a : Auditing) (x : Step) (why : Reason) → Replayed m h n a → slice_get h n ≡ Some x →
-    reason a.at.machine a.at.world x ≡ Some why → IsRefused m h a (record { number = n + 1; reason = why })
+    reason a.at.machine a.at.world x ≡ Some why → IsRefused m h a (record { number = n + 1; cause = cause m x why })
 refused_here m h n a x why r at is =
     let here = ap (λ y. reason y a.at.world x) (sym r.machine) ∙ is in
     record {
@@ -37,11 +39,13 @@ refused_here m h n a x why r at is =
       reached = record { machine = r.machine; reached_by = r.before; begun = r.begun };
       step = x;
       stands = at;
+      because = why;
       why = here;
+      cause_is = refl;
       first = first_is m h n a x r at (is_impossible m a.at.world x why here);
     }
 
-pub stops_here : (m : Machine) (h : List Step) (n : ℕ) (a b : Auditing) (x : Step) (fault : StepFault) (why told : Reason) → Replayed m h n a → slice_get h n ≡ Some x →
-    fault ≡ Refused why → told ≡ why → Explains a.at x fault × (b ≡ a) → IsRefused m h b (record { number = n + 1; reason = told })
+pub stops_here : (m : Machine) (h : List Step) (n : ℕ) (a b : Auditing) (x : Step) (fault : StepFault) (why : Reason) (told : Cause) → Replayed m h n a → slice_get h n ≡ Some x →
+    fault ≡ Refused why → told ≡ cause m x why → Explains a.at x fault × (b ≡ a) → IsRefused m h b (record { number = n + 1; cause = told })
 stops_here m h n a b x fault why told r at is same judged =
     rw (judged.1, same) (refused_here m h n a x why r at (subst (Explains a.at x) is judged.0))

@@ -7,20 +7,24 @@ use Rattle.l4_types.specs.declared.reports.Ending.{Ending}
 use Rattle.l4_audit.specs.Auditing.{Auditing}
 use Rattle.l4_audit.specs.Audits.{IsReached}
 use Rattle.l4_audit.specs.Reasons.{reason}
+use Rattle.l4_audit.specs.declared.reasons.Reason.{Reason}
+use Rattle.l4_explain.specs.Reasons.{cause}
 use Rattle.l4_explain.specs.Worlds.{Ends, explanation, world_report}
 use Rattle.l4_explain.specs.declared.accounts.Account.{Account}
 use Rattle.l4_explain.specs.declared.accounts.Refusal.{Refusal}
 use Rattle.l4_explain.specs.declared.accounts.Shown.{Shown}
 
 -- The steps before the refused step lead to this audit. There the refused step is not possible, for
--- this reason, so it is the first such step.
+-- this reason, so it is the first such step. Its cause goes by the reason.
 pub record IsRefused (m : Machine) (h : List Step) (a : Auditing) (r : Refusal) : Type 0 where
   pub taken : ℕ
   pub number : r.number ≡ taken + 1
   pub reached : IsReached m (take taken h) a
   pub step : Step
   pub stands : slice_get h taken ≡ Some step
-  pub why : reason m a.at.world step ≡ Some r.reason
+  pub because : Reason
+  pub why : reason m a.at.world step ≡ Some because
+  pub cause_is : r.cause ≡ cause m step because
   pub first : refused_place m h ≡ Some r.number
 
 -- The audit has taken the steps as far as they are possible.
@@ -32,7 +36,7 @@ IsStopped m h a (Some r) = IsRefused m h a r
 
 abbrev pub explained : (asked : Bool) → Auditing → Option Refusal → List ℕ
 explained asked a None = []
-explained asked a (Some r) = if asked then explanation a.at.machine a.at.world r.reason else []
+explained asked a (Some r) = if asked then explanation a.at.machine a.at.world r.cause else []
 
 abbrev pub reported : (asked : Bool) → Auditing → Ending → List ℕ
 reported asked a ending = if asked then world_report a ending else []

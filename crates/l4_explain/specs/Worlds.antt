@@ -9,10 +9,10 @@ use Rattle.l4_types.specs.declared.reports.Ending.{Ending}
 use Rattle.l4_audit.specs.Audits.{is_quiet}
 use Rattle.l4_audit.specs.Auditing.{Auditing, waiting_send}
 use Rattle.l4_audit.specs.Possible.{possible}
-use Rattle.l4_audit.specs.declared.reasons.Reason.{Reason}
 use Rattle.l4_reports.specs.ReportLines.{report_text}
 use Rattle.l4_trace.specs.Lines.{line_of}
-use Rattle.l4_explain.specs.Reasons.{reason_text}
+use Rattle.l4_explain.specs.Reasons.{cause_text}
+use Rattle.l4_explain.specs.declared.reasons.Cause.{Cause}
 
 -- The line of a possible step, which is spelled as in a trace.
 abbrev pub possible_line : Step → List ℕ
@@ -21,9 +21,9 @@ possible_line step = codes "possible " ++ line_of step
 abbrev pub possible_text : Machine → World → List ℕ
 possible_text m w = flat_map possible_line (possible m w)
 
--- Why a step is not possible in a world, and which steps are possible there.
-abbrev pub explanation : Machine → World → Reason → List ℕ
-explanation m w r = reason_text r ++ possible_text m w
+-- Why a step is refused in a world, and which steps are possible there.
+abbrev pub explanation : Machine → World → Cause → List ℕ
+explanation m w c = cause_text c ++ possible_text m w
 
 -- The report of the world, with this ending.
 abbrev pub world_report : Auditing → Ending → List ℕ

@@ -3,9 +3,10 @@ ghost use Rattle.std.specs.Prelude.{◌≡◌, ◌++◌, option_map, IfOk};
 ghost use Rattle.l4_explain.specs.Accounts.{IsAccount, IsStopped, IsToldBy, explained, reported};
 ghost use Rattle.l4_explain.specs.Worlds.{Ends};
 
+use crate::reasons::{Cause, cause_of};
 use crate::worlds::{write_explanation, write_world};
 use l4_audit::auditor::Auditor;
-use l4_audit::reasons::{Reason, StepFault};
+use l4_audit::reasons::StepFault;
 use l4_history::history::History;
 use l4_script::machine::Machine;
 use l4_types::errors::NoMemory;
@@ -17,8 +18,8 @@ use std::alloc::Global;
 pub struct Refusal {
     /// Its number among the steps, counted from 1.
     pub number: usize,
-    /// The condition of its rule that is false.
-    pub reason: Reason,
+    /// Why it is not possible.
+    pub cause: Cause,
 }
 
 /// An audit that has taken steps as far as they are possible.
@@ -68,7 +69,8 @@ pub fn steps_taken<'m>(
             Err(StepFault::NoMemory) => return Err(NoMemory),
             Err(StepFault::Refused(reason)) => {
                 let number = place + 1;
-                let refusal = Some(Refusal { number, reason });
+                let cause = cause_of(machine, &step, reason);
+                let refusal = Some(Refusal { number, cause });
                 return Ok(Stopped { auditor, refusal });
             }
         }
@@ -98,7 +100,7 @@ fn explained(
     let mut lines = Vec::new(alloc);
     match refusal {
         Some(refusal) if asked => {
-            write_explanation(alloc, auditor, &refusal.reason, &mut lines)?;
+            write_explanation(alloc, auditor, &refusal.cause, &mut lines)?;
         }
         _ => {}
     }

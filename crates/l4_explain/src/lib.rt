@@ -2,8 +2,8 @@
 //! world before that step.
 //!
 //! `account_of` tells which step of a history is the first that is not possible, why, and which
-//! steps are possible instead. The line of a reason has fixed words, and behind them the value that
-//! the world has, as reports and traces spell it. No two reasons have one line. Steps are spelled
+//! steps are possible instead. The line of a cause has fixed words, and behind them the value that
+//! the world has, as reports and traces spell it. No two causes have one line. Steps are spelled
 //! as in a trace. The report is that of the world before the refused step, or after the last step.
 //!
 //! ```rust

@@ -1,25 +1,45 @@
-//! The line of a reason.
+//! Why a step is refused, and the line of it.
 ghost use Rattle.std.specs.Prelude.{◌≡◌, ◌++◌, true, codes, OnOk, OnErr};
 ghost use Rattle.std.specs.String.{string_bytes};
+ghost use Rattle.l4_model.specs.Machine.{Machine as ModelMachine};
+ghost use Rattle.l4_model.specs.Steps.{Step as ModelStep};
+ghost use Rattle.l4_model.specs.World.{World};
+ghost use Rattle.l4_audit.specs.Reasons.{reason};
 ghost use Rattle.l4_audit.specs.declared.reasons.Reason.{Reason as Told};
-ghost use Rattle.l4_explain.specs.Reasons.{has_word, reason_text, sentence, value_text};
+ghost use Rattle.l4_explain.specs.Reasons.{Holds, cause, cause_by_step, cause_of_order, cause_text};
+ghost use Rattle.l4_explain.specs.Reasons.{has_word, sentence, sentence_of_reason, value_text};
+ghost use Rattle.l4_explain.specs.declared.reasons.Cause.{Cause as Known};
 ghost use Rattle.l4_explain.specs.declared.reasons.Value.TheVariants.{Order};
 ghost use Rattle.l4_reports.specs.ReportLines.{state_word};
 ghost use Rattle.l4_trace.specs.Lines.{order_kind_word};
 ghost use Rattle.l4_types.specs.ReportView.{state_of_view};
-ghost use Rattle.l4_types.specs.StepView.{order_kind_of};
+ghost use Rattle.l4_types.specs.StepView.{order_kind_of, seen};
 
 use l4_audit::reasons::Reason;
 use l4_reports::report_lines::spelled_state;
+use l4_script::machine::Machine;
 use l4_thread::orders::PendingOrder;
 use l4_types::errors::NoMemory;
 use l4_types::ids::{GlobalId, ThreadId};
 use l4_types::reports::State;
+use l4_types::step_ref::StepRef;
 use l4_types::steps::OrderKind;
 use l4_words::spelling::{push_id, push_thread, push_word};
 use std::alloc::AllocError;
 
-/// What stands behind the words of a reason.
+/// Why a step is refused.
+#[derive(Clone, Copy, PartialEq, Eq, Debug)]
+pub enum Cause {
+    /// The first condition of its rule that is false in the world before it.
+    Rule(Reason),
+    /// Its order is admitted in no world, as it is for this thread, which is not declared.
+    TargetUndeclared(GlobalId),
+    /// Its order is admitted in no world, as it is a cancellation, and the threads are of different
+    /// address spaces.
+    OtherSpace,
+}
+
+/// What stands behind the words of a cause.
 #[derive(Clone, Copy, PartialEq, Eq, Debug)]
 pub(crate) enum Value {
     Nothing,
@@ -31,22 +51,60 @@ pub(crate) enum Value {
     Order(PendingOrder),
 }
 
-/// Appends the line of a reason. If memory is refused, nothing is appended.
-pub fn write_reason(reason: &Reason, out: &mut Vec<u8>) -> Result<(), NoMemory>
-    ensures ok { OnOk result (out.new.items ≡ out.old.items ++ reason_text reason.now) }
+/// Why a step is refused for which an audit gives this reason. Where the thread's instruction gives
+/// no admitted order, and the order of the step is not admitted either, it is that.
+pub fn cause_of(machine: &Machine, step: &StepRef<'_>, reason: Reason) -> Cause
+    ensures { result ≡ cause machine.now (seen step.now) reason }
+{
+    match reason {
+        Reason::NoOrder => cause_by_step(machine, step),
+        _ => Cause::Rule(reason),
+    }
+}
+
+// Why a step is refused where the thread's instruction gives no admitted order.
+fn cause_by_step(machine: &Machine, step: &StepRef<'_>) -> Cause
+    ensures { result ≡ cause_by_step machine.now (seen step.now) }
+{
+    match step {
+        StepRef::Order {
+            caller,
+            target,
+            what,
+        } => cause_of_order(machine, *caller, *target, *what),
+        _ => Cause::Rule(Reason::NoOrder),
+    }
+}
+
+// Why this order is refused where the thread's instruction gives no admitted one.
+fn cause_of_order(machine: &Machine, caller: GlobalId, target: GlobalId, what: OrderKind) -> Cause
+    ensures { result ≡ cause_of_order machine.now caller target (order_kind_of what) }
+{
+    if machine.admits(caller, target, what) {
+        Cause::Rule(Reason::NoOrder)
+    } else if machine.place_of(target).is_some() {
+        Cause::OtherSpace
+    } else {
+        Cause::TargetUndeclared(target)
+    }
+}
+
+/// Appends the line of a cause. If memory is refused, nothing is appended.
+pub fn write_cause(cause: &Cause, out: &mut Vec<u8>) -> Result<(), NoMemory>
+    ensures ok { OnOk result (out.new.items ≡ out.old.items ++ cause_text cause.now) }
     ensures err { OnErr result (out.new.items ≡ out.old.items) }
 {
     let mut text = String::new(*out.allocator());
-    push_reason(&mut text, reason)?;
+    push_cause(&mut text, cause)?;
     out.extend_from_slice(text.as_bytes())?;
     Ok(())
 }
 
-fn push_reason(text: &mut String, reason: &Reason) -> Result<(), AllocError>
+fn push_cause(text: &mut String, cause: &Cause) -> Result<(), AllocError>
     ensures { OnOk result (string_bytes text.new ≡
-        string_bytes text.old ++ reason_text reason.now) }
+        string_bytes text.old ++ cause_text cause.now) }
 {
-    let (words, value) = sentence(reason);
+    let (words, value) = sentence(cause);
     text.push_str("because ")?;
     text.push_str(words)?;
     push_value(text, &value)?;
@@ -54,10 +112,27 @@ fn push_reason(text: &mut String, reason: &Reason) -> Result<(), AllocError>
     Ok(())
 }
 
-// The words of a reason, and its value.
-fn sentence(reason: &Reason) -> (&'static str, Value)
-    ensures words { result.0.now ≡ (sentence reason.now).0 }
-    ensures value { result.1 ≡ (sentence reason.now).1 }
+// The words of a cause, and its value.
+fn sentence(cause: &Cause) -> (&'static str, Value)
+    ensures words { result.0.now ≡ (sentence cause.now).0 }
+    ensures value { result.1 ≡ (sentence cause.now).1 }
+{
+    match cause {
+        Cause::Rule(reason) => sentence_of_reason(reason),
+        Cause::TargetUndeclared(target) => (
+            "the order is not admitted, as it is for the undeclared thread",
+            Value::Thread(*target),
+        ),
+        Cause::OtherSpace => (
+            "the order is not admitted, as the threads are of different spaces",
+            Value::Nothing,
+        ),
+    }
+}
+
+fn sentence_of_reason(reason: &Reason) -> (&'static str, Value)
+    ensures words { result.0.now ≡ (sentence_of_reason reason.now).0 }
+    ensures value { result.1 ≡ (sentence_of_reason reason.now).1 }
 {
     match reason {
         Reason::Undeclared => ("the thread is not declared", Value::Nothing),
@@ -75,7 +150,7 @@ fn sentence(reason: &Reason) -> (&'static str, Value)
             "the instruction does not begin with a receive phase",
             Value::Nothing,
         ),
-        Reason::NoOrder => ("the instruction gives no order", Value::Nothing),
+        Reason::NoOrder => ("the instruction gives no admitted order", Value::Nothing),
         Reason::OtherOrder(asked) => ("the instruction gives the order", Value::Order(*asked)),
         Reason::NotUndecided => ("no send of this name is undecided", Value::Nothing),
         Reason::NoReceiver(to) => ("the destination is no declared thread but", Value::Id(*to)),
@@ -175,8 +250,14 @@ fn push_order_kind(text: &mut String, what: OrderKind) -> Result<(), AllocError>
     }
 }
 
-/// No two reasons have one line, if their values are words and ids.
-pub fn law_one_reason()
-    ensures { (r s : Told) → has_word r ≡ true → has_word s ≡ true →
-        reason_text r ≡ reason_text s → r ≡ s }
+/// No two causes have one line, if their values are words and ids.
+pub fn law_one_cause()
+    ensures { (a b : Known) → has_word a ≡ true → has_word b ≡ true →
+        cause_text a ≡ cause_text b → a ≡ b }
+{}
+
+/// What is told of a refused step is so.
+pub fn law_causes()
+    ensures { (m : ModelMachine) (w : World) (step : ModelStep) (r : Told) →
+        reason m w step ≡ Some r → Holds m w step (cause m step r) }
 {}

@@ -4,9 +4,8 @@ ghost use Rattle.l4_explain.specs.Worlds.{Ends, explanation, possible_line, poss
 ghost use Rattle.l4_explain.specs.Worlds.{world_report};
 ghost use Rattle.l4_types.specs.StepView.{step_of};
 
-use crate::reasons::write_reason;
+use crate::reasons::{Cause, write_cause};
 use l4_audit::auditor::Auditor;
-use l4_audit::reasons::Reason;
 use l4_reports::report_lines::write_report;
 use l4_trace::lines::write_event;
 use l4_types::errors::NoMemory;
@@ -50,20 +49,20 @@ fn push_step(lines: &mut Vec<u8>, step: &Step) -> Result<(), NoMemory>
     write_event(step, lines)
 }
 
-/// Appends why a step is not possible in the world that an audit has come to, and which steps are
+/// Appends why a step is refused in the world that an audit has come to, and which steps are
 /// possible there. If memory is refused, nothing is appended.
 pub fn write_explanation(
     alloc: Global,
     auditor: &Auditor<'_>,
-    reason: &Reason,
+    cause: &Cause,
     out: &mut Vec<u8>,
 ) -> Result<(), NoMemory>
     ensures ok { OnOk result (out.new.items ≡ out.old.items ++
-        explanation auditor.now.at.machine auditor.now.at.world reason.now) }
+        explanation auditor.now.at.machine auditor.now.at.world cause.now) }
     ensures err { OnErr result (out.new.items ≡ out.old.items) }
 {
     let mut lines = Vec::new(alloc);
-    write_reason(reason, &mut lines)?;
+    write_cause(cause, &mut lines)?;
     write_possible(alloc, auditor, &mut lines)?;
     out.extend_from_slice(lines.as_slice())?;
     Ok(())

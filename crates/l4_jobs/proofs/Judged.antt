@@ -11,10 +11,12 @@ use Rattle.l4_audit.specs.Auditing.{Auditing, waiting_send}
 use Rattle.l4_audit.specs.Audits.{IsReached, is_quiet}
 use Rattle.l4_audit.proofs.Auditing.{waiting_begun}
 use Rattle.l4_explain.specs.Accounts.{IsAccount, IsStopped, IsToldBy, reported}
+use Rattle.l4_explain.specs.Reasons.{cause}
 use Rattle.l4_explain.specs.Worlds.{Ends, explanation, world_report}
 use Rattle.l4_explain.specs.declared.accounts.Account.{Account}
 use Rattle.l4_explain.specs.declared.accounts.Refusal.{Refusal}
 use Rattle.l4_explain.specs.declared.accounts.Shown.{Shown}
+use Rattle.l4_explain.specs.declared.reasons.Cause.{Cause}
 use Rattle.l4_reports.specs.ReportLines.{report_text}
 use Rattle.l4_trace.specs.Lines.{IsTraceOf}
 use Rattle.l4_types.specs.declared.reports.Ending.{Ending}
@@ -88,8 +90,10 @@ refused_by : (judged : Judged) (m : Machine) (h : List Step) (trace lines : List
 refused_by judged m h trace lines account number a None stopped told some asked reads are =
     absurd (let bad : None ≡ Some number = sym told.refused ∙ some in cc)
 refused_by judged m h trace lines account number a (Some r) stopped told some asked reads are =
-    let explained : (if judged.explain then explanation a.at.machine a.at.world r.reason else []) ≡ (if judged.explain then explanation m a.at.world r.reason else []) =
-    ap (λ x. if judged.explain then explanation x a.at.world r.reason else []) stopped.reached.machine in
+    let c : Cause = cause m stopped.step stopped.because in
+    let explained : (if judged.explain then explanation a.at.machine a.at.world r.cause else []) ≡ (if judged.explain then explanation m a.at.world c else []) =
+    ap (λ x. if judged.explain then explanation x a.at.world r.cause else []) stopped.reached.machine
+    ∙ ap (λ x. if judged.explain then explanation m a.at.world x else []) stopped.cause_is in
     record {
       asked = asked;
       steps = h;
@@ -100,13 +104,13 @@ refused_by judged m h trace lines account number a (Some r) stopped told some as
       reaches = stopped.reached.reached_by;
       step = stopped.step;
       stands = stopped.stands;
-      because = r.reason;
+      because = stopped.because;
       why = stopped.why;
       ending = account.ending;
       quiet = still_is m a account.ending stopped.reached.machine told.ends;
       lines_are =
           are ∙ told.lines_are ∙ ap (λ text. text ++ reported judged.report a account.ending) explained
-          ∙ ap (λ text. (if judged.explain then explanation m a.at.world r.reason else []) ++ text) (reported_is judged.report m _ a account.ending stopped.reached);
+          ∙ ap (λ text. (if judged.explain then explanation m a.at.world c else []) ++ text) (reported_is judged.report m _ a account.ending stopped.reached);
     }
 
 pub refused_told : (judged : Judged) (m : Machine) (h : List Step) (trace lines : List ℕ) (account : Account) (number : ℕ) → IsAccount (shown_of judged) m h account →

@@ -11,7 +11,9 @@ use Rattle.l4_audit.specs.declared.reasons.StepFault.TheVariants.{NoMemory, Refu
 use Rattle.l4_audit.specs.Reasons.{reason}
 use Rattle.l4_audit.specs.declared.reasons.Reason.{Reason}
 use Rattle.l4_commands.specs.declared.job.Judged.{Judged}
+use Rattle.l4_explain.specs.Reasons.{cause}
 use Rattle.l4_explain.specs.Worlds.{explanation}
+use Rattle.l4_explain.specs.declared.reasons.Cause.{Cause}
 use Rattle.l4_reports.specs.ReportLines.{ending_word, report_text}
 use Rattle.l4_trace.specs.Lines.{IsTraceOf, line_of_words}
 use Rattle.l4_trace.specs.Reading.{HasFaultAt}
@@ -75,8 +77,8 @@ abbrev pub report_where : (asked : Bool) → Machine → World → List Step →
 report_where asked m w h ending =
     if asked then report_text (view m w) (undecided_sends m w h) ending else []
 
-abbrev pub explanation_where : (asked : Bool) → Machine → World → Reason → List ℕ
-explanation_where asked m w r = if asked then explanation m w r else []
+abbrev pub explanation_where : (asked : Bool) → Machine → World → Cause → List ℕ
+explanation_where asked m w c = if asked then explanation m w c else []
 
 -- Each line spells a step. The first `taken` steps lead to this world, and the next is not possible
 -- there, for this reason. These lines tell of it.
@@ -95,7 +97,7 @@ pub record IsRefused (judged : Judged) (m : Machine) (trace lines : List ℕ) : 
   pub ending : Ending
   pub quiet : (is_quiet ending ≡ true) ↔ IsStill m world
   pub lines_are : lines ≡
-      explanation_where judged.explain m world because
+      explanation_where judged.explain m world (cause m step because)
       ++ report_where judged.report m world (take taken steps) ending
 
 -- What an audit prints

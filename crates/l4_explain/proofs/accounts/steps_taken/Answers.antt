@@ -1,4 +1,7 @@
+use Rattle.std.proofs.Common.{ap, ◌∙◌}
 use Rattle.l4_audit.proofs.Replaying.{opened, one_more}
+use Rattle.l4_types.specs.StepView.{seen}
+use Rattle.l4_explain.specs.Reasons.{cause}
 use Rattle.l4_explain.proofs.Stopping.{stops_here}
 use Rattle.l4_explain.proofs.accounts.steps_taken.Goals as goal
 
@@ -14,4 +17,5 @@ pub returns-in-Err-Refused : goal.returns-in-Err-Refused
 returns-in-Err-Refused c =
     let l = c.loop-place in
     let e = c.in-Err-Refused in
-    stops_here c.args.machine.now c.args.history.now.steps l.place l.auditor c.step.new.self _ e.field-0 e.reason _ l.invariant c.step-step.ensures e.field-0-is e.reason-is e.ensures
+    let m = c.args.machine.now in
+    stops_here m c.args.history.now.steps l.place l.auditor c.step.new.self _ e.field-0 e.reason _ l.invariant c.step-step.ensures e.field-0-is (c.cause_of-cause.ensures ∙ ap (cause m (seen c.step-step.result)) e.reason-is) e.ensures

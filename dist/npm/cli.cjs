@@ -1,0 +1,33 @@
+#!/usr/bin/env node
+// The program over the files that its words name. It writes what it is to record, and what it prints.
+const fs = require("fs");
+const { run } = require("./index.cjs");
+
+const words = process.argv.slice(2);
+// A file is named by a word, behind `@`, or behind the `=` of an option.
+const names = words.flatMap((word) => [word, word.replace(/^@/, ""), word.replace(/^--[\w-]+=@?/, "")]);
+const files = {};
+for (const name of names) {
+    if (name === "-") files["/dev/stdin"] ??= fs.readFileSync(0);
+    else if (name && fs.existsSync(name) && fs.statSync(name).isFile()) files[name] = fs.readFileSync(name);
+}
+const at = words.findIndex((word) => word === "--record" || word.startsWith("--record="));
+const record = at < 0 ? null : words[at].split("=")[1] ?? words[at + 1];
+
+function writeAll(fd, bytes) {
+    for (let done = 0; done < bytes.length; ) {
+        try {
+            done += fs.writeSync(fd, bytes, done);
+        } catch (fault) {
+            if (fault.code === "EPIPE") return;
+            if (fault.code !== "EAGAIN") throw fault;
+        }
+    }
+}
+
+run(words, files).then(({ status, out, faults, recorded }) => {
+    if (record && recorded.length) fs.writeFileSync(record, recorded);
+    writeAll(1, out);
+    writeAll(2, faults);
+    process.exitCode = status;
+});

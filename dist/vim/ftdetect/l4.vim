@@ -1,0 +1,1 @@
+autocmd BufRead,BufNewFile *.l4 setfiletype l4

@@ -1,0 +1,95 @@
+// The tab Endings: a search of all orders of the processors, and a card for each ending.
+
+const MOST_CARDS = 300;
+const MOST_THREADS = 14; // on a card
+
+async function search(isStuckOnly) {
+    $("onlystuck").checked = isStuckOnly;
+    const words = ["endings", "m.l4", "--depth", $("depth").value, "--states", $("states").value, "--waits"];
+    if (isStuckOnly) words.push("--stuck");
+    for (const name of ["with", "never"]) if ($(name).value.trim()) words.push(`--${name}`, $(name).value.trim());
+    const { text } = editor;
+    sayIn("found", { tone: "", head: "Searching all orders ..", lines: [] });
+    $("endinglist").replaceChildren();
+    $("count").textContent = "";
+    tab("endings");
+    let made;
+    try {
+        [made] = await program.perform("long", { "m.l4": text }, words);
+    } catch (trap) {
+        const stopped = "Stopped. Smaller limits, or a question for one line, search less.";
+        sayIn("found", { tone: "fair", head: trap instanceof Stopped ? stopped : trap.message, lines: [] });
+        throw trap;
+    }
+    print(made);
+    if (isFault(made)) {
+        sayIn("found", { tone: "bad", head: made.faults.trim(), lines: [] });
+    } else {
+        const found = endingsOf(made.out);
+        const isPart = words.includes("--with") || words.includes("--never");
+        sayIn("found", searchText({ ...found, isStuckOnly, isPart }));
+        $("count").textContent = found.endings.length;
+        showEndings(found.endings, text);
+        tellCommand(made, [], found.last);
+    }
+    document.body.dataset.searched = text;
+}
+
+function showEndings(endings, text) {
+    const differs = differences(endings);
+    const cards = endings.slice(0, MOST_CARDS).map((ending) => endingCard(ending, differs, text));
+    const more = endings.length - cards.length;
+    const rest = more > 0 ? [el("p", { className: "none", textContent: `${more} more are in the tab Output.` })] : [];
+    $("endinglist").replaceChildren(...cards, ...rest);
+}
+
+const fieldsOf = ({ code, from, registers }) => [["error", code], ["heard from", from], ...registers.map((word, place) => [`MR${place}`, word])];
+
+// Asks whether the endings differ in a field of a thread.
+function differences(endings) {
+    const values = new Map();
+    for (const { report } of endings) {
+        for (const thread of report.threads) {
+            for (const [name, value] of [["state", thread.state], ...fieldsOf(thread)]) {
+                const key = `${thread.id} ${name}`;
+                values.set(key, (values.get(key) ?? new Set()).add(value));
+            }
+        }
+    }
+    return (id, name) => values.get(`${id} ${name}`)?.size > 1;
+}
+
+function endingCard({ number, list, report }, differs, text) {
+    const rows = report.threads.map((thread) => endingRow(thread, differs));
+    const told = rows.length <= MOST_THREADS ? rows : rows.filter(({ matters }) => matters).slice(0, MOST_THREADS);
+    const more = rows.length - told.length;
+    const open = () => {
+        tab("steps");
+        return begin(text, list).then(() => $("slider").focus());
+    };
+    const isBad = report.threads.some((thread) => thread.isStuck);
+    const deadlocks = report.deadlocks.map((ids) => el("span", { className: "circle", textContent: `deadlock of ${ids.join(", ")}` }));
+    return el(
+        "button",
+        { className: `ending ${isBad ? "bad" : "good"}`, onclick: () => guarded(open) },
+        el("span", { className: "name" }, el("b", { textContent: `Ending ${number}` }), isBad ? "somebody is stuck" : "", el("small", { textContent: counted(list.length, "item") })),
+        ...deadlocks,
+        ...told.map(({ row }) => row),
+        more > 0 && el("span", { className: "small", textContent: `and ${counted(more, "thread")} more` }),
+        el("span", { className: "by", title: list.join(","), textContent: list.join(",") || "nothing happens" }),
+    );
+}
+
+// A thread of an ending: its state, for whom it waits, and what is not the same in all endings.
+function endingRow(thread, differs) {
+    const isShown = ([name, value]) => differs(thread.id, name) && value !== "nil" && value !== "0";
+    const own = fieldsOf(thread).filter(isShown).map(([name, value]) => el("span", { className: "differs", textContent: `${name} ${value}` }));
+    const row = el(
+        "span",
+        { className: `row${thread.isStuck ? " bad" : ""}` },
+        el("b", { textContent: thread.id }),
+        el("span", { textContent: thread.state }),
+        el("span", {}, thread.wait ? el("span", { textContent: shortWait(thread.wait) }) : "", ...own),
+    );
+    return { row, matters: thread.isStuck || own.length > 0 || differs(thread.id, "state") };
+}

@@ -1,0 +1,115 @@
+// Reads machine texts, and what the program prints, as far as the page shows it. docs/FORMATS.md has each line.
+
+const CODES = {
+    0: "it ended well",
+    2: "time of the send over, or not admitted",
+    3: "time of the receive over",
+    4: "send to nobody",
+    5: "receive from nobody",
+    6: "send cancelled",
+    7: "receive cancelled",
+};
+const STATUS = { 0: "0, ended", 1: "1, a fault", 2: "2, wrong usage", 3: "3, more could come", 4: "4, not as expected" };
+
+// A status of a command whose output is no answer.
+const isFault = (made) => made.status === 1 || made.status === 2;
+
+const linesOf = (out) => out.split("\n").slice(0, -1);
+
+// Processors, and threads with their scripts by lines. A text with a fault is read as far as it goes.
+function machineOf(text) {
+    const machine = { cpus: 0, threads: [], byId: new Map() };
+    text.split("\n").forEach((line, place) => {
+        if (!line || line.startsWith(";")) return;
+        const words = line.split(" ");
+        if (words[0] === "cpus") {
+            machine.cpus = Number(words[1]) || 0;
+        } else if (words[0] === "thread") {
+            const thread = { id: words[1], cpu: Number(words[3]), space: words[5], line: place + 1, script: [] };
+            machine.threads.push(thread);
+            machine.byId.set(thread.id, thread);
+        } else if (machine.threads.length) {
+            machine.threads.at(-1).script.push({ line: place + 1, words });
+        }
+    });
+    return machine;
+}
+
+// Threads, who waits for whom, circles and deadlocks, and how it ended.
+function reportOf(out) {
+    const report = { threads: [], byId: new Map(), circles: [], deadlocks: [], ending: "" };
+    const waits = new Map();
+    for (const line of out.split("\n")) {
+        const [word, ...rest] = line.split(" ");
+        if (word === "thread") {
+            const [id, state, code, from, actual, ...registers] = rest;
+            const thread = { id, state, code, from, actual, registers, line };
+            report.threads.push(thread);
+            report.byId.set(id, thread);
+        } else if (word === "waits") {
+            waits.set(rest[0], { to: rest[1], phase: rest[2] });
+        } else if (word === "circle") {
+            report.circles.push(rest);
+        } else if (word === "deadlock") {
+            report.deadlocks.push(rest);
+        } else if (word === "ending") {
+            report.ending = rest[0];
+        }
+    }
+    for (const thread of report.threads) {
+        thread.wait = waits.get(thread.id);
+        thread.isDead = report.deadlocks.some((ids) => ids.includes(thread.id));
+        thread.isStuck = thread.isDead || (report.ending === "quiet" && isClosed(thread.wait));
+    }
+    return report;
+}
+
+// A wait for one thread alone. Who waits for any message is a server that waits for its next client.
+function isClosed(wait) {
+    return !!wait && (wait.phase === "send" || (wait.to !== "any" && wait.to !== "anylocal"));
+}
+
+// The endings that a search printed, and its last line.
+function endingsOf(out) {
+    const endings = [];
+    let last = "";
+    for (const line of linesOf(out)) {
+        const head = line.match(/^ending (\d+)(?: (\S+))?$/);
+        if (head) endings.push({ number: head[1], list: head[2] ? head[2].split(",") : [], lines: [] });
+        else if (line.startsWith("states ")) last = line;
+        else endings.at(-1)?.lines.push(line);
+    }
+    for (const ending of endings) ending.report = reportOf(ending.lines.join("\n"));
+    return { endings, last };
+}
+
+// The marks of `lint`: each has a line, a column, a word and what may stand there, or what is doubtful.
+function marksOf(out) {
+    const mark = /^line (\d+) column (\d+): (\w+)(?:: `(.*?)`)?: (.*)$/;
+    return linesOf(out)
+        .map((line) => line.match(mark))
+        .filter(Boolean)
+        .map(([, line, column, kind, word, hint]) => ({
+            line: Number(line),
+            column: Number(column),
+            kind,
+            word,
+            hint,
+            isDoubt: kind === "always" || kind === "perhaps",
+        }));
+}
+const markText = ({ kind, word, hint }) => `${kind}${word ? ` \`${word}\`` : ""}: ${hint}`;
+
+// The items of a list that was typed, or recorded.
+function listOf(text) {
+    const lines = text.split("\n").filter((line) => !line.startsWith(";"));
+    return lines.join("\n").split(/[\s,]+/).filter(Boolean);
+}
+
+// The words of a command line, as a shell takes them apart: by blanks, and by single and double quotes.
+function wordsOf(line) {
+    const words = [];
+    for (const [, bare, single, double] of line.matchAll(/([^\s'"]+)|'([^']*)'|"([^"]*)"/g)) words.push(bare ?? single ?? double);
+    return words;
+}
+const quoted = (word) => (/^[\w@%+=:,./-]+$/.test(word) ? word : `'${word}'`);

@@ -1,0 +1,317 @@
+// The tab Steps: a session, step by step.
+
+const ROWS = 250; // of the chart, in a page of it
+const MOST_PLACES = 200; // threads, above which the text does not show where they are
+
+let session; // what is stepped through
+let wanted = null; // a place that is asked for while another is shown
+let showing = null;
+let chartShown = ""; // which rows and columns the chart has
+
+function begin(text, list = [], at = list.length) {
+    session = new Session(program, text, list, at);
+    chartShown = "";
+    return view(at);
+}
+
+// Does items behind those that are done.
+function perform(...items) {
+    if (items.length === 1 && session.list[session.at] === items[0]) return view(session.at + 1);
+    session = session.with(items);
+    chartShown = "";
+    return view(session.list.length);
+}
+
+// Shows the state behind so many items. Where several are asked for at once, the last alone is shown.
+function view(at) {
+    wanted = at;
+    nextIsOld();
+    program.stop("next");
+    showing ??= showWanted().finally(() => (showing = null));
+    return guarded(() => showing);
+}
+async function showWanted() {
+    while (wanted !== null) {
+        const at = Math.min(wanted, session.list.length);
+        wanted = null;
+        await show(session, at);
+    }
+    nextSoon();
+    addressSoon();
+}
+
+async function show(shown, at) {
+    shown.at = at;
+    const [now, before] = await shown.statesAt(at, at - 1);
+    const isOld = () => shown !== session || wanted !== null;
+    if (isOld()) return;
+    showTransport(shown);
+    $("stale").hidden = editor.text === shown.text;
+    if (isFault(now.made)) {
+        showFault(now.made);
+        tellCommand(now.made, shown.list);
+        return;
+    }
+    const told = before ? now.steps.slice(before.steps.length) : [];
+    showWhere(shown, now, told);
+    $("rest").disabled = now.report.ending === "quiet";
+    const said = verdictOf(now, at === 0);
+    sayIn("verdict", said);
+    if (said.tone === "good" && shown.machine.cpus > 1) askForOthers();
+    showCards(now.report, before?.report);
+    editor.stand(shown.text === editor.text ? standing(shown.machine, now) : new Map());
+    tellCommand(now.made, shown.done);
+    await draw(shown, now.steps.length, told.length, isOld);
+}
+
+function showTransport({ list, at }) {
+    $("slider").max = list.length;
+    $("slider").value = at;
+    $("slider").setAttribute("aria-valuetext", `${at} of ${counted(list.length, "item")}`);
+    for (const id of ["first", "back"]) $(id).disabled = at === 0;
+    for (const id of ["forth", "last"]) $(id).disabled = at === list.length;
+    if (document.activeElement !== $("schedule")) $("schedule").value = list.join(",");
+}
+
+function showWhere({ list, at }, now, told) {
+    const did = at ? [": ", el("b", { textContent: list[at - 1] })] : [];
+    const tells = at ? [" · ", el("b", { textContent: told.join("; ") || "nothing told" })] : [];
+    $("where").replaceChildren(`item ${at} of ${list.length}`, ...did, `, step ${now.steps.length}`, ...tells);
+}
+
+// The text or the list has a fault.
+function showFault(made) {
+    $("where").textContent = "";
+    $("cards").replaceChildren();
+    $("pager").hidden = true;
+    $("rest").disabled = true;
+    chart.clear("No chart: the text or the list has a fault.");
+    chartShown = "";
+    editor.stand(new Map());
+    const line = made.faults.trim();
+    const number = Number(line.match(/^l4run: line (\d+): /)?.[1]);
+    const mark = editor.text === session.text ? editor.marks.find((it) => it.line === number && !it.isDoubt) : undefined;
+    sayIn("verdict", { tone: "bad", head: mark ? `Line ${number}: ${markText(mark)}` : line || "a fault", lines: [] });
+    if (number) $("verdict").append(" ", button(`go to line ${number}`, () => editor.goTo(number, mark?.column)));
+}
+
+// A run takes one order of the processors; what of the others?
+function askForOthers() {
+    const ask = button("Is somebody stuck in another order?", () => verb("stuck"));
+    ask.className = "inline";
+    $("verdict").append(el("p", {}, "This is one order of the processors. ", ask));
+}
+
+// For each line of the text the threads that are there.
+function standing(machine, now) {
+    const places = new Map();
+    if (machine.threads.length > MOST_PLACES) return places;
+    for (const { id, line } of placesOf(machine, now.steps)) {
+        const thread = now.report.byId.get(id);
+        if (!line || !thread || isOver(thread)) continue;
+        const tone = thread.isStuck ? "stuck" : thread.wait ? "wait" : "go";
+        places.set(line, [...(places.get(line) ?? []), { id, tone, note: `${id} ${thread.state}` }]);
+    }
+    return places;
+}
+const isOver = ({ state }) => state === "ended" || state === "deleted";
+
+// Cards of threads, and what changed by the last item.
+function showCards(report, before) {
+    const only = $("filter").value;
+    const cards = report.threads
+        .map((thread) => ({ thread, was: before?.byId.get(thread.id) }))
+        .filter(({ thread, was }) => {
+            if (only === "changed") return hasChanged(thread, was);
+            return only === "waiting" ? thread.wait : only === "stuck" ? thread.isStuck : true;
+        })
+        .map(({ thread, was }) => card(thread, was));
+    const none = el("p", { className: "none", textContent: report.threads.length ? "None." : "The text has no thread." });
+    $("cards").replaceChildren(...(cards.length ? cards : [none]));
+}
+const hasChanged = (thread, was) => !!was && (was.line !== thread.line || waitKey(was) !== waitKey(thread));
+const waitKey = ({ wait }) => (wait ? `${wait.to} ${wait.phase}` : "");
+
+function card(thread, was) {
+    const tone = thread.isStuck ? "stuck" : isOver(thread) ? "ended" : thread.wait ? "wait" : "ready";
+    const { cpu = "?", space = "?" } = session.machine.byId.get(thread.id) ?? {};
+    const from = thread.from !== "nil" && el(was && was.from !== thread.from ? "mark" : "span", { textContent: `heard from ${thread.from}` });
+    return el(
+        "article",
+        { className: `card ${tone}${hasChanged(thread, was) ? " changed" : ""}` },
+        el("header", {}, el("b", { textContent: thread.id }), el("small", { textContent: `cpu ${cpu}, space ${space}` }), el("span", { className: "pill", textContent: thread.state })),
+        thread.wait && el("p", { textContent: shortWait(thread.wait) }),
+        thread.code !== "0" && el("p", { className: "error", textContent: `error ${thread.code}: ${CODES[thread.code] ?? ""}` }),
+        from && el("p", {}, from, thread.actual !== thread.from ? `, by ${thread.actual}` : ""),
+        registers(thread, was),
+    );
+}
+
+// The registers that are not 0, and those that changed.
+function registers(thread, was) {
+    const shown = thread.registers
+        .map((word, place) => ({ word, place, isNew: !!was && (was.registers[place] ?? "0") !== word }))
+        .filter(({ word, isNew }) => word !== "0" || isNew);
+    if (!shown.length) return null;
+    const tag = BigInt(`0x${thread.registers[0] || "0"}`);
+    const title = `MR0: label ${tag >> 16n}, ${counted(Number(tag & 63n), "untyped word")}`;
+    return el("div", { className: "registers", title }, ...shown.map(({ word, place, isNew }) => el(isNew ? "mark" : "span", { textContent: `MR${place} ${word}` })));
+}
+
+// The chart: a page of rows over all steps of the list, done or yet to come.
+async function draw(shown, row, told, isOld) {
+    const steps = await shown.steps();
+    if (isOld()) return;
+    if (!steps.length) {
+        chart.clear("No step yet.");
+        chart.row = 0;
+        chartShown = "";
+        $("pager").hidden = true;
+        return;
+    }
+    const from = Math.floor((Math.max(1, row) - 1) / ROWS) * ROWS + 1;
+    const to = Math.min(steps.length, from + ROWS - 1);
+    const columns = $("columns").value.trim();
+    const wantedRows = `${from} ${to} ${columns}`;
+    if (chartShown !== wantedRows) {
+        const words = ["chart", "m.l4", "trace", "--svg", "--from", `${from}`, "--to", `${to}`, ...(columns ? ["--threads", columns] : [])];
+        const [svg] = await program.perform("step", { "m.l4": shown.text, trace: steps.map((line) => `${line}\n`).join("") }, words);
+        if (isOld()) return;
+        if (svg.status !== 0) {
+            chart.clear(svg.faults.replace("threads item", "no thread of this text: item"));
+            chartShown = "";
+            return;
+        }
+        chartShown = wantedRows;
+        chart.draw(svg.out, steps.length);
+        showPager(from, to, steps.length);
+    }
+    fit();
+    chart.choose(row, told ? row - told + 1 : row + 1);
+}
+
+// The threads stand beside the chart where there is room for both, else below it.
+const ROOM_FOR_THREADS = 250; // pixels
+const ROOM_FOR_BOTH = 900;
+function fit() {
+    const { clientWidth } = $("pane");
+    $("pane").classList.toggle("beside", clientWidth >= ROOM_FOR_BOTH || clientWidth - chart.width >= ROOM_FOR_THREADS);
+}
+
+function showPager(from, to, total) {
+    const go = (row) => toStep(Math.min(total, Math.max(1, row)));
+    $("pager").hidden = total <= ROWS;
+    const number = el("input", { value: from, inputMode: "numeric", onchange: () => go(Number(number.value) || 1) });
+    number.setAttribute("aria-label", "to step");
+    const paged = (text, isDisabled, row) => Object.assign(button(text, () => go(row)), { disabled: isDisabled });
+    $("pager").replaceChildren(
+        paged("|◀ first", from === 1, 1),
+        paged("◀ earlier", from === 1, from - ROWS),
+        number,
+        el("span", { textContent: `to ${to} of ${total} steps` }),
+        paged("later ▶", to === total, to + 1),
+        paged("last ▶|", to === total, total),
+    );
+}
+
+const toStep = (step) => guarded(async () => view(await session.placeOf(step)));
+
+// What may happen next. What is shown of another state is greyed, and can't be pressed, until the new is there.
+let nextTimer = 0;
+function nextIsOld() {
+    clearTimeout(nextTimer);
+    $("next").classList.add("old");
+    $("next").setAttribute("aria-busy", "true");
+}
+function nextIsNew() {
+    $("next").classList.remove("old");
+    $("next").removeAttribute("aria-busy");
+}
+function nextSoon() {
+    clearTimeout(nextTimer);
+    nextTimer = setTimeout(() => guarded(showNext), 30);
+}
+
+async function showNext() {
+    const shown = session;
+    const { at } = shown;
+    const state = shown.states.get(at);
+    const isOld = () => shown !== session || at !== session.at;
+    if (!state || isFault(state.made)) {
+        $("next").replaceChildren();
+        nextIsNew();
+        return;
+    }
+    const began = performance.now();
+    const looking = setTimeout(() => $("next").replaceChildren(el("p", { className: "none", textContent: "looking .." })), 600);
+    const onPart = (part) => {
+        if (isOld() || performance.now() - began < 400) return;
+        clearTimeout(looking);
+        drawNext(part, state, true);
+        $("next").classList.remove("old");
+    };
+    let answer;
+    try {
+        answer = await shown.next(onPart);
+    } catch (trap) {
+        if (trap instanceof Stopped) return;
+        throw trap;
+    } finally {
+        clearTimeout(looking);
+    }
+    if (isOld()) return;
+    drawNext(answer, state, false);
+    nextIsNew();
+    document.body.dataset.next = `${at}`;
+}
+
+const KINDS = {
+    turn: () => "takes a turn",
+    letter: ({ from }) => `handles the letter from cpu ${from}`,
+    mail: () => "handles a letter",
+    own: () => "takes a turn, letters wait",
+    tick: () => "its clock goes on",
+    silent: () => "works on",
+};
+
+function drawNext({ found, others }, state, isPart) {
+    const place = $("next");
+    const focused = place.contains(document.activeElement) ? document.activeElement.dataset.cpu ?? "" : null;
+    const choices = found.map((choice, number) => choiceButton(choice, number + 1));
+    const isAtRest = state.report.ending === "quiet";
+    const nothing = isAtRest ? "Nothing: all processors are at rest." : "Nothing that tells a step, but letters are under way.";
+    const note = isPart ? "looking at the other processors .." : found.length ? null : nothing;
+    place.replaceChildren(...choices, ...(note ? [el("p", { className: "none", textContent: note })] : []), ...(isAtRest || isPart ? [] : [otherItems(others, !found.length)]));
+    if (focused === null) return;
+    const again = place.querySelector(`[data-cpu="${focused}"]`) ?? place.querySelector("[data-item]") ?? $("back");
+    again.focus();
+}
+
+function choiceButton(choice, number) {
+    const { cpu, item, kind, steps } = choice;
+    const made = el(
+        "button",
+        { className: `choice${steps.length ? "" : " silent"}`, title: `item ${item}`, onclick: () => perform(item) },
+        el("kbd", { textContent: number < 10 ? number : "·" }),
+        el("span", { className: "told" }, ...(steps.length ? steps : ["nothing to tell yet"]).map((step) => el("span", { textContent: step }))),
+        el("span", { className: "what", textContent: `cpu ${cpu} ${KINDS[kind](choice)}` }),
+    );
+    made.dataset.item = item;
+    made.dataset.cpu = cpu;
+    return made;
+}
+
+// Items of one's own, and those of which it is not known whether they do anything.
+function otherItems(others, isOpen) {
+    const typed = el("input", { placeholder: "c0, 1:0, t0:24" });
+    typed.setAttribute("aria-label", "other items, joined by commas");
+    const form = el("form", { className: "bar" }, "other items", typed, el("button", { textContent: "Do" }));
+    form.onsubmit = (event) => {
+        event.preventDefault();
+        const items = listOf(typed.value);
+        if (items.length) perform(...items);
+    };
+    const silent = others.slice(0, 40).map((item) => button(item, () => perform(item)));
+    const tells = silent.length ? [el("div", { className: "bar" }, "tell nothing, if they do anything:", ...silent)] : [];
+    return el("details", { className: "others", open: isOpen }, el("summary", { textContent: "Other items" }), form, ...tells);
+}

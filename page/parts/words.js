@@ -1,0 +1,54 @@
+// What the page says of a state in sentences.
+
+const waitText = ({ id, wait }) =>
+    wait.phase === "send" ? `${id} waits for ${wait.to} to take its message` : `${id} waits for a message of ${wait.to}`;
+const shortWait = (wait) => (wait.phase === "send" ? `sends to ${wait.to}` : `waits for ${wait.to}`);
+const counted = (number, one, many = `${one}s`) => `${number} ${Number(number) === 1 ? one : many}`;
+const among = (list, most) => (list.length > most ? [...list.slice(0, most), `and ${list.length - most} more`] : list);
+
+// A tone, a sentence, and lines below it, of the state behind so many items.
+function verdictOf({ report, steps }, isBeginning) {
+    const stuck = report.threads.filter((thread) => thread.isStuck);
+    const open = report.threads.filter((thread) => thread.wait && !thread.isStuck);
+    const isAtRest = report.ending === "quiet";
+    if (report.deadlocks.length) {
+        const circles = report.deadlocks.flatMap((ids) => ids.map((id) => waitText(report.byId.get(id))));
+        const others = stuck.filter((thread) => !thread.isDead).map((thread) => `${waitText(thread)}, for ever`);
+        const end = isAtRest ? "none of them can ever go on." : "only a thread that still runs could end that.";
+        return { tone: "bad", head: `Deadlock: these wait for each other, and ${end}`, lines: among([...circles, ...others], 10) };
+    }
+    if (isAtRest && stuck.length) {
+        const head = `At rest, and ${counted(stuck.length, "thread waits", "threads wait")} for ever.`;
+        return { tone: "bad", head, lines: among(stuck.map(waitText), 8) };
+    }
+    if (isAtRest) {
+        const ids = among(open.map((thread) => thread.id), 6).join(", ");
+        const servers = open.length ? [`${ids} ${open.length === 1 ? "waits" : "wait"} for anybody, as a server does.`] : [];
+        return { tone: "good", head: "At rest: nothing is left to do, and nobody is stuck.", lines: servers };
+    }
+    if (report.circles.length) {
+        const lines = report.circles.map((ids) => ids.map((id) => waitText(report.byId.get(id))).join("; "));
+        return { tone: "fair", head: "It goes on, with a circle of those who wait:", lines };
+    }
+    if (isBeginning) return { tone: "", head: "At the beginning. Press Run, or choose below what happens first.", lines: [] };
+    return { tone: "", head: `It goes on: ${counted(steps.length, "step")} so far.`, lines: [] };
+}
+
+// What a search for endings came to: of all, of the stuck ones, or of those with or without a line.
+function searchText({ endings, last, isStuckOnly, isPart }) {
+    const [, states, , depth, whole] = last.split(" ");
+    const isWhole = whole === "whole";
+    const bad = endings.filter(({ report }) => report.threads.some((thread) => thread.isStuck)).length;
+    const tone = bad ? "bad" : isWhole ? "good" : "fair";
+    const searched = isWhole
+        ? `All orders of the processors were searched: ${counted(states, "state")}, up to ${counted(depth, "item")}.`
+        : `Cut off after ${counted(states, "state")}, ${counted(depth, "item")}: there may be more. Limits has the numbers.`;
+    const choose = endings.length ? ["Choose one to step through it."] : [];
+    return { tone, head: endingsText(endings.length, bad, isStuckOnly, isPart), lines: [searched, ...choose] };
+}
+function endingsText(all, bad, isStuckOnly, isPart) {
+    const such = isPart ? "such " : "";
+    if (isStuckOnly) return all ? `${counted(all, `${such}ending`)} in which somebody waits for ever.` : `No ${such}ending in which somebody waits for ever.`;
+    const some = bad ? `, ${bad} of them with somebody who waits for ever` : "";
+    return all ? `${counted(all, `${such}ending`)}${some}.` : `No ${such}ending.`;
+}

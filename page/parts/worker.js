@@ -1,0 +1,37 @@
+// A worker: performs commands, one after the other. A message names what is wanted, and its answer has the same id.
+const decoder = new TextDecoder();
+let compiled;
+
+async function performed(words, files, limit) {
+    const began = performance.now();
+    const made = await call(compiled, words, files, limit);
+    const [out, faults, recorded] = [made.out, made.faults, made.recorded].map((bytes) => decoder.decode(bytes));
+    return { words, status: made.status, out, faults, recorded, took: performance.now() - began };
+}
+
+// Performs a command over a text and a list.
+const asker = ({ text, limit }) => (words, list) => performed(words, { "m.l4": text, list: list.join(",") }, limit);
+
+const WORK = {
+    // Each of these commands over these files, in order.
+    async commands({ commands, files, limit }) {
+        const all = [];
+        for (const words of commands) all.push(await performed(words, files, limit));
+        return all;
+    },
+    next: (asked) => nextOf({ ...asked, ask: asker(asked), part: (found) => postMessage({ id: asked.id, part: found }) }),
+    rest: (asked) => restOf({ ...asked, ask: asker(asked) }),
+};
+
+onmessage = async ({ data }) => {
+    if (data.module) {
+        compiled = data.module;
+        return;
+    }
+    const { id, kind } = data;
+    try {
+        postMessage({ id, answer: await WORK[kind](data) });
+    } catch (trap) {
+        postMessage({ id, trap: String(trap) });
+    }
+};

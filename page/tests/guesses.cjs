@@ -1,0 +1,111 @@
+// node guesses.cjs MODULE.wasm TOP: what the page works out for itself, against what the program says, on the examples and cases.
+//
+// Is each item of the shortest schedule of an ending offered at its place? Does the line at which a thread is shown agree with its state?
+// Does going on to rest tell the steps of --then-rest?
+const fs = require("fs");
+const path = require("path");
+const vm = require("vm");
+const { call } = require("../module/call.js");
+
+const [, , module_, top] = process.argv;
+const MOST_ENDINGS = 2;
+const MOST_ITEMS = 30; // of a list
+const EACH = 7; // items, at which the way to rest is tried
+
+const scope = vm.createContext({ console });
+const parts = ["reading.js", "places.js", "next.js", "rest.js"].map((name) => fs.readFileSync(path.join(__dirname, "..", "parts", name), "utf8"));
+vm.runInContext(`${parts.join("\n")}\nglobalThis.parts = { machineOf, reportOf, endingsOf, linesOf, listOf, placesOf, nextOf, restOf };`, scope);
+const { machineOf, reportOf, endingsOf, linesOf, listOf, placesOf, nextOf, restOf } = scope.parts;
+
+function texts() {
+    const folder = path.join(top, "crates", "l4_cases", "data");
+    return [folder, path.join(folder, "examples")].flatMap((it) => fs.readdirSync(it).filter((name) => name.endsWith(".l4")).sort().map((name) => path.join(it, name)));
+}
+
+// What a thread in a state may be at.
+function fits(state, [word, to, from]) {
+    if (state === "sending") return word === "ipc" && to !== "nil";
+    if (state === "receiving") return word === "ipc" && from !== "nil";
+    if (state === "ordering") return word === "exregs" || word === "delete";
+    return state === "ended" ? word === "end" : true;
+}
+
+async function main() {
+    const compiled = new WebAssembly.Module(fs.readFileSync(module_));
+    const counts = { items: 0, silent: 0, missed: 0, places: 0, wrong: 0, rests: 0, other: 0 };
+    const decoder = new TextDecoder();
+    for (const file of texts()) {
+        const text = fs.readFileSync(file, "utf8");
+        const name = path.basename(file);
+        const { cpus, threads } = machineOf(text);
+        const perform = async (words, files = {}) => {
+            const made = await call(compiled, words, { "m.l4": text, ...files });
+            return { status: made.status, out: decoder.decode(made.out), recorded: decoder.decode(made.recorded) };
+        };
+        const ask = (words, list) => perform(words, { list: list.join(",") });
+        const replay = ["replay", "m.l4", "--schedule", "@list"];
+        const searched = await perform(["endings", "m.l4", "--states", "3000"]);
+        if (searched.status === 1) continue;
+        const run = await perform(["run", "m.l4", "--turns", "300", "--record", "list"]);
+        const turns = Math.max(0, ...Array.from({ length: cpus }, (_, cpu) => threads.filter((thread) => thread.cpu === cpu).length));
+        const lists = endingsOf(searched.out).endings.slice(0, MOST_ENDINGS).map(({ list }) => list);
+        for (const list of [...lists, listOf(run.recorded)]) {
+            const isEnding = lists.includes(list);
+            for (let place = 0; place <= Math.min(list.length, MOST_ITEMS); place += 1) {
+                const before = list.slice(0, place);
+                if (isEnding) await triesNext({ list, place, before, name, cpus, turns, ask, counts });
+                await triesPlaces({ before, name, text, ask, replay, counts });
+                if (place % EACH === 0) await triesRest({ before, name, cpus, ask, replay, counts });
+            }
+        }
+    }
+    console.log(`${counts.items} items of endings: ${counts.silent} offered only among those that tell nothing, ${counts.missed} not at all`);
+    console.log(`${counts.places} threads at lines: ${counts.wrong} do not fit their state`);
+    console.log(`${counts.rests} ways to rest: ${counts.other} tell other steps than --then-rest`);
+    process.exitCode = counts.missed || counts.wrong || counts.other || !counts.items ? 1 : 0;
+}
+
+async function triesNext({ list, place, before, name, cpus, turns, ask, counts }) {
+    const { found, others } = await nextOf({ list: before, cpus, turns, ask });
+    const offered = found.map(({ item }) => item);
+    if (place === list.length) {
+        if (offered.length) console.log(`${name}: offered at rest: ${offered.join(" ")}`);
+        return;
+    }
+    counts.items += 1;
+    const item = list[place];
+    // Where a turn is that of the core, and where it handles this letter, the turn alone is offered.
+    if (offered.includes(item) || offered.includes(item.replace(/^c/, "").replace(/:.*/, ""))) return;
+    if (others.includes(item)) {
+        counts.silent += 1;
+        return;
+    }
+    counts.missed += 1;
+    console.log(`${name}: not offered: ${item} behind ${before.join(",") || "nothing"}; offered: ${offered.join(" ")}`);
+}
+
+async function triesPlaces({ before, name, text, ask, replay, counts }) {
+    const trace = await ask(replay, before);
+    const report = reportOf((await ask([...replay, "--report", "--waits"], before)).out);
+    for (const { id, line } of placesOf(machineOf(text), linesOf(trace.out))) {
+        const { state } = report.byId.get(id);
+        const words = line ? text.split("\n")[line - 1].split(" ") : ["end"];
+        counts.places += 1;
+        if (fits(state, words)) continue;
+        counts.wrong += 1;
+        console.log(`${name}: ${before.join(",")}: ${id} is ${state} at line ${line}: ${words.join(" ")}`);
+    }
+}
+
+async function triesRest({ before, name, cpus, ask, replay, counts }) {
+    const most = 5000;
+    const { list } = await restOf({ list: before, cpus, most, ask });
+    const theirs = await ask([...replay, "--then-rest", "--turns", `${most}`], before);
+    const mine = await ask(replay, list);
+    counts.rests += 1;
+    if (mine.out === theirs.out || theirs.status !== 0) return;
+    counts.other += 1;
+    console.log(`${name}: to rest behind ${before.join(",") || "nothing"}: ${list.slice(before.length).join(",")}`);
+}
+
+main();

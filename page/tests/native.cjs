@@ -1,0 +1,26 @@
+// What the program prints: a command with its files in a folder of its own.
+const { spawnSync } = require("child_process");
+const fs = require("fs");
+const os = require("os");
+const path = require("path");
+
+function printedBy(program, { words, files }) {
+    const folder = fs.mkdtempSync(path.join(os.tmpdir(), "page-case-"));
+    try {
+        for (const [name, text] of Object.entries(files)) {
+            if (path.isAbsolute(name) || name.startsWith("..")) continue;
+            fs.mkdirSync(path.dirname(path.join(folder, name)), { recursive: true });
+            fs.writeFileSync(path.join(folder, name), text);
+        }
+        const env = { ...process.env };
+        for (const name of ["COLUMNS", "TERM"]) delete env[name];
+        const done = spawnSync(program, words, { cwd: folder, env, input: files["/dev/stdin"] ?? "", maxBuffer: 2 ** 30 });
+        return { status: done.status, out: done.stdout, faults: done.stderr };
+    } finally {
+        fs.rmSync(folder, { recursive: true });
+    }
+}
+
+const isSame = (one, other) => one.status === other.status && !Buffer.compare(Buffer.from(one.out), other.out) && !Buffer.compare(Buffer.from(one.faults), other.faults);
+
+module.exports = { printedBy, isSame };

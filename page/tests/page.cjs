@@ -1,0 +1,415 @@
+// node page.cjs chromium|firefox PAGE.html PROGRAM TOP PICTURES: opens the page in a browser, compares each command of all cases with the
+// program's bytes, presses what there is to press, and takes pictures.
+const fs = require("fs");
+const os = require("os");
+const path = require("path");
+const zlib = require("zlib");
+const { Chromium, Firefox, sleep } = require("./browsers.cjs");
+const { allCommands } = require("./cases.cjs");
+const { printedBy, isSame } = require("./native.cjs");
+const { ring, loop, locksInRing } = require("./texts.cjs");
+
+const [, , name, page, program, top, pictures] = process.argv;
+let good = 0;
+let bad = 0;
+function check(what, holds, found) {
+    if (holds) {
+        good += 1;
+        return;
+    }
+    bad += 1;
+    console.log(`${name}: not so: ${what}${found === undefined ? "" : `; found ${JSON.stringify(found)}`}`);
+}
+
+const IDLE = "!document.body.hasAttribute('data-busy') && !document.getElementById('next').hasAttribute('aria-busy')";
+const quoted = JSON.stringify;
+const linkOf = (way) => `#z=${zlib.deflateRawSync(JSON.stringify(way)).toString("base64url")}`;
+
+// What a person does at the page.
+function hands(browser) {
+    const run = (body) => browser.run(body);
+    const it = {
+        run,
+        idle: async () => {
+            await sleep(100);
+            await browser.until(IDLE);
+            await sleep(60);
+        },
+        text: (id) => run(`return document.getElementById(${quoted(id)}).innerText`),
+        count: (selector) => run(`return document.querySelectorAll(${quoted(selector)}).length`),
+        focused: () => run("return document.activeElement.id"),
+        click: async (selector) => {
+            await run(`document.querySelector(${quoted(selector)}).click();`);
+            await it.idle();
+        },
+        fill: (id, value, event = "input") => run(`const at = document.getElementById(${quoted(id)}); at.focus(); at.value = ${quoted(value)}; at.dispatchEvent(new Event(${quoted(event)}, { bubbles: true }));`),
+        type: async (value) => {
+            const before = await run("return document.body.dataset.linted");
+            await it.fill("text", value);
+            await browser.until(`document.body.dataset.linted !== ${quoted(before)}`);
+            await it.idle();
+        },
+        verb: async (verb) => {
+            await run("delete document.body.dataset.did;");
+            await run(`document.querySelector("[data-verb=${verb}]").click();`);
+            await browser.until(`document.body.dataset.did === "${verb}"`);
+            await it.idle();
+        },
+        go: async (hash) => {
+            await browser.go(hash);
+            await it.idle();
+        },
+        slide: async (place) => {
+            await it.fill("slider", `${place}`);
+            await browser.until(`document.getElementById("where").textContent.startsWith("item ${place} of")`);
+            await it.idle();
+        },
+        picture: (file) => browser.shot(path.join(pictures, `${name}-${file}.png`)),
+    };
+    return it;
+}
+
+// Every command of all cases, in the page's own worker.
+async function comparesCases(browser, { run, go }) {
+    await go("#example=first.l4");
+    const { commands, left } = allCommands(top);
+    let others = 0;
+    let inPage = 0;
+    for (let at = 0; at < commands.length; at += 20) {
+        const part = commands.slice(at, at + 20);
+        const sent = part.map(({ words, files }) => [words, Object.fromEntries(Object.entries(files).map(([file, text]) => [file, text.toString("latin1")]))]);
+        const began = Date.now();
+        const made = await run(`
+            const bytes = (text) => Uint8Array.from(text, (letter) => letter.charCodeAt(0));
+            const all = [];
+            for (const [words, files] of ${JSON.stringify(sent).replaceAll("</", "<\\/")}) {
+                for (const name in files) files[name] = bytes(files[name]);
+                const [it] = await program.perform("long", files, words);
+                all.push([it.status, it.out, it.faults]);
+            }
+            return all;`);
+        inPage += Date.now() - began;
+        made.forEach(([status, out, faults], place) => {
+            if (isSame({ status, out, faults }, printedBy(program, part[place]))) return;
+            others += 1;
+            console.log(`${name}: other: ${part[place].name}: ${part[place].words.join(" ").slice(0, 200)}: status ${status}`);
+        });
+    }
+    check("each command of the cases prints the program's bytes", others === 0 && commands.length > 800, others);
+    console.log(`${name}: ${commands.length} commands of the cases, ${others} differ, ${left} left out, ${(inPage / 1000).toFixed(1)} s in the page`);
+}
+
+// The picture of a text lies under the text: as high, so each line is broken at the same words.
+async function liesUnderItsText(hand, what) {
+    const [area, paint] = await hand.run("return [Math.max(editor.area.scrollHeight, editor.area.clientHeight), Math.max(editor.paint.offsetHeight + 16, editor.area.clientHeight)]");
+    check(`${what}: the colours lie under the words`, Math.abs(area - paint) <= 1, [area, paint]);
+}
+
+// Each example is run, drawn and searched without a fault.
+async function runsExamples(browser, hand) {
+    await hand.go("#example=first.l4");
+    check("it begins with the lesson", (await hand.text("about")).startsWith("One message"));
+    check("it offers a turn", (await hand.text("next")).includes("local 1.1"));
+    const names = await hand.run("return [...document.getElementById('examples').options].map((it) => it.value).filter(Boolean)");
+    check("all examples are in the menu", names.length === fs.readdirSync(path.join(top, "examples")).filter((it) => it.endsWith(".l4")).length, names.length);
+    for (const example of names) {
+        await hand.fill("examples", example, "change");
+        await hand.idle();
+        check(`${example} has no fault`, (await hand.count("#lint .fault")) === 0);
+        await liesUnderItsText(hand, example);
+        await hand.verb("run");
+        const rows = await hand.count("#chart .lines > div");
+        check(`${example}: its chart has its steps`, rows > 0 && rows === (await hand.run("return session.whole.length")), rows);
+        await hand.verb("stuck");
+        check(`${example}: its search was whole`, /All orders of the processors were searched/.test(await hand.run("return document.getElementById('found').textContent")));
+    }
+}
+
+// The deadlock of callback.l4, as somebody finds it who presses Run.
+async function findsDeadlock(browser, hand) {
+    await hand.go("#example=callback.l4");
+    await hand.verb("run");
+    const verdict = await hand.text("verdict");
+    check("a deadlock is told", /Deadlock/.test(verdict) && /1\.1 waits for a message of 9\.1/.test(verdict) && /8\.1 waits for 1\.1 to take its message/.test(verdict), verdict);
+    check("the text shows who waits where", (await hand.count(".paint b.stuck")) === 3);
+    check("three threads are stuck", (await hand.count(".card.stuck")) === 3);
+    await hand.picture("callback-1200");
+}
+
+// A line with a fault is marked as one types, and told on hover.
+async function marksFaults(browser, hand) {
+    await hand.go("#example=first.l4");
+    await hand.type("l4 1 64\ncpus 1\nthread 1.1 cpu 0 space 1\nset 64 10\nipx 2.1\nipc 9.1 nil never never\n");
+    check("two lines are marked", (await hand.count(".paint .line.fault")) === 2);
+    check("the list tells the hint", /a register, 1 to 63/.test(await hand.text("lint")), await hand.text("lint"));
+    check("the fault stands above", /Line 4: BadNumber.*1 to 63/.test(await hand.text("verdict")), await hand.text("verdict"));
+    const [left, top_] = await hand.run("const box = document.querySelector('.paint .under').getBoundingClientRect(); return [box.left + 4, box.top + 6]");
+    await browser.move(left, top_);
+    await sleep(150);
+    check("the hint is told on hover", /1 to 63/.test(await hand.run("return document.querySelector('.tip').hidden ? '' : document.querySelector('.tip').textContent")));
+    await hand.picture("fault-1200");
+    await hand.click("#lint button");
+    check("a mark leads to its word", (await hand.run("const at = document.getElementById('text'); return at.value.slice(at.selectionStart, at.selectionEnd)")) === "64");
+    check("the line of the caret is told", /line 4: .*1 to 63/.test(await hand.text("atline")), await hand.text("atline"));
+    await hand.type("l4 1 64\ncpus 1\nthread 1.1 cpu 0 space 1\nipc 9.1 nil never never\n");
+    check("a doubt is marked", (await hand.count(".paint .line.doubt")) === 1 && (await hand.count(".paint .line.fault")) === 0);
+}
+
+// The stuck ending of locks.l4, found by the search and again by hand.
+async function findsStuckEnding(browser, hand) {
+    await hand.go("#example=locks.l4");
+    await hand.verb("endings");
+    check("three endings", (await hand.count(".ending")) === 3);
+    check("one is stuck", (await hand.count(".ending.bad")) === 1);
+    await hand.picture("endings-1200");
+    await hand.click(".ending.bad");
+    check("an ending opens step by step", /item 14 of 14/.test(await hand.text("where")), await hand.text("where"));
+    check("who is stuck is told", /4 threads wait for ever/.test(await hand.text("verdict")), await hand.text("verdict"));
+    await hand.picture("locks-1200");
+    const list = await hand.run("return session.list");
+
+    await hand.go("#example=locks.l4");
+    for (const [place, item] of list.entries()) {
+        const pressed = await hand.run(`
+            const all = [...document.querySelectorAll("#next [data-item]")];
+            const it = all.find((one) => one.dataset.item === "${item}") ?? all.find((one) => one.dataset.item === "${item.replace("c", "")}");
+            it?.click();
+            return it?.dataset.item ?? null;`);
+        check(`item ${place + 1} of the ending, ${item}, is offered`, pressed !== null);
+        if (pressed === null) break;
+        await browser.until(`document.body.dataset.next === "${place + 1}"`);
+        await hand.idle();
+    }
+    check("the same ending by hand", /4 threads wait for ever/.test(await hand.text("verdict")), await hand.text("verdict"));
+    check("nothing is next", /Nothing/.test(await hand.text("next")));
+    await hand.click("#tab-endings");
+    await hand.fill("with", "thread 1.1 ended ..");
+    await hand.run("document.getElementById('only').requestSubmit();");
+    await browser.until("document.querySelectorAll('.ending').length === 2");
+    check("endings with a line", true);
+}
+
+// Back, forward, to a row, and on to rest.
+async function steps(browser, hand) {
+    await hand.go("#example=locks.l4&schedule=c0,c0,c0,c0,c0,c0,c1,1:0,c1,c1,c1,c1,c1,0:1");
+    const at = async (what, place) => check(what, (await hand.text("where")).startsWith(`item ${place} of 14`), await hand.text("where"));
+    await at("a schedule in the address", 14);
+    await hand.click("#back");
+    await hand.click("#back");
+    await at("back", 12);
+    await hand.click("#forth");
+    await at("forward", 13);
+    await hand.click("#first");
+    await at("to the beginning", 0);
+    await hand.click("#last");
+    await at("to the end", 14);
+    await hand.run("document.querySelector('#chart [data-step=\"4\"]').dispatchEvent(new MouseEvent('click', { bubbles: true }));");
+    await hand.idle();
+    check("a row leads to its step", /step 4/.test(await hand.text("where")), await hand.text("where"));
+    await hand.run("document.getElementById('chart').focus();");
+    await browser.key("ArrowDown");
+    await hand.idle();
+    check("an arrow in the chart", /step 5/.test(await hand.text("where")), await hand.text("where"));
+    await hand.picture("row-1200");
+    const done = await hand.run("return session.done.join(',')");
+    await hand.click("#rest");
+    check("on to rest", /At rest/.test(await hand.text("verdict")), await hand.text("verdict"));
+    const files = { "m.l4": await hand.run("return session.text") };
+    const wanted = printedBy(program, { words: ["replay", "m.l4", "--schedule", done, "--then-rest"], files });
+    check("the steps of that are those of --then-rest", (await hand.run("return session.whole.join('\\n') + '\\n'")) === wanted.out.toString());
+    await hand.type(`${await hand.run("return editor.text")}; changed\n`);
+    check("that the text changed is told", !(await hand.run("return document.getElementById('stale').hidden")));
+    await hand.click("#zero");
+    check("begun anew", (await hand.text("where")).startsWith("item 0 of 0"));
+}
+
+// All by the keyboard.
+async function worksByKeys(browser, hand) {
+    await hand.go("#example=deadlock.l4");
+    await hand.run("document.activeElement.blur();");
+    for (const key of ["1", "1"]) {
+        await browser.key(key);
+        await hand.idle();
+    }
+    check("keys 1 do things", /item 2 of 2/.test(await hand.text("where")), await hand.text("where"));
+    await browser.key("[");
+    await hand.idle();
+    check("key [", /item 1 of 2/.test(await hand.text("where")));
+    await browser.key("]");
+    await hand.idle();
+    check("key ]", /item 2 of 2/.test(await hand.text("where")));
+    await browser.key("Enter", true);
+    await browser.until("document.body.dataset.did === 'run'");
+    await hand.idle();
+    check("Ctrl Enter", /Deadlock/.test(await hand.text("verdict")), await hand.text("verdict"));
+    await browser.key("?");
+    check("? opens the help", await hand.run("return document.getElementById('help').open"));
+    await hand.picture("help-1200");
+    await browser.key("Escape");
+    check("Escape closes it", !(await hand.run("return document.getElementById('help').open")));
+    await browser.key("e");
+    check("E goes to the text", (await hand.focused()) === "text");
+    await browser.key("Escape");
+    check("Escape leaves it", (await hand.focused()) === "tab-steps");
+    await browser.key("ArrowRight");
+    check("arrows choose a tab", (await hand.focused()) === "tab-endings");
+    await browser.key("ArrowLeft");
+    const stops = new Set();
+    await hand.run("document.activeElement.blur();");
+    for (let count = 0; count < 60; count += 1) {
+        await browser.key("Tab");
+        stops.add(await hand.run("return document.activeElement.id || document.activeElement.dataset.verb || ''"));
+    }
+    const wanted = ["examples", "run", "text", "split", "tab-steps", "slider", "chart"];
+    check("Tab reaches all parts", wanted.every((id) => stops.has(id)), [...stops]);
+}
+
+async function judges(browser, hand) {
+    await hand.go("#example=locks.l4&do=run");
+    await hand.click("#tab-expect");
+    await hand.click("#fromreport");
+    await hand.click("#judge");
+    check("a run meets its own report", /As expected/.test(await hand.text("judged")), await hand.text("judged"));
+    await hand.fill("wanted", "thread 1.1 sending ..\nnever waiting ..\nending quiet\n");
+    await hand.click("#judge");
+    check("what does not hold is told", /1 line does not hold/.test(await hand.text("judged")), await hand.text("judged"));
+    await hand.picture("expect-1200");
+    await hand.click("#judgeall");
+    check("all endings are judged", /ending 2/.test(await hand.text("missing")), await hand.text("missing"));
+}
+
+// A text in the address, and a link that is damaged.
+async function shares(browser, hand) {
+    await hand.go("#example=first.l4");
+    await hand.type("l4 1 64\ncpus 1\nthread 1.1 cpu 0 space 1\nend\n");
+    await browser.until("location.hash.startsWith('#z=')");
+    const hash = await hand.run("return location.hash");
+    await hand.go(hash);
+    check("the address has what was typed", (await hand.run("return editor.text")) === "l4 1 64\ncpus 1\nthread 1.1 cpu 0 space 1\nend\n");
+    await hand.go("#example=locks.l4&schedule=c0,c0,c1");
+    await hand.click("#back");
+    await hand.click("#link");
+    await browser.until("document.getElementById('status').textContent.startsWith('link copied')");
+    await hand.go(await hand.run("return location.hash"));
+    check("a link has the list and the place", (await hand.text("where")).startsWith("item 2 of 3"), await hand.text("where"));
+    check("and the text", /Two locks/.test(await hand.run("return editor.text")));
+    await hand.go("#text=l4%201%2064%0Acpus%201%0Athread%201.1%20cpu%200%20space%201%0Aend%0A&do=run");
+    check("a text in plain letters", /At rest/.test(await hand.text("verdict")), await hand.text("verdict"));
+    await hand.go("#z=damaged!");
+    check("a damaged link is told", /damaged/.test(await hand.text("status")), await hand.text("status"));
+}
+
+async function opensAndSaves(browser, hand) {
+    await hand.go("#example=late.l4");
+    await hand.run("document.getElementById('tries').open = true;");
+    await hand.click("#trieslist button");
+    check("a command of the lesson prints", (await hand.text("out")).includes("1.1"));
+    await hand.picture("output-1200");
+    for (const id of ["copy", "saveout", "savewanted", "save", "copycommand", "copylist", "take", "theme", "theme", "theme"]) await hand.click(`#${id}`);
+    await hand.run("tab('steps');");
+    for (const kind of ["svg", "html", "mermaid"]) await hand.click(`[data-save=${kind}]`);
+    const file = path.join(fs.mkdtempSync(path.join(os.tmpdir(), "page-file-")), "ring.l4");
+    fs.writeFileSync(file, ring());
+    await browser.choose("#file", file);
+    await browser.until("/thread 64.1/.test(editor.text)");
+    await hand.idle();
+    check("a file is opened", (await hand.run("return doc.name")) === "ring.l4");
+    fs.rmSync(path.dirname(file), { recursive: true });
+}
+
+async function showsManyThreads(browser, hand) {
+    await hand.go(linkOf({ n: "ring.l4", t: ring() }));
+    const began = Date.now();
+    await hand.verb("run");
+    console.log(`${name}: 64 threads: run, chart and what is next in ${Date.now() - began} ms`);
+    check("64 threads come to rest", /At rest/.test(await hand.text("verdict")), await hand.text("verdict"));
+    await hand.slide(200);
+    await hand.picture("threads64-1200");
+    await hand.click("#concerned");
+    check("only the threads of the step", (await hand.count("#chart .above .id")) <= 2, await hand.count("#chart .above .id"));
+    await hand.click("#concerned");
+    check("all threads again", (await hand.count("#chart .above .id")) === 64);
+    await hand.fill("columns", "9.9", "change");
+    await hand.idle();
+    check("a thread that there is not", /no thread of this text/.test(await hand.text("chart")), await hand.text("chart"));
+}
+
+async function showsManySteps(browser, hand) {
+    await hand.go(linkOf({ n: "loop.l4", t: loop }));
+    await hand.fill("turns", "5000");
+    const began = Date.now();
+    await hand.verb("run");
+    console.log(`${name}: 5,000 turns: run, chart and what is next in ${Date.now() - began} ms; ${await hand.text("where")}`);
+    await hand.slide(2500);
+    check("item 2500", /item 2500 of 5000/.test(await hand.text("where")));
+    await hand.picture("steps5000-1200");
+    const first = Number(await hand.run("return document.querySelector('#pager input').value"));
+    await hand.click("#pager button:nth-of-type(3)");
+    check("a page of rows on", Number(await hand.run("return document.querySelector('#pager input').value")) === first + 250);
+}
+
+async function stops(browser, hand) {
+    await hand.go(linkOf({ n: "four.l4", t: locksInRing() }));
+    await hand.fill("states", "1000000");
+    await hand.run("document.querySelector('[data-verb=endings]').click();");
+    await browser.until("/at work for/.test(document.getElementById('status').textContent)");
+    await hand.picture("busy-1200");
+    await hand.click("#stop");
+    check("a long search is stopped", /stopped/i.test(await hand.text("status")) && (await hand.run("return document.getElementById('stop').disabled")), await hand.text("status"));
+    await hand.verb("run");
+    check("and the page works on", /At rest/.test(await hand.text("verdict")), await hand.text("verdict"));
+}
+
+// The looks: dark, and as narrow as a phone.
+async function looks(browser, hand) {
+    await browser.dark(true);
+    await hand.go("#example=locks.l4&schedule=c0,c0,c0,c0,c0,c0,c1,1:0,c1,c1,c1,c1,c1,0:1");
+    await hand.slide(9);
+    check("dark where the system is", (await hand.run("return document.documentElement.dataset.theme")) === "dark");
+    await hand.picture("dark-1200");
+    await browser.dark(false);
+    await browser.size(400, 860, true);
+    for (const [file, hash] of [["first", "#example=first.l4"], ["locks", "#example=locks.l4&do=run"], ["endings", "#example=locks.l4&do=endings"]]) {
+        await hand.go(hash);
+        const width = await hand.run("return document.documentElement.scrollWidth");
+        check(`${file}: no wider than a phone`, width <= 400, width);
+        await liesUnderItsText(hand, `${file}, narrow`);
+        await hand.picture(`${file}-400`);
+    }
+    await browser.dark(true);
+    await hand.go("#example=deadlock.l4&do=run");
+    await hand.picture("dark-400");
+    await hand.run("document.getElementById('chart').scrollIntoView();");
+    await sleep(200);
+    await hand.picture("dark-chart-400");
+    await browser.dark(false);
+    await browser.size(1600, 950);
+    await hand.go("#example=locks.l4&do=run");
+    await hand.picture("locks-1600");
+}
+
+async function main() {
+    fs.mkdirSync(pictures, { recursive: true });
+    const browser = await { chromium: Chromium, firefox: Firefox }[name].open(page);
+    const hand = hands(browser);
+    const began = Date.now();
+    try {
+        await browser.size(1200, 800);
+        await browser.dark(false);
+        for (const part of [comparesCases, runsExamples, findsDeadlock, marksFaults, findsStuckEnding, steps, worksByKeys, judges, shares, opensAndSaves, showsManyThreads, showsManySteps, stops, looks]) {
+            if (process.env.PARTS && !process.env.PARTS.split(",").includes(part.name)) continue;
+            await part(browser, hand);
+        }
+    } catch (fault) {
+        bad += 1;
+        console.log(`${name}: broken off: ${fault.stack.slice(0, 700)}`);
+        await hand.picture("broken").catch(() => {});
+    } finally {
+        await browser.close();
+    }
+    for (const fault of browser.faults) console.log(`${name}: console: ${fault}`);
+    bad += browser.faults.length;
+    console.log(`${browser.version}: ${good} as wanted, ${bad} not, ${((Date.now() - began) / 1000).toFixed(0)} s`);
+    process.exitCode = bad ? 1 : 0;
+}
+main();

@@ -1,0 +1,42 @@
+// Machine texts that no example has: many threads, many steps, a long search.
+
+// A word goes round 64 threads on four processors, each of which adds one to it.
+function ring(count = 64, cpus = 4) {
+    const lines = ["l4 1 64", `cpus ${cpus}`];
+    for (let id = 1; id <= count; id += 1) {
+        const before = id === 1 ? count : id - 1;
+        const after = id === count ? 1 : id + 1;
+        lines.push(`thread ${id}.1 cpu ${(id - 1) % cpus} space ${id}`);
+        if (id === 1) lines.push("tag 0x10001", "set 1 1", `ipc ${after}.1 nil never never`, `ipc nil ${before}.1 never never`);
+        else lines.push(`ipc nil ${before}.1 never never`, "add 1 1", "tag 0x10001", `ipc ${after}.1 nil never never`);
+    }
+    return `${lines.join("\n")}\n`;
+}
+
+// A client and a server that call and answer for ever.
+const loop = `l4 1 64
+cpus 1
+thread 1.1 cpu 0 space 1
+ipc 2.1 2.1 never never
+jump 0
+thread 2.1 cpu 0 space 2
+ipc nil any never never
+ipc last any never never
+jump 1
+`;
+
+// Four who each take two locks in a ring, each with a processor: its search takes long.
+function locksInRing() {
+    const lines = ["l4 1 64", "cpus 4"];
+    for (let place = 0; place < 4; place += 1) {
+        const first = 10 * (place + 1);
+        const second = 10 * (((place + 1) % 4) + 1);
+        lines.push(`thread ${place + 1}.1 cpu ${place} space ${place + 1}`);
+        for (const to of [first + 1, second + 1, second + 2, first + 2]) lines.push(`ipc ${to}.1 nil never never`);
+        lines.push(`thread ${first + 1}.1 cpu ${place} space 9`, "ipc nil any never never", `ipc nil ${first + 2}.1 never never`, "jump 0");
+        lines.push(`thread ${first + 2}.1 cpu ${place} space 9`, "ipc nil any never never", `ipc ${first + 1}.1 nil never never`, "jump 0");
+    }
+    return `${lines.join("\n")}\n`;
+}
+
+module.exports = { ring, loop, locksInRing };

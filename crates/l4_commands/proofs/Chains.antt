@@ -4,6 +4,11 @@ use Rattle.clap.specs.Words.{AddsArg, AddsSubcommand, App, Rule, app_of, rule_of
 use Rattle.clap.specs.declared.builder.arg.Arg.{Arg}
 use Rattle.clap.specs.declared.builder.command.Command.{Command}
 use Rattle.clap.specs.declared.builder.command.Command.TheViews.{out-Command}
+use Rattle.l4_commands.specs.Commands.{rule_of_row, with_command}
+use Rattle.l4_commands.specs.declared.options.Argument.{Argument}
+
+abbrev pub with_row : App → Argument → App
+with_row app row = with_rule app (rule_of_row row)
 
 pub gains : {old new : Command} {arg : Arg} {a : App} {r : Rule} → app_of old ≡ a → rule_of arg ≡ r → arg.global ≡ false → AddsArg old arg new →
     app_of new ≡ with_rule a r
@@ -16,3 +21,6 @@ stays_local old local adds = adds.globals ∙ rw (old, local) refl
 pub gains_below : {old sub new : Command} {a b : App} → app_of old ≡ a → app_of sub ≡ b → (out-Command sub).has_globals ≡ false →
     AddsSubcommand old sub new → app_of new ≡ with_subcommand a b.top
 gains_below app below local adds = adds.shape local ∙ ap₂ with_subcommand app (ap (λ (a : App). a.top) below)
+
+pub then : {old new a b c : App} → old ≡ a → b ≡ c → new ≡ with_command old b → new ≡ with_command a c
+then old below new = new ∙ ap₂ with_command old below

@@ -2,4 +2,3 @@ mod Chains
 mod CommandSimple
 mod Matched
 mod Names
-mod Simple

@@ -1,6 +1,8 @@
 -- From single values of the matches to the job that they ask for.
 use Rattle.std.proofs.Common.{◌≡◌, ℕ, Bool, true, false, Option, Some, None, [], ◌∷◌, ◌++◌, codes, refl, sym, ap, ap₂, subst, inl, inr, ◌∙◌}
-use Rattle.std.specs.Prelude.{◌⊎◌, ◌||◌, if◌then◌else◌, is_some, IfSome, MatchBool, option_map, option_and_then}
+use Rattle.std.specs.Prelude.{◌⊎◌, if◌then◌else◌, is_some, ◌≢◌, Decides, MatchBool, MatchOption, option_map, option_and_then}
+use Rattle.std.proofs.lemmas.Slice.Eq.{bytes_eq-Decides}
+use Rattle.std.specs.Str.{bytes_eq}
 use Rattle.std.specs.Str.Parse.{ParsesBool}
 use Rattle.l4_model.specs.Conditions.{◌>>=◌}
 use Rattle.clap.specs.Matches.{ReadsOne}
@@ -10,8 +12,9 @@ use Rattle.clap.specs.declared.error.kind.ErrorKind.{ErrorKind}
 use Rattle.clap.specs.declared.error.kind.ErrorKind.TheVariants.{OutOfMemory}
 use Rattle.clap.specs.declared.parser.matches.Found.{Found}
 use Rattle.clap.proofs.WalkLemmas.{first_value-rows, one_text-rows}
-use Rattle.l4_commands.specs.Asked.{ToRun, ToReplay, ToAudit, ToChart, ToSearch, ToLint, number_of, number_in, flag_of, flag_in, extras_in, judged_in, printed_in, are_both, flags_in, form_of, has_turns_alone, has_wrong_line, is_input_of, is_over_file, is_run_wrong, is_same, is_wrong_line, lists_input, names_input, run_in, rest_in, rest_turns, replay_in, audit_in, chart_in, endings_in, lint_in, IsRefusal}
+use Rattle.l4_commands.specs.Asked.{ToRun, ToReplay, ToAudit, ToChart, ToSearch, ToLint, number_of, number_in, flag_of, flag_in, extras_in, judged_in, printed_in, are_both, flags_in, form_of, has_turns_alone, has_wrong_line, is_input_of, is_over_file, are_turns_alone, is_run_wrong, is_same, line_told, lines_told, or_else, usage_text, lists_input, names_input, run_in, rest_in, rest_turns, replay_in, audit_in, chart_in, endings_in, lint_in, IsRefusal, Tells}
 use Rattle.l4_commands.specs.Files.{list_name}
+use Rattle.l4_commands.specs.declared.asked.Conflict.{Conflict}
 use Rattle.l4_commands.specs.declared.asked.Flags.{Flags}
 use Rattle.l4_commands.specs.declared.job.ChartForm.{ChartForm}
 use Rattle.l4_commands.specs.declared.job.Extras.{Extras}
@@ -30,13 +33,34 @@ flag_is : (t : Text) (b : Bool) → MatchBool b (t ≡ codes "true") (t ≡ code
 flag_is t true e = ap flag_of e
 flag_is t false e = ap flag_of e
 
+is_other : (t s : Text) → t ≢ s → bytes_eq t s ≡ false
+is_other t s other = by (bytes_eq t s) (bytes_eq-Decides t s)
+  where
+    by : (b : Bool) → Decides b (t ≡ s) → b ≡ false
+    by true same = absurd (other (same.0 refl))
+    by false same = refl
+
+no_flag : (t : Text) → t ≢ codes "true" → t ≢ codes "false" → flag_of t ≡ None
+no_flag t a b = rw (is_other t (codes "true") a, is_other t (codes "false") b) refl
+
 -- The value of a flag or of a number, read from the matches, is that of the rows.
 pub flag_read : (E : Type 0) (f : Found) (name : Text) (o : Option Bool) → (one_text f name ≡ None → o ≡ None) →
-    ((t : Text) → one_text f name ≡ Some t → ReadsOne {E = E} ParsesBool t o) → IfSome o (λ given. flag_in name (rows_of f) ≡ Some given)
-flag_read E f name None none value = tt
+    ((t : Text) → one_text f name ≡ Some t → ReadsOne {E = E} ParsesBool t o) →
+    MatchOption o (flag_in name (rows_of f) ≡ None) (λ given. flag_in name (rows_of f) ≡ Some given)
+flag_read E f name None none value = by (one_text f name) refl
+  where
+    by : (t : Option Text) → one_text f name ≡ t → flag_in name (rows_of f) ≡ None
+    by None e = ap (option_and_then flag_of) (sym (one_text-rows f name) ∙ e)
+    by (Some t) e =
+        let reads = value t e in
+        ap (option_and_then flag_of) (sym (one_text-rows f name) ∙ e) ∙ no_flag t reads.1.0 reads.1.1
 flag_read E f name (Some b) none value =
     let flag = read (λ t. MatchBool b (t ≡ codes "true") (t ≡ codes "false")) _ b none value in
     ap (option_and_then flag_of) (sym (one_text-rows f name)) ∙ ap (option_and_then flag_of) flag.1 ∙ flag_is flag.0 b flag.2
+
+exactly : (o x : Option Bool) → MatchOption o (x ≡ None) (λ given. x ≡ Some given) → o ≡ x
+exactly None x is = sym is
+exactly (Some given) x is = sym is
 
 pub number_is : (f : Found) (name : Text) (n : ℕ) → (t : Text) × (one_text f name ≡ Some t) × (n ≡ number_of t) → number_in name (rows_of f) ≡ Some n
 number_is f name n (t, given, is) =
@@ -90,9 +114,11 @@ pub rest_is : (f : Found) (goes_on : Bool) (given : Option Text) (rest : Option 
     rest_in (rows_of f) ≡ Some rest
 rest_is f goes_on given rest p q r = rw (p, text_is f (codes "turns") _ q) r
 
-pub turns_alone : (f : Found) (given : Text) → flag_in (codes "then-rest") (rows_of f) ≡ Some false → first_value f (codes "turns") ≡ Some given →
-    has_turns_alone (rows_of f) ≡ true
-turns_alone f given p q = rw (p, text_is f (codes "turns") _ q) refl
+pub turns_alone : (f : Found) (goes_on : Option Bool) (given : Option Text) (is : Bool) →
+    MatchOption goes_on (flag_in (codes "then-rest") (rows_of f) ≡ None) (λ on. flag_in (codes "then-rest") (rows_of f) ≡ Some on) →
+    first_value f (codes "turns") ≡ given → is ≡ are_turns_alone goes_on given → is ≡ has_turns_alone (rows_of f)
+turns_alone f goes_on given is p q same =
+    same ∙ ap₂ are_turns_alone (exactly goes_on _ p) (sym (text_is f (codes "turns") _ q))
 
 pub replay_is : (f : Found) (file schedule : Text) (rest : Option ℕ) (printed : Printed) (expected : Option Text) →
     first_value f (codes "file") ≡ Some file → first_value f (codes "schedule") ≡ Some schedule → rest_in (rows_of f) ≡ Some rest →
@@ -143,14 +169,20 @@ pub over_is : (f : Found) (file name : Option Text) (is : Bool) → first_value 
 over_is f file name is p q same = same ∙ ap₂ is_same (sym (text_is f (codes "file") _ p)) (sym (text_is f (codes "record") _ q))
 
 -- A line that may not be asked for.
-pub wrong_first : (f : Found) (line : Option Text) → first_value f (codes "with") ≡ line → is_wrong_line line ≡ true → true ≡ has_wrong_line (rows_of f)
-wrong_first f line p is =
-    sym (ap (λ b. b || is_wrong_line (first_of (codes "never") (rows_of f))) (ap is_wrong_line (text_is f (codes "with") _ p) ∙ is))
+pub wrong_first : (f : Found) (line : Option Text) (told : Text) → first_value f (codes "with") ≡ line → Some told ≡ line_told line →
+    Some told ≡ lines_told (rows_of f)
+wrong_first f line told p is =
+    ap (λ o. or_else o (line_told (first_of (codes "never") (rows_of f)))) (is ∙ sym (ap line_told (text_is f (codes "with") _ p)))
 
-pub wrong_second : (f : Found) (line never : Option Text) (is : Bool) → first_value f (codes "with") ≡ line → first_value f (codes "never") ≡ never →
-    is_wrong_line line ≡ false → is ≡ is_wrong_line never → is ≡ has_wrong_line (rows_of f)
-wrong_second f line never is p q right same =
-    same ∙ sym (ap₂ (λ a b. a || b) (ap is_wrong_line (text_is f (codes "with") _ p) ∙ right) (ap is_wrong_line (text_is f (codes "never") _ q)))
+pub wrong_second : (f : Found) (line never told : Option Text) → first_value f (codes "with") ≡ line → first_value f (codes "never") ≡ never →
+    None ≡ line_told line → told ≡ line_told never → told ≡ lines_told (rows_of f)
+wrong_second f line never told p q right same =
+    same ∙ ap₂ or_else (right ∙ sym (ap line_told (text_is f (codes "with") _ p))) (sym (ap line_told (text_is f (codes "never") _ q)))
+
+-- Where no conflict was found nothing is told.
+pub right_by : (o : Option Conflict) (told : Option Text) → option_map usage_text o ≡ told → is_some o ≡ false → is_some told ≡ false
+right_by None told is none = ap is_some (sym is)
+right_by (Some conflict) told is none = absurd (let bad = none in cc)
 
 -- A fault stays among the faults if more are appended.
 among_more : (kind : ErrorKind) (kinds more : Kinds) → IsAmong kind kinds → IsAmong kind (kinds ++ more)
@@ -173,3 +205,13 @@ refusal_of kinds kind (Help text) memory (k, inl e, rest) (inr among) = (k, subs
 refusal_of kinds kind (Help text) memory (k, inr none, rest) (inr among) = elim none [ ]
 refusal_of kinds kind (Usage text) memory (k, inl e, no_help, no_version) (inr among) = (k, subst (λ x. IsAmong x kinds) (sym e) among, no_help, no_version)
 refusal_of kinds kind (Usage text) memory (k, inr none, no_help, no_version) (inr among) = elim none [ ]
+
+-- Where clap found no fault it refused no words, so no usage text is its own.
+pub untold : (kinds : Kinds) (told : Option Text) (fault : WordsFault) → IsRefusal kinds fault → kinds ≡ [] → Tells told fault
+untold kinds told (Help text) refusal none = tt
+untold kinds told NoMemory refusal none = tt
+untold [] told (Usage text) (kind, among, no_help, no_version) none = elim among [ ]
+untold (k ∷ kinds) told (Usage text) refusal none = absurd (let bad = none in cc)
+
+pub told_as : (told other : Option Text) (fault : WordsFault) → told ≡ other → Tells told fault → Tells other fault
+told_as told other fault same tells = subst (λ t. Tells t fault) same tells

@@ -2,6 +2,7 @@
 use Rattle.std.specs.Prelude.{◌≡◌, ◌≢◌, ◌⊎◌, ◌&&◌, ◌||◌, ℕ, Bool, true, false, ⊤, if◌then◌else◌, not, Option, Some, None, is_none, is_some, List, [], ◌∷◌, ◌++◌, codes, option_map, option_and_then}
 use Rattle.std.specs.Option.{option_copied}
 use Rattle.std.specs.Str.{bytes_eq}
+use Rattle.std.specs.String.{string_bytes}
 use Rattle.std.specs.Str.Parse.{digits_value, without_leading_plus}
 use Rattle.l4_model.specs.Conditions.{◌>>=◌}
 use Rattle.clap.specs.Words.{Row, Text, first_of, one_of, subcommand_of}
@@ -9,8 +10,12 @@ use Rattle.clap.specs.Kinds.{Kinds, IsAmong}
 use Rattle.clap.specs.declared.error.kind.ErrorKind.{ErrorKind}
 use Rattle.clap.specs.declared.error.kind.ErrorKind.TheVariants.{DisplayHelp, DisplayVersion, ArgumentConflict}
 use Rattle.l4_lines.specs.Lines.{line_fault}
+use Rattle.l4_lines.specs.declared.lines.LineFault.{LineFault}
+use Rattle.l4_lines.specs.declared.lines.LineFault.TheVariants.{Unknown, Deleted, Number}
 use Rattle.l4_commands.specs.Commands.{faults_of, l4run_app}
 use Rattle.l4_commands.specs.Files.{is_input, list_name}
+use Rattle.l4_commands.specs.declared.asked.Conflict.{Conflict}
+use Rattle.l4_commands.specs.declared.asked.Conflict.TheVariants.{InputTwice, ScheduleOfRun, RecordAndExpect, TurnsAlone, OverItsFile, TwoForms, Line}
 use Rattle.l4_commands.specs.declared.asked.Flags.{Flags}
 use Rattle.l4_commands.specs.declared.job.ChartForm.{ChartForm}
 use Rattle.l4_commands.specs.declared.job.ChartForm.TheVariants.{Lines, Ascii, Svg, Html, Mermaid}
@@ -19,6 +24,7 @@ use Rattle.l4_commands.specs.declared.job.Job.{Job}
 use Rattle.l4_commands.specs.declared.job.Job.TheVariants.{Run, Replay, Audit, Chart, Endings, Lint}
 use Rattle.l4_commands.specs.declared.job.Judged.{Judged}
 use Rattle.l4_commands.specs.declared.job.Printed.{Printed}
+use Rattle.l4_commands.specs.declared.texts.TheConstants.{INPUT_TWICE, SCHEDULE_OF_RUN, RECORD_AND_EXPECT, TURNS_ALONE, OVER_ITS_FILE, TWO_FORMS, UNKNOWN_LINE, DELETED_LINE, NUMBER_LINE}
 use Rattle.l4_commands.specs.declared.words.WordsFault.{WordsFault}
 use Rattle.l4_commands.specs.declared.words.WordsFault.TheVariants.{Help, Usage, NoMemory}
 
@@ -93,15 +99,38 @@ is_same file name = false
 abbrev pub is_over_file : List Row → Bool
 is_over_file rows = is_same (first_of (codes "file") rows) (first_of (codes "record") rows)
 
--- Whether a run has arguments that exclude each other, or a schedule, which it does not take.
 abbrev pub are_both : Option Text → Option Text → Bool
 are_both (Some record_to) (Some expected) = true
 are_both record_to expected = false
 
+-- What is told of words that clap accepts, though they ask for no job.
+abbrev pub reason : LineFault → Text
+reason Unknown = UNKNOWN_LINE.now
+reason Deleted = DELETED_LINE.now
+reason Number = NUMBER_LINE.now
+
+abbrev pub line_text : (line reason : Text) → Text
+line_text line reason = codes "error: invalid line '" ++ (line ++ (codes "': " ++ reason))
+
+abbrev pub usage_text : Conflict → Text
+usage_text InputTwice = INPUT_TWICE.now
+usage_text ScheduleOfRun = SCHEDULE_OF_RUN.now
+usage_text RecordAndExpect = RECORD_AND_EXPECT.now
+usage_text TurnsAlone = TURNS_ALONE.now
+usage_text OverItsFile = OVER_ITS_FILE.now
+usage_text TwoForms = TWO_FORMS.now
+usage_text (Line line fault) = line_text line.now (reason fault)
+
+-- Of a run whose arguments exclude each other, or that has a schedule, which it does not take.
+abbrev pub run_told : List Row → Option Text
+run_told rows =
+    if is_over_file rows then Some OVER_ITS_FILE.now
+    else (if is_some (first_of (codes "schedule") rows) then Some SCHEDULE_OF_RUN.now
+    else (if are_both (first_of (codes "record") rows) (first_of (codes "expect") rows)
+    then Some RECORD_AND_EXPECT.now else None))
+
 abbrev pub is_run_wrong : List Row → Bool
-is_run_wrong rows =
-    is_over_file rows || (is_some (first_of (codes "schedule") rows)
-    || are_both (first_of (codes "record") rows) (first_of (codes "expect") rows))
+is_run_wrong rows = is_some (run_told rows)
 
 -- The job that the matches of each subcommand ask for.
 abbrev pub run_in : List Row → Option JobTexts
@@ -181,14 +210,21 @@ chart_in rows = do
   width ← number_in (codes "width") rows
   Some (ToChart file trace first last (first_of (codes "threads") rows) form width)
 
--- Whether a line can't be searched for: no report has it, or runs to one ending may differ in it.
-abbrev pub is_wrong_line : Option Text → Bool
-is_wrong_line None = false
-is_wrong_line (Some line) = is_some (line_fault line)
+-- Of a line that can't be searched for: no report has it, or runs to one ending may differ in it.
+abbrev pub line_told : Option Text → Option Text
+line_told None = None
+line_told (Some line) = option_map (λ fault. line_text line (reason fault)) (line_fault line)
+
+abbrev pub or_else : Option Text → Option Text → Option Text
+or_else None other = other
+or_else (Some text) other = Some text
+
+abbrev pub lines_told : List Row → Option Text
+lines_told rows =
+    or_else (line_told (first_of (codes "with") rows)) (line_told (first_of (codes "never") rows))
 
 abbrev pub has_wrong_line : List Row → Bool
-has_wrong_line rows = is_wrong_line (first_of (codes "with") rows) ||
-    is_wrong_line (first_of (codes "never") rows)
+has_wrong_line rows = is_some (lines_told rows)
 
 abbrev pub endings_in : List Row → Option JobTexts
 endings_in rows = do
@@ -243,28 +279,37 @@ asked_in p =
 abbrev pub asked_of : (words : List Text) → Option JobTexts
 asked_of words = option_and_then asked_in (subcommand_of l4run_app words)
 
--- Whether the arguments of a subcommand exclude each other, where clap does not see it. `run` and
--- `endings` also refuse single arguments.
 abbrev pub excludes : Option Flags → Bool
 excludes None = false
 excludes (Some flags) = is_none (form_of flags)
 
-abbrev pub excluding : Text × List Row → Bool
-excluding p =
-    if names_input_twice p.1 then true
-    else (if bytes_eq p.0 (codes "run") then is_run_wrong p.1
-    else (if bytes_eq p.0 (codes "replay") then has_turns_alone p.1
-    else (if bytes_eq p.0 (codes "chart") then excludes (flags_in p.1)
-    else (if bytes_eq p.0 (codes "endings") then has_wrong_line p.1
-    else false))))
+abbrev pub replay_told : List Row → Option Text
+replay_told rows = if has_turns_alone rows then Some TURNS_ALONE.now else None
 
-abbrev pub excluded_in : Option (Text × List Row) → Kinds
-excluded_in None = []
-excluded_in (Some p) = if excluding p then ArgumentConflict ∷ [] else []
+abbrev pub chart_told : List Row → Option Text
+chart_told rows = if excludes (flags_in rows) then Some TWO_FORMS.now else None
+
+-- What is told where the arguments of a subcommand ask for no job, though clap accepts them.
+abbrev pub told_in : Text × List Row → Option Text
+told_in p =
+    if names_input_twice p.1 then Some INPUT_TWICE.now
+    else (if bytes_eq p.0 (codes "run") then run_told p.1
+    else (if bytes_eq p.0 (codes "replay") then replay_told p.1
+    else (if bytes_eq p.0 (codes "chart") then chart_told p.1
+    else (if bytes_eq p.0 (codes "endings") then lines_told p.1
+    else None))))
+
+abbrev pub excluded_by : Option Text → Kinds
+excluded_by None = []
+excluded_by (Some text) = ArgumentConflict ∷ []
+
+-- What is told of words that clap accepts and that ask for no job.
+abbrev pub told_of : (words : List Text) → Option Text
+told_of words = option_and_then told_in (subcommand_of l4run_app words)
 
 -- All faults that the words may have, among them requests for help. A job has none of them.
 abbrev pub wrong_in : (words : List Text) → Kinds
-wrong_in words = faults_of words ++ excluded_in (subcommand_of l4run_app words)
+wrong_in words = faults_of words ++ excluded_by (told_of words)
 
 -- Why there is no job. Help, or the version, is answered only where the words ask for it, and usage
 -- only where they are wrong.
@@ -274,3 +319,8 @@ IsRefusal kinds (Help text) = (kind : ErrorKind) × IsAmong kind kinds ×
 IsRefusal kinds (Usage text) = (kind : ErrorKind) × IsAmong kind kinds × (kind ≢ DisplayHelp) ×
     (kind ≢ DisplayVersion)
 IsRefusal kinds NoMemory = ⊤
+
+-- A usage text is this one.
+abbrev pub Tells : Option Text → WordsFault → Type 0
+Tells told (Usage text) = told ≡ Some (string_bytes text)
+Tells told fault = ⊤

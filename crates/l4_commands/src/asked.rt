@@ -1,26 +1,24 @@
 //! The job that clap's matches of the words ask for.
-ghost use Rattle.std.specs.Prelude.{◌≡◌, ◌∷◌, [], IfSome, IsSome, IsTrue, Some, true};
+ghost use Rattle.std.specs.Prelude.{◌≡◌, IfSome, MatchOption, Some, None, option_map};
 ghost use Rattle.std.specs.Prelude.{codes, is_some, option_and_then};
 ghost use Rattle.std.specs.Option.{option_copied};
 ghost use Rattle.clap.specs.Words.{first_of, rows_of, found_of, subcommand_rows_of};
-ghost use Rattle.clap.specs.declared.error.kind.ErrorKind.TheVariants.{ArgumentConflict};
 ghost use Rattle.l4_commands.specs.Asked.{asked_by, asked_in, flag_in, number_in};
 ghost use Rattle.l4_commands.specs.Asked.{extras_in, judged_in, printed_in, is_over_file, is_same};
 ghost use Rattle.l4_commands.specs.Asked.{run_in, replay_in, audit_in, flags_in};
 ghost use Rattle.l4_commands.specs.Asked.{form_of, chart_in, endings_in, lint_in, excludes};
-ghost use Rattle.l4_commands.specs.Asked.{has_turns_alone, rest_in, is_input_of, is_run_wrong};
+ghost use Rattle.l4_commands.specs.Asked.{are_turns_alone, has_turns_alone, rest_in, is_input_of};
 ghost use Rattle.l4_commands.specs.Asked.{are_both, are_two, lists_input, names_input, names_input_twice};
-ghost use Rattle.l4_commands.specs.Asked.{excluded_in, is_wrong_line, has_wrong_line};
+ghost use Rattle.l4_commands.specs.Asked.{usage_text, run_told, replay_told, chart_told, line_told, lines_told, told_in};
 
-use crate::args::DEFAULT_TURNS;
 use crate::job::{ChartForm, ChartJob, EndingsJob, Extras, INPUT, Job, Judged, Printed, list_name};
 use clap::ArgMatches;
 use l4_lines::lines::{LineFault, line_fault};
 
 // Whether this flag was given.
 fn flag(matches: &ArgMatches<'_>, name: &str) -> Option<bool>
-    ensures { IfSome result (λ given.
-        flag_in name.now (rows_of (found_of matches.now)) ≡ Some given) }
+    ensures { MatchOption result (flag_in name.now (rows_of (found_of matches.now)) ≡ None)
+        (λ given. flag_in name.now (rows_of (found_of matches.now)) ≡ Some given) }
 {
     matches.get_one(name)
 }
@@ -113,7 +111,7 @@ fn is_recorded_and_expected(matches: &ArgMatches<'_>) -> bool
 
 // Which arguments of `run` exclude each other, or the one that it does not take.
 fn run_conflict<'a>(matches: &ArgMatches<'a>) -> Option<Conflict<'a>>
-    ensures { is_some result ≡ is_run_wrong (rows_of (found_of matches.now)) }
+    ensures { option_map usage_text result ≡ run_told (rows_of (found_of matches.now)) }
 {
     if is_over_file(matches) {
         return Some(Conflict::OverItsFile);
@@ -143,6 +141,9 @@ fn run_job<'a>(matches: &ArgMatches<'a>) -> Option<Job<'a>>
     })
 }
 
+// The number of turns that a replay goes on for where `--turns` is not given.
+const DEFAULT_TURNS: u64 = 100_000;
+
 // For how many turns a replay goes on: `Some(None)` without `--then-rest`. None where `--turns` is
 // given without it.
 fn rest(matches: &ArgMatches<'_>) -> Option<Option<u64>>
@@ -156,14 +157,30 @@ fn rest(matches: &ArgMatches<'_>) -> Option<Option<u64>>
     }
 }
 
-// Whether `replay` is given `--turns` without `--then-rest`.
-fn has_turns_alone(matches: &ArgMatches<'_>) -> bool
-    ensures { IsTrue result → has_turns_alone (rows_of (found_of matches.now)) ≡ true }
+fn are_turns_alone(goes_on: Option<bool>, given: Option<&str>) -> bool
+    ensures { result ≡ are_turns_alone goes_on (option_copied given.entry) }
 {
-    match (flag(matches, "then-rest"), matches.get_str("turns")) {
+    match (goes_on, given) {
         (Some(false), Some(_)) => true,
         _ => false,
     }
+}
+
+// Whether `replay` is given `--turns` without `--then-rest`.
+fn has_turns_alone(matches: &ArgMatches<'_>) -> bool
+    ensures { result ≡ has_turns_alone (rows_of (found_of matches.now)) }
+{
+    are_turns_alone(flag(matches, "then-rest"), matches.get_str("turns"))
+}
+
+// Whether `replay` has turns without a rest.
+fn replay_conflict<'a>(matches: &ArgMatches<'a>) -> Option<Conflict<'a>>
+    ensures { option_map usage_text result ≡ replay_told (rows_of (found_of matches.now)) }
+{
+    if has_turns_alone(matches) {
+        return Some(Conflict::TurnsAlone);
+    }
+    None
 }
 
 // The job of the matches of `replay`.
@@ -203,7 +220,8 @@ pub struct Flags {
 
 // The form flags in the matches of `chart`.
 fn given_flags(matches: &ArgMatches<'_>) -> Option<Flags>
-    ensures { IfSome result (λ flags. flags_in (rows_of (found_of matches.now)) ≡ Some flags) }
+    ensures { MatchOption result (flags_in (rows_of (found_of matches.now)) ≡ None)
+        (λ flags. flags_in (rows_of (found_of matches.now)) ≡ Some flags) }
 {
     Some(Flags {
         ascii: flag(matches, "ascii")?,
@@ -264,7 +282,7 @@ pub enum Conflict<'a> {
 
 // Why this line can't be searched for, where one is given.
 fn line_conflict<'a>(line: Option<&'a str>) -> Option<Conflict<'a>>
-    ensures { is_some result ≡ is_wrong_line (option_copied line.entry) }
+    ensures { option_map usage_text result ≡ line_told (option_copied line.entry) }
 {
     let line = line?;
     let fault = line_fault(line)?;
@@ -273,7 +291,7 @@ fn line_conflict<'a>(line: Option<&'a str>) -> Option<Conflict<'a>>
 
 // The first line of `--with` and `--never` that can't be searched for.
 fn wrong_line<'a>(matches: &ArgMatches<'a>) -> Option<Conflict<'a>>
-    ensures { is_some result ≡ has_wrong_line (rows_of (found_of matches.now)) }
+    ensures { option_map usage_text result ≡ lines_told (rows_of (found_of matches.now)) }
 {
     match line_conflict(matches.get_str("with")) {
         Some(conflict) => Some(conflict),
@@ -379,7 +397,7 @@ pub fn job_of_matches<'a>(matches: &ArgMatches<'a>) -> Option<Job<'a>>
 
 // Whether the matches of `chart` ask for more than one form.
 fn has_two_forms(matches: &ArgMatches<'_>) -> bool
-    ensures { IsTrue result → excludes (flags_in (rows_of (found_of matches.now))) ≡ true }
+    ensures { result ≡ excludes (flags_in (rows_of (found_of matches.now))) }
 {
     match given_flags(matches) {
         Some(flags) => form_of(&flags).is_none(),
@@ -387,16 +405,38 @@ fn has_two_forms(matches: &ArgMatches<'_>) -> bool
     }
 }
 
-// Why the arguments of the command that was named ask for no job.
-pub fn excluded<'a>(matches: &ArgMatches<'a>) -> Option<Conflict<'a>>
-    ensures { IsSome result → excluded_in (subcommand_rows_of matches.now) ≡ ArgumentConflict ∷ [] }
+// Whether `chart` has two forms.
+fn chart_conflict<'a>(matches: &ArgMatches<'a>) -> Option<Conflict<'a>>
+    ensures { option_map usage_text result ≡ chart_told (rows_of (found_of matches.now)) }
 {
-    match matches.subcommand() {
-        Some((_, command)) if names_input_twice(command) => Some(Conflict::InputTwice),
-        Some(("run", run)) => run_conflict(run),
-        Some(("replay", replay)) if has_turns_alone(replay) => Some(Conflict::TurnsAlone),
-        Some(("chart", chart)) if has_two_forms(chart) => Some(Conflict::TwoForms),
-        Some(("endings", endings)) => wrong_line(endings),
+    if has_two_forms(matches) {
+        return Some(Conflict::TwoForms);
+    }
+    None
+}
+
+// Why the arguments of this command ask for no job.
+fn conflict_of<'a>(name: &str, matches: &ArgMatches<'a>) -> Option<Conflict<'a>>
+    ensures { option_map usage_text result
+        ≡ told_in (name.now, rows_of (found_of matches.now)) }
+{
+    if names_input_twice(matches) {
+        return Some(Conflict::InputTwice);
+    }
+    match name {
+        "run" => run_conflict(matches),
+        "replay" => replay_conflict(matches),
+        "chart" => chart_conflict(matches),
+        "endings" => wrong_line(matches),
         _ => None,
     }
+}
+
+// Why the arguments of the command that was named ask for no job.
+pub fn excluded<'a>(matches: &ArgMatches<'a>) -> Option<Conflict<'a>>
+    ensures { option_map usage_text result
+        ≡ option_and_then told_in (subcommand_rows_of matches.now) }
+{
+    let (name, command) = matches.subcommand()?;
+    conflict_of(name, command)
 }

@@ -1,7 +1,8 @@
 //! The words of the command line of `l4run`: which job they ask for, or why none.
 //!
-//! `clap` reads the words. `commands` declares the commands, and `asked` reads clap's matches.
-//! Contracts see both as functions of the words. `job_of` returns the job that the matches ask for.
+//! `clap` reads the words. `options` has the commands, with a row for each argument; `commands` makes
+//! clap's commands of them, and `asked` reads clap's matches. Contracts see all as functions of the
+//! words. `job_of` returns the job that the matches ask for.
 //! It answers help only where the words ask for it, and usage only where they are wrong. `l4_jobs`
 //! does the job.
 //!
@@ -11,9 +12,9 @@
 //! ```
 #![tactic(auto)]
 
-mod args;
 mod asked;
 mod commands;
 pub mod job;
+mod options;
 mod texts;
 pub mod words;

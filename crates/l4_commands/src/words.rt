@@ -1,9 +1,11 @@
 //! What the words of the command line ask for.
 ghost use Rattle.std.specs.Prelude.{◌≡◌, ◌∷◌, [], IfOk, IfErr, Some, map};
+ghost use Rattle.std.specs.String.{string_bytes};
 ghost use Rattle.clap.specs.Words.{subcommand_of, subcommand_rows_of, kind_of};
 ghost use Rattle.clap.specs.declared.error.kind.ErrorKind.TheVariants.{OutOfMemory as MemoryKind};
 ghost use Rattle.clap.specs.declared.error.kind.ErrorKind.TheVariants.{ArgumentConflict};
-ghost use Rattle.l4_commands.specs.Asked.{asked_by, asked_of, wrong_in, IsRefusal};
+ghost use Rattle.l4_commands.specs.Asked.{asked_by, asked_of, line_text, reason, told_of, usage_text, wrong_in};
+ghost use Rattle.l4_commands.specs.Asked.{IsRefusal, Tells};
 ghost use Rattle.l4_commands.specs.Commands.{l4run_app, faults_of};
 ghost use Rattle.l4_commands.specs.declared.words.WordsFault.TheVariants.{NoMemory as OutOfMemory};
 
@@ -66,8 +68,27 @@ fn matches_of<'a>(alloc: Global, words: &'a [&'a str]) -> Result<ArgMatches<'a>,
     }
 }
 
+// Why a line can't be searched for.
+fn reason(fault: LineFault) -> &'static str
+    ensures { result.now ≡ reason fault }
+{
+    match fault {
+        LineFault::Unknown => UNKNOWN_LINE,
+        LineFault::Deleted => DELETED_LINE,
+        LineFault::Number => NUMBER_LINE,
+    }
+}
+
+fn line_text(alloc: Global, line: &str, reason: &str) -> Result<String, AllocError>
+    ensures { IfOk result (λ text. string_bytes text ≡ line_text line.now reason.now) }
+{
+    format!(in alloc; "error: invalid line '{line}': {reason}")
+}
+
 // The usage text for a conflict of arguments.
-fn conflict_text(alloc: Global, conflict: Conflict<'_>) -> Result<String, AllocError> {
+fn conflict_text(alloc: Global, conflict: Conflict<'_>) -> Result<String, AllocError>
+    ensures { IfOk result (λ text. string_bytes text ≡ usage_text conflict.entry) }
+{
     match conflict {
         Conflict::InputTwice => String::from_str(alloc, INPUT_TWICE),
         Conflict::ScheduleOfRun => String::from_str(alloc, SCHEDULE_OF_RUN),
@@ -75,21 +96,14 @@ fn conflict_text(alloc: Global, conflict: Conflict<'_>) -> Result<String, AllocE
         Conflict::TurnsAlone => String::from_str(alloc, TURNS_ALONE),
         Conflict::OverItsFile => String::from_str(alloc, OVER_ITS_FILE),
         Conflict::TwoForms => String::from_str(alloc, TWO_FORMS),
-        Conflict::Line(line, LineFault::Unknown) => {
-            format!(in alloc; "error: invalid line '{line}': {UNKNOWN_LINE}")
-        }
-        Conflict::Line(line, LineFault::Deleted) => {
-            format!(in alloc; "error: invalid line '{line}': {DELETED_LINE}")
-        }
-        Conflict::Line(line, LineFault::Number) => {
-            format!(in alloc; "error: invalid line '{line}': {NUMBER_LINE}")
-        }
+        Conflict::Line(line, fault) => line_text(alloc, line, reason(fault)),
     }
 }
 
 // Words that exclude each other are wrong usage.
 fn usage_of(alloc: Global, conflict: Conflict<'_>) -> WordsFault
-    ensures { IsRefusal (ArgumentConflict ∷ []) result }
+    ensures refusal { IsRefusal (ArgumentConflict ∷ []) result }
+    ensures told { Tells (Some (usage_text conflict.entry)) result }
 {
     match conflict_text(alloc, conflict) {
         Ok(text) => WordsFault::Usage(text),
@@ -100,12 +114,15 @@ fn usage_of(alloc: Global, conflict: Conflict<'_>) -> WordsFault
 /// Reads the words of a command line, of which the first is the program's name.
 ///
 /// `Help`: they ask for help, or for the version. `Usage`: they are wrong. `NoMemory`: memory was
-/// refused, which says nothing about the words.
+/// refused, which says nothing about the words. Where `clap` accepts the words, a usage text is that
+/// of the first conflict that they have.
 pub fn job_of<'a>(alloc: Global, words: &'a [&'a str]) -> Result<Job<'a>, WordsFault>
     ensures ok { IfOk result (λ job.
         asked_of (map (λ word. word.now) words.now) ≡ Some (asked_by job)) }
     ensures right { IfOk result (λ job. faults_of (map (λ word. word.now) words.now) ≡ []) }
     ensures err { IfErr result (IsRefusal (wrong_in (map (λ word. word.now) words.now))) }
+    ensures told { IfErr result (λ fault. faults_of (map (λ word. word.now) words.now) ≡ []
+        → Tells (told_of (map (λ word. word.now) words.now)) fault) }
 {
     let matches = matches_of(alloc, words)?;
     if let Some(conflict) = excluded(&matches) {

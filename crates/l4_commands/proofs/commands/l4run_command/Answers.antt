@@ -1,10 +1,17 @@
+use Rattle.std.proofs.Common.{rules, ◌≡◌}
 use Rattle.std.proofs.lemmas.Result.{IfOk-weaker}
-use Rattle.l4_commands.specs.Commands.{l4run_app}
-use Rattle.l4_commands.proofs.Chains.{gains_below}
+use Rattle.clap.specs.Words.{app_of}
+use Rattle.l4_commands.specs.Commands.{l4run_app, top_app}
+use Rattle.l4_commands.proofs.Chains.{then}
 use Rattle.l4_commands.proofs.commands.l4run_command.Goals as goal
 
 pub returns : goal.returns
 unfolding l4run_app
 returns c =
-    let endings = gains_below c.in_ok-l4run.ensures c.in_ok-endings.ensures.app c.in_ok-endings.ensures.local c.in_ok-subcommand.ensures in
-    IfOk-weaker c.subcommand-2.result _ _ (λ r h. gains_below endings c.in_ok-lint.ensures.app c.in_ok-lint.ensures.local h) c.subcommand-2.ensures
+    let top : app_of c.subcommand_required-top.result ≡ top_app = search rules in
+    let one = then top c.run.ensures c.in_ok-one.ensures in
+    let two = then one c.replay.ensures c.in_ok-two.ensures in
+    let three = then two c.audit.ensures c.in_ok-three.ensures in
+    let four = then three c.chart.ensures c.in_ok-four.ensures in
+    let five = then four c.endings.ensures c.in_ok-five.ensures in
+    IfOk-weaker c.with_verb-6.result _ _ (λ r h. then five c.lint.ensures h) c.with_verb-6.ensures

@@ -58,7 +58,9 @@ class Edit:
     def functions(self):
         """The functions that it stands in. None is among them where a text stands in none, as in a constant."""
         texts = {file: (self.home / file).read_text() for file, _, _ in self.pairs}
-        return {function_at(texts[file], texts[file].index(old)) for file, old, _ in self.pairs}
+        # A text that an earlier pair makes is not there yet, and stands where that one does.
+        places = [(texts[file], texts[file].find(old)) for file, old, _ in self.pairs]
+        return {function_at(text, place) for text, place in places if place >= 0}
 
     def place(self):
         """Where it stands: the function of its first text, or for a definition its file."""

@@ -5,6 +5,6 @@
 # none is given, and behind it a program, if it is not to be l4run as it stands. It ends at the first difference, with the machine, the schedule and what both
 # say, and else prints counts.
 set -eu -o pipefail
-# shellcheck source=bench/common.sh
+# shellcheck source=trials/common.sh
 . "$(dirname "$0")/common.sh"
 in_parts second.py "${1:-1000}" "${2:-}"

@@ -1,8 +1,8 @@
 """Does commands of the cases with growths of memory refused in turn, and counts the refusals of each verb. Of a command each of the first 300 growths
 is refused, and of those behind them each that is by a 300th further than the one before: some searches have ten thousand.
 
-    bench/refused_commands.py LIBRARY PROGRAM CASES         so many commands that each option of each verb is among them
-    bench/refused_commands.py LIBRARY PROGRAM CASES all     one for each set of options and each status: minutes
+    trials/refused_commands.py LIBRARY PROGRAM CASES         so many commands that each option of each verb is among them
+    trials/refused_commands.py LIBRARY PROGRAM CASES all     one for each set of options and each status: minutes
 """
 
 import collections

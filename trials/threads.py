@@ -1,6 +1,6 @@
 """Runs machines where the host refuses threads, and judges each run: by its time, its status, and its trace, which the program audits.
 
-    python3 -B bench/threads.py PROGRAM LIBRARY FOLDER [RUNS SECONDS]
+    python3 -B trials/threads.py PROGRAM LIBRARY FOLDER [RUNS SECONDS]
 
 LIBRARY is what threads.c makes. Each text of examples/ and a machine of 16 busy processors is run with no thread, with little address space, and with one
 thread refused: the first, then the second, until a run ends in which none was refused. RUNS is how many runs of each text there are at most, SECONDS
@@ -16,9 +16,12 @@ import subprocess
 import sys
 import time
 
-import texts
+TOP = pathlib.Path(__file__).resolve().parent.parent
+sys.path.append(str(TOP / "bench"))
 
-EXAMPLES = pathlib.Path(__file__).resolve().parent.parent / "examples"
+import texts  # noqa: E402
+
+EXAMPLES = TOP / "examples"
 ENDS = (0, 3)
 LITTLE_SPACE = 8 << 20
 TURNS, FEW_TURNS = 20_000, 500

@@ -1,6 +1,6 @@
 """Prints what `l4run endings` says of a machine, as a second emulator finds it, and ends with the same status.
 
-    python3 -B bench/endings.py FILE [--depth N] [--states N] [--stuck] [--with LINE] [--never LINE] [--none] [--waits] [--expect NAME]
+    python3 -B trials/endings.py FILE [--depth N] [--states N] [--stuck] [--with LINE] [--never LINE] [--none] [--waits] [--expect NAME]
 
 A core run has at most so many events, and its ticks go to the least deadline of their processor. Each ending, a state at rest that core runs lead to, is printed
 once, with the first schedule that leads there and its report; the last line says how many states there are, how deep all were found, and whether there are no

@@ -4,12 +4,12 @@
 #
 # Needs cc and python3.
 set -eu -o pipefail
-# shellcheck source=bench/common.sh
+# shellcheck source=trials/common.sh
 . "$(dirname "$0")/common.sh"
 make_work
-program=${3:-$BENCH/../crates/l4run/out/l4run}
+program=${3:-$TRIALS/../crates/l4run/out/l4run}
 if [ -z "${3:-}" ]; then
-    "$BENCH/../l4run" --help >"$work/log"
+    "$TRIALS/../l4run" --help >"$work/log"
 fi
-cc -shared -fPIC -O2 -Wall -Wextra -o "$work/threads.so" "$BENCH/threads.c" -ldl
-python3 -B "$BENCH/threads.py" "$program" "$work/threads.so" "$work" "${1:-100000}" "${2:-1}"
+cc -shared -fPIC -O2 -Wall -Wextra -o "$work/threads.so" "$TRIALS/threads.c" -ldl
+python3 -B "$TRIALS/threads.py" "$program" "$work/threads.so" "$work" "${1:-100000}" "${2:-1}"

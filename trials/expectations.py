@@ -1,6 +1,6 @@
 """Prints which expectations a report does not meet, as a second emulator finds it, and ends with the status that the program has.
 
-    python3 -B bench/expectations.py EXPECTATIONS REPORT [--endings]
+    python3 -B trials/expectations.py EXPECTATIONS REPORT [--endings]
 
 REPORT is a file with what `l4run run FILE --report`, or `l4run replay`, prints. Status 0 where all hold (3 where the report ends spent), 4 where one does not,
 1 where a line of EXPECTATIONS is faulty. With `--endings` its lines are judged as those for `l4run endings`.

@@ -10,14 +10,14 @@
 #
 # Needs spin 6, gcc and python3: status 2 where one is not there.
 set -eu -o pipefail
-# shellcheck source=bench/common.sh
+# shellcheck source=trials/common.sh
 . "$(dirname "$0")/common.sh"
 for tool in spin gcc python3; do
     command -v "$tool" >/dev/null || { echo "no $tool: nothing is compared" >&2; exit 2; }
 done
 make_work
-program=${1:-$BENCH/../crates/l4run/out/l4run}
+program=${1:-$TRIALS/../crates/l4run/out/l4run}
 if [ -z "${1:-}" ]; then
-    "$BENCH/../l4run" --help >"$work/log"
+    "$TRIALS/../l4run" --help >"$work/log"
 fi
-python3 -B "$BENCH/spin.py" "$program" "$work"
+python3 -B "$TRIALS/spin.py" "$program" "$work"

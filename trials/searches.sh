@@ -4,6 +4,6 @@
 # behind it a program, if it is not to be l4run as it stands. It ends at the first difference, and
 # else prints counts.
 set -eu -o pipefail
-# shellcheck source=bench/common.sh
+# shellcheck source=trials/common.sh
 . "$(dirname "$0")/common.sh"
 in_parts searches.py "${1:-100}" "${2:-}"

@@ -1,6 +1,6 @@
 # shellcheck shell=bash
 # Read by scripts of this folder that try something many times.
-BENCH=$(cd "$(dirname "${BASH_SOURCE[0]}")" && pwd)
+TRIALS=$(cd "$(dirname "${BASH_SOURCE[0]}")" && pwd)
 # What is tried is the same on every machine: four parts, each with a seed of its own.
 PARTS=4
 
@@ -16,11 +16,11 @@ in_parts() {
     local script=$1 count=$2 program=${3:-} part jobs=() job
     make_work
     if [ -z "$program" ]; then
-        "$BENCH/../l4run" --help >"$work/log"
-        program=$BENCH/../crates/l4run/out/l4run
+        "$TRIALS/../l4run" --help >"$work/log"
+        program=$TRIALS/../crates/l4run/out/l4run
     fi
     for part in $(seq "$PARTS"); do
-        python3 -B "$BENCH/$script" "$program" "$work" $(((count + PARTS - 1) / PARTS)) "$part" >"$work/counts-$part" &
+        python3 -B "$TRIALS/$script" "$program" "$work" $(((count + PARTS - 1) / PARTS)) "$part" >"$work/counts-$part" &
         jobs+=($!)
     done
     for job in "${jobs[@]}"; do
@@ -32,10 +32,10 @@ in_parts() {
 # Names the program that runs the tests of a crate. It is proved and built first, where that was not done yet or where a file of the crates is
 # newer; behind `rt ci` it is that of the gate.
 test_program() {
-    local crate=$BENCH/../crates/$1 program
+    local crate=$TRIALS/../crates/$1 program
     program=$crate/out/$1_tests
     if [ ! -x "$program" ] ||
-        [ -n "$(find "$BENCH/../crates" -name out -prune -o -type f -newer "$program" -print -quit)" ]; then
+        [ -n "$(find "$TRIALS/../crates" -name out -prune -o -type f -newer "$program" -print -quit)" ]; then
         (cd "$crate" && rt test -- "$2") >"$work/log" 2>&1 || { cat "$work/log" >&2; return 1; }
     fi
     echo "$program"
@@ -49,12 +49,12 @@ build_beside() {
     built=$(mktemp -d)
     mkdir -p "$built/crates/$name/src"
     for crate; do
-        cp -R "$BENCH/../crates/$crate" "$built/crates/"
-        grep "^$crate:" "$BENCH/../crates.txt" >>"$built/crates.txt"
+        cp -R "$TRIALS/../crates/$crate" "$built/crates/"
+        grep "^$crate:" "$TRIALS/../crates.txt" >>"$built/crates.txt"
     done
-    cp "$BENCH/$name/src/main.rt.in" "$built/crates/$name/src/main.rt"
+    cp "$TRIALS/$name/src/main.rt.in" "$built/crates/$name/src/main.rt"
     echo "$name: $*" >>"$built/crates.txt"
-    cp "$BENCH/../HANDLES" "$built/"
+    cp "$TRIALS/../HANDLES" "$built/"
     # It has no words, so that it answers status 1.
     (cd "$built/crates/$name" && rt run --jobs 2) >"$built/log" 2>&1 || true
     program=$built/crates/$name/out/$name

@@ -4,6 +4,6 @@
 # how far it is. It ends at the first that is none of those that docs/FORMATS.md has: another status than 0, 1 and 3, another line of fault, or lines beside a
 # fault.
 set -eu -o pipefail
-# shellcheck source=bench/common.sh
+# shellcheck source=trials/common.sh
 . "$(dirname "$0")/common.sh"
 in_parts hostile.py "${1:-100000}" "${2:-}"

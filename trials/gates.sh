@@ -4,7 +4,7 @@
 # audit. It ends at the first that fails, or that takes a minute.
 set -eu -o pipefail
 seconds=${1:-600}
-# shellcheck source=bench/common.sh
+# shellcheck source=trials/common.sh
 . "$(dirname "$0")/common.sh"
 make_work
 program=$(test_program l4_host_tests gates::)

@@ -1,7 +1,7 @@
 #!/usr/bin/env python3
 """Opens a page that `l4run chart --html` wrote in a headless Chromium, and compares it with its trace.
 
-    bench/pictures.py PAGE TRACE FOLDER
+    trials/pictures.py PAGE TRACE FOLDER
 
 PAGE shows all of TRACE. The titles of its rows have to be the lines of the trace, in order. Its
 arrows have to be as many as the lines that begin with `deliver`, each in such a row, and failures

@@ -11,18 +11,18 @@
 #
 # Needs cc, nm and python3.
 set -eu -o pipefail
-# shellcheck source=bench/common.sh
+# shellcheck source=trials/common.sh
 . "$(dirname "$0")/common.sh"
 make_work
-cc -shared -fPIC -O2 -Wall -Wextra -o "$work/refuse.so" "$BENCH/refuse.c" -ldl
+cc -shared -fPIC -O2 -Wall -Wextra -o "$work/refuse.so" "$TRIALS/refuse.c" -ldl
 programs=()
 for crate in l4_part_tests l4_host_tests; do
     programs+=("$(test_program "$crate" refused::)")
 done
 program=${1:-}
 if [ -z "$program" ]; then
-    "$BENCH/../l4run" --help >"$work/log"
-    program=$BENCH/../crates/l4run/out/l4run
+    "$TRIALS/../l4run" --help >"$work/log"
+    program=$TRIALS/../crates/l4run/out/l4run
 fi
-python3 -B "$BENCH/refusals.py" "$work/refuse.so" "$work" "${programs[@]}"
-python3 -B "$BENCH/refused_commands.py" "$work/refuse.so" "$program" "$BENCH/../crates/l4_cases/data"
+python3 -B "$TRIALS/refusals.py" "$work/refuse.so" "$work" "${programs[@]}"
+python3 -B "$TRIALS/refused_commands.py" "$work/refuse.so" "$program" "$TRIALS/../crates/l4_cases/data"

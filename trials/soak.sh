@@ -9,6 +9,6 @@
 # come to where its trace is printed, since it prints the one or the other (the tests of runs there compare both with the auditor's); and the letters
 # (that those posted are those taken and those under way is proved).
 set -eu -o pipefail
-# shellcheck source=bench/common.sh
+# shellcheck source=trials/common.sh
 . "$(dirname "$0")/common.sh"
 in_parts soak.py "${1:-200}" "${2:-}"

@@ -1,13 +1,16 @@
 """Runs and replays machines of random scripts, audits each trace, replays each run by its record, and compares what the program says. Prints counts."""
 
 import collections
+import pathlib
 import random
 import re
 import shutil
 import subprocess
 import sys
 
-import texts
+sys.path.append(str(pathlib.Path(__file__).resolve().parent.parent / "bench"))
+
+import texts  # noqa: E402
 
 QUIET, SPENT = 0, 3
 TURNS = 2_000

@@ -7,9 +7,9 @@ import shlex
 import subprocess
 import sys
 
-BENCH = pathlib.Path(__file__).resolve().parent
-MODELS = BENCH / "spin"
-EXAMPLES = BENCH.parent / "examples"
+TRIALS = pathlib.Path(__file__).resolve().parent
+MODELS = TRIALS / "spin"
+EXAMPLES = TRIALS.parent / "examples"
 QUESTION = "// --"
 WHOLE, FOUND = 0, 4
 # Behind `pan:N:`, what SPIN finds when it looks for an invalid end state, and for an ending of which a condition is true.

@@ -3,10 +3,13 @@
 import itertools
 import pathlib
 import re
+import sys
 
 TOP = pathlib.Path(__file__).resolve().parent.parent
 CRATES = TOP / "crates"
 DEFINITIONS = "definitions"
+# The first lines of a mistake in a table.
+MISTAKE, GATE = "mistake: ", "gate: yes"
 FUNCTION = re.compile(r"\s*(?:pub(?:\([^)]*\))?\s+)?(?:const\s+)?fn\s+(\w+)")
 MODULE = re.compile(r"^[a-z_]\w*::")
 IMPL = re.compile(r"impl(?:<[^{]*?>)?\s+(?:[\w:<>', ]+\s+for\s+)?(\w+)")
@@ -17,17 +20,17 @@ OF_ONE = re.compile(r"impl (\w+)<([A-Z]\w*)")
 class Edit:
     """A mistake: lines `why:` and `clause:`, and below a line `file:` pairs of an old text and what takes its place."""
 
-    def __init__(self, path, home):
-        self.path, self.home, self.name = path, home, path.stem
-        self.in_gate = path.parent.name == "must-fail"
+    def __init__(self, group, name, text, in_gate):
+        self.group, self.name, self.text, self.in_gate = group, name, text, in_gate
         self.why = self.clause = ""
         self.pairs = []
         self.read()
+        self.home = home_of(self.pairs) if group == DEFINITIONS else CRATES / group
 
     def read(self):
         """Lines `new:` that follow one another are the lines of one text."""
         file, old, last = None, None, None
-        for line in self.path.read_text().splitlines():
+        for line in self.text.splitlines():
             key, _, text = line.partition(":")
             text = text.removeprefix(" ")
             if key in ("why", "clause"):
@@ -65,7 +68,7 @@ class Edit:
     def place(self):
         """Where it stands: the function of its first text, or for a definition its file."""
         file, old, _ = self.pairs[0]
-        if self.path.parent.name == DEFINITIONS:
+        if self.group == DEFINITIONS:
             return f"{self.home.name}/{file}"
         text = (self.home / file).read_text()
         return function_at(text, text.index(old)) or file
@@ -127,17 +130,30 @@ def paths_of(home):
     return found
 
 
-def edits_of(crate):
-    """Those of a crate: first those that the gate tries. Or those of definitions."""
-    if crate == DEFINITIONS:
-        return [Edit(path, home_of(path)) for path in sorted((TOP / "mistakes" / DEFINITIONS).glob("*.edit"))]
-    folders = TOP / "mistakes" / crate / "must-fail", TOP / "mistakes" / crate
-    return [Edit(path, CRATES / crate) for folder in folders for path in sorted(folder.glob("*.edit"))]
+def table_of(group):
+    """The file with the mistakes of a crate, or with those of definitions."""
+    return TOP / "mistakes" / f"{group}.edits"
 
 
-def home_of(path):
+def edits_of(group):
+    """Those of a crate, or of definitions: first those that the gate tries."""
+    table = table_of(group)
+    blocks = table.read_text().rstrip("\n").split("\n\n") if table.exists() else []
+    return sorted((edit_in(block, group) for block in blocks), key=lambda edit: not edit.in_gate)
+
+
+def edit_in(block, group):
+    """What a block of a table plants: its name in a line `mistake:`, below that `gate: yes` where the gate tries it, and its lines."""
+    head, *rows = block.split("\n")
+    if not head.startswith(MISTAKE):
+        sys.exit(f"{table_of(group).relative_to(TOP)}: a block begins with `{head}`, and not with `{MISTAKE}NAME`")
+    in_gate = rows[:1] == [GATE]
+    return Edit(group, head.removeprefix(MISTAKE), "\n".join(rows[in_gate:]) + "\n", in_gate)
+
+
+def home_of(pairs):
     """The crate of a wrong definition: the first that has its file and its first text."""
-    file, old, _ = Edit(path, None).pairs[0]
+    file, old, _ = pairs[0]
     homes = [home for home in sorted(CRATES.iterdir()) if (home / file).exists()]
     return next((home for home in homes if old in (home / file).read_text()), homes[0])
 

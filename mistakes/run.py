@@ -3,8 +3,8 @@
 
   at-once      those of different functions together, in minutes
   alone        each by itself, which takes far longer: for one that at-once can't judge
-  gate         the gate's cut, mistakes/CRATE/must-fail, those of different functions together
-  definitions  wrong definitions, mistakes/definitions, those that are named or all, each by itself
+  gate         the gate's cut, those with a line `gate: yes`, those of different functions together
+  definitions  wrong definitions, mistakes/definitions.edits, those that are named or all, each by itself
   list         tries none: counts them, or lists each of what is named (also `definitions`), and which fit no more
 
 They are planted in a copy of their crate, and the prover is asked for the functions that each is judged by, over the crates below: these
@@ -18,10 +18,11 @@ says: not only since it calls another that is, and not since a name of a proof i
 the latter counts, and is named. The last line has the sums; the status is 1 where one was not refused so, or fits no more.
 """
 
+import collections
 import sys
 
 from definitions import try_definitions
-from edits import CRATES, DEFINITIONS, TOP, crates_with_edits, edits_of
+from edits import CRATES, DEFINITIONS, TOP, crates_with_edits, edits_of, table_of
 from trials import try_edits
 
 
@@ -70,10 +71,12 @@ def show(names):
     all_edits = sum(edits.values(), [])
     stale = [edit for edit in all_edits if not edit.fits()]
     silent = [edit for edit in all_edits if not (edit.why and edit.clause)]
-    for say, those in ("fits no more", stale), ("has no `why:` or no `clause:`", silent):
+    names = collections.Counter((edit.group, edit.name) for edit in all_edits)
+    again = [edit for edit in all_edits if names[edit.group, edit.name] > 1]
+    for say, those in ("fits no more", stale), ("has no `why:` or no `clause:`", silent), ("stands twice", again):
         for edit in those:
-            print(f"{say}: {edit.path.relative_to(TOP)}")
-    return bool(stale or silent)
+            print(f"{say}: {table_of(edit.group).relative_to(TOP)}: {edit.name}")
+    return bool(stale or silent or again)
 
 
 def with_edits(names):

@@ -112,7 +112,7 @@ def sum_of(home):
 
 def kept(edit):
     """The file that says that this mistake was refused with all that it stands on as it is."""
-    return KEPT / hashlib.sha256((sum_of(edit.home) + edit.path.read_text()).encode()).hexdigest()
+    return KEPT / hashlib.sha256((sum_of(edit.home) + edit.text).encode()).hexdigest()
 
 
 def keep(edits):

@@ -91,8 +91,8 @@ END
     gzip -9n <"$work/changelog" >"$doc/changelog.gz"
     gzip -9n <"$top/CHANGELOG.md" >"$doc/CHANGELOG.md.gz"
     mkdir -p "$tree/usr/share/lintian/overrides" "$tree/DEBIAN"
-    # It is to run on each system, so it takes nothing of one.
-    echo 'l4run: statically-linked-binary [usr/bin/l4run]' >"$tree/usr/share/lintian/overrides/l4run"
+    # A static program that may lie anywhere has the form of a library.
+    echo 'l4run: shared-library-lacks-prerequisites [usr/bin/l4run]' >"$tree/usr/share/lintian/overrides/l4run"
     cat >"$tree/DEBIAN/control" <<END
 Package: l4run
 Version: $version

@@ -69,10 +69,12 @@ function endingCard({ number, list, report }, differs, text) {
     };
     const isBad = report.threads.some((thread) => thread.isStuck);
     const deadlocks = report.deadlocks.map((ids) => el("span", { className: "circle", textContent: `deadlock of ${ids.join(", ")}` }));
+    const length = el("small", { textContent: counted(list.length, "item") });
+    const name = el("span", { className: "name" }, el("b", { textContent: `Ending ${number}` }), isBad ? "somebody is stuck" : "", length);
     return el(
         "button",
         { className: `ending ${isBad ? "bad" : "good"}`, onclick: () => guarded(open) },
-        el("span", { className: "name" }, el("b", { textContent: `Ending ${number}` }), isBad ? "somebody is stuck" : "", el("small", { textContent: counted(list.length, "item") })),
+        name,
         ...deadlocks,
         ...told.map(({ row }) => row),
         more > 0 && el("span", { className: "small", textContent: `and ${counted(more, "thread")} more` }),

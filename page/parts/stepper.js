@@ -135,11 +135,12 @@ const waitKey = ({ wait }) => (wait ? `${wait.to} ${wait.phase}` : "");
 function card(thread, was) {
     const tone = thread.isStuck ? "stuck" : isOver(thread) ? "ended" : thread.wait ? "wait" : "ready";
     const { cpu = "?", space = "?" } = session.machine.byId.get(thread.id) ?? {};
+    const place = el("small", { textContent: `cpu ${cpu}, space ${space}` });
     const from = thread.from !== "nil" && el(was && was.from !== thread.from ? "mark" : "span", { textContent: `heard from ${thread.from}` });
     return el(
         "article",
         { className: `card ${tone}${hasChanged(thread, was) ? " changed" : ""}` },
-        el("header", {}, el("b", { textContent: thread.id }), el("small", { textContent: `cpu ${cpu}, space ${space}` }), el("span", { className: "pill", textContent: thread.state })),
+        el("header", {}, el("b", { textContent: thread.id }), place, el("span", { className: "pill", textContent: thread.state })),
         thread.wait && el("p", { textContent: shortWait(thread.wait) }),
         thread.code !== "0" && el("p", { className: "error", textContent: `error ${thread.code}: ${CODES[thread.code] ?? ""}` }),
         from && el("p", {}, from, thread.actual !== thread.from ? `, by ${thread.actual}` : ""),
@@ -280,8 +281,10 @@ function drawNext({ found, others }, state, isPart) {
     const choices = found.map((choice, number) => choiceButton(choice, number + 1));
     const isAtRest = state.report.ending === "quiet";
     const nothing = isAtRest ? "Nothing: all processors are at rest." : "Nothing that tells a step, but letters are under way.";
-    const note = isPart ? "looking at the other processors .." : found.length ? null : nothing;
-    place.replaceChildren(...choices, ...(note ? [el("p", { className: "none", textContent: note })] : []), ...(isAtRest || isPart ? [] : [otherItems(others, !found.length)]));
+    const said = isPart ? "looking at the other processors .." : found.length ? null : nothing;
+    const note = said ? [el("p", { className: "none", textContent: said })] : [];
+    const more = isAtRest || isPart ? [] : [otherItems(others, !found.length)];
+    place.replaceChildren(...choices, ...note, ...more);
     if (focused === null) return;
     const again = place.querySelector(`[data-cpu="${focused}"]`) ?? place.querySelector("[data-item]") ?? $("back");
     again.focus();

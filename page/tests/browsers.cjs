@@ -69,8 +69,9 @@ class Chromium extends Browser {
             return;
         }
         const { method, params } = message;
-        const isFault = method === "Runtime.exceptionThrown" || (method === "Runtime.consoleAPICalled" && params.type === "error") || (method === "Log.entryAdded" && params.entry.level === "error");
-        if (isFault) this.faults.push(JSON.stringify(params).slice(0, 400));
+        const isConsole = method === "Runtime.consoleAPICalled" && params.type === "error";
+        const isLog = method === "Log.entryAdded" && params.entry.level === "error";
+        if (method === "Runtime.exceptionThrown" || isConsole || isLog) this.faults.push(JSON.stringify(params).slice(0, 400));
     }
 
     async send(method, params = {}) {
@@ -199,7 +200,8 @@ class Firefox extends Browser {
         const script = `
             const [body, done] = arguments;
             const made = document.createElement("script");
-            made.textContent = "window.asked = (async () => { " + body + " })().then((it) => JSON.stringify({ it }), (trap) => JSON.stringify({ trap: String(trap && trap.stack || trap) }))";
+            const answer = "(it) => JSON.stringify({ it }), (trap) => JSON.stringify({ trap: String(trap && trap.stack || trap) })";
+            made.textContent = "window.asked = (async () => { " + body + " })().then(" + answer + ")";
             document.documentElement.append(made);
             made.remove();
             if (window.asked) window.asked.then(done);

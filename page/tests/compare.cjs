@@ -20,7 +20,8 @@ async function main([module, program, top]) {
     }
     for (const other of others) console.log(other);
     const seconds = (time) => `${(Number(time) / 1e9).toFixed(1)} s`;
-    console.log(`the module: ${commands.length} commands of the cases, ${others.length} differ, ${left} left out; module ${seconds(took.module)}, program ${seconds(took.program)}`);
+    const times = `module ${seconds(took.module)}, program ${seconds(took.program)}`;
+    console.log(`the module: ${commands.length} commands of the cases, ${others.length} differ, ${left} left out; ${times}`);
     process.exitCode = others.length || !commands.length ? 1 : 0;
 }
 main(process.argv.slice(2));

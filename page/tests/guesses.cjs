@@ -1,15 +1,14 @@
-// node guesses.cjs MODULE.wasm TOP: what the page works out for itself, against what the program says, on the examples and cases.
+// node guesses.cjs MODULE.wasm TOP: what the page works out for itself, against what the program says.
 //
-// Is each item of the shortest schedule of an ending offered at its place? Does the line at which a thread is shown agree with its state?
-// Does going on to rest tell the steps of --then-rest?
+// Of each example: is each item of the shortest schedule of its first ending offered at its place? Does going on to rest tell the steps of
+// --then-rest? Of these and of each case: does the line at which a thread is shown agree with its state?
 const fs = require("fs");
 const path = require("path");
 const vm = require("vm");
 const { call } = require("../module/call.js");
 
 const [, , module_, top] = process.argv;
-const MOST_ENDINGS = 2;
-const MOST_ITEMS = 30; // of a list
+const MOST_ITEMS = 20; // of a list
 const EACH = 7; // items, at which the way to rest is tried
 
 const scope = vm.createContext({ console });
@@ -17,10 +16,10 @@ const parts = ["reading.js", "places.js", "next.js", "rest.js"].map((name) => fs
 vm.runInContext(`${parts.join("\n")}\nglobalThis.parts = { machineOf, reportOf, endingsOf, linesOf, listOf, placesOf, nextOf, restOf };`, scope);
 const { machineOf, reportOf, endingsOf, linesOf, listOf, placesOf, nextOf, restOf } = scope.parts;
 
-function texts() {
-    const folder = path.join(top, "crates", "l4_cases", "data");
-    return [folder, path.join(folder, "examples")].flatMap((it) => fs.readdirSync(it).filter((name) => name.endsWith(".l4")).sort().map((name) => path.join(it, name)));
-}
+const folder = path.join(top, "crates", "l4_cases", "data");
+const textsOf = (at) => fs.readdirSync(at).filter((name) => name.endsWith(".l4")).sort().map((name) => path.join(at, name));
+
+const replay = ["replay", "m.l4", "--schedule", "@list"];
 
 // What a thread in a state may be at.
 function fits(state, [word, to, from]) {
@@ -34,7 +33,8 @@ async function main() {
     const compiled = new WebAssembly.Module(fs.readFileSync(module_));
     const counts = { items: 0, silent: 0, missed: 0, places: 0, wrong: 0, rests: 0, other: 0 };
     const decoder = new TextDecoder();
-    for (const file of texts()) {
+    const examples = textsOf(path.join(folder, "examples"));
+    for (const file of [...examples, ...textsOf(folder)]) {
         const text = fs.readFileSync(file, "utf8");
         const name = path.basename(file);
         const { cpus, threads } = machineOf(text);
@@ -43,20 +43,16 @@ async function main() {
             return { status: made.status, out: decoder.decode(made.out), recorded: decoder.decode(made.recorded) };
         };
         const ask = (words, list) => perform(words, { list: list.join(",") });
-        const replay = ["replay", "m.l4", "--schedule", "@list"];
-        const searched = await perform(["endings", "m.l4", "--states", "3000"]);
-        if (searched.status === 1) continue;
-        const run = await perform(["run", "m.l4", "--turns", "300", "--record", "list"]);
         const turns = Math.max(0, ...Array.from({ length: cpus }, (_, cpu) => threads.filter((thread) => thread.cpu === cpu).length));
-        const lists = endingsOf(searched.out).endings.slice(0, MOST_ENDINGS).map(({ list }) => list);
-        for (const list of [...lists, listOf(run.recorded)]) {
-            const isEnding = lists.includes(list);
-            for (let place = 0; place <= Math.min(list.length, MOST_ITEMS); place += 1) {
-                const before = list.slice(0, place);
-                if (isEnding) await triesNext({ list, place, before, name, cpus, turns, ask, counts });
-                await triesPlaces({ before, name, text, ask, replay, counts });
-                if (place % EACH === 0) await triesRest({ before, name, cpus, ask, replay, counts });
-            }
+        const run = await perform(["run", "m.l4", "--turns", "300", "--record", "list"]);
+        if (run.status === 1) continue;
+        const isExample = examples.includes(file);
+        const list = isExample ? endingsOf((await perform(["endings", "m.l4"])).out).endings[0].list : listOf(run.recorded);
+        for (let place = 0; place <= Math.min(list.length, MOST_ITEMS); place += 1) {
+            const tried = { list, place, before: list.slice(0, place), name, text, cpus, turns, ask, counts };
+            await triesPlaces(tried);
+            if (isExample) await triesNext(tried);
+            if (isExample && place % EACH === 0) await triesRest(tried);
         }
     }
     console.log(`${counts.items} items of endings: ${counts.silent} offered only among those that tell nothing, ${counts.missed} not at all`);
@@ -84,7 +80,7 @@ async function triesNext({ list, place, before, name, cpus, turns, ask, counts }
     console.log(`${name}: not offered: ${item} behind ${before.join(",") || "nothing"}; offered: ${offered.join(" ")}`);
 }
 
-async function triesPlaces({ before, name, text, ask, replay, counts }) {
+async function triesPlaces({ before, name, text, ask, counts }) {
     const trace = await ask(replay, before);
     const report = reportOf((await ask([...replay, "--report", "--waits"], before)).out);
     for (const { id, line } of placesOf(machineOf(text), linesOf(trace.out))) {
@@ -97,7 +93,7 @@ async function triesPlaces({ before, name, text, ask, replay, counts }) {
     }
 }
 
-async function triesRest({ before, name, cpus, ask, replay, counts }) {
+async function triesRest({ before, name, cpus, ask, counts }) {
     const most = 5000;
     const { list } = await restOf({ list: before, cpus, most, ask });
     const theirs = await ask([...replay, "--then-rest", "--turns", `${most}`], before);

@@ -21,6 +21,7 @@ function printedBy(program, { words, files }) {
     }
 }
 
-const isSame = (one, other) => one.status === other.status && !Buffer.compare(Buffer.from(one.out), other.out) && !Buffer.compare(Buffer.from(one.faults), other.faults);
+const isSame = (one, other) =>
+    one.status === other.status && Buffer.from(one.out).equals(other.out) && Buffer.from(one.faults).equals(other.faults);
 
 module.exports = { printedBy, isSame };

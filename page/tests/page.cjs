@@ -1,5 +1,5 @@
 // node page.cjs chromium|firefox PAGE.html PROGRAM TOP PICTURES: opens the page in a browser, compares each command of all cases with the
-// program's bytes, presses what there is to press, and takes pictures.
+// program's bytes, presses what there is to press, and takes pictures. PARTS names some of its parts, joined by commas.
 const fs = require("fs");
 const os = require("os");
 const path = require("path");
@@ -42,7 +42,12 @@ function hands(browser) {
             await run(`document.querySelector(${quoted(selector)}).click();`);
             await it.idle();
         },
-        fill: (id, value, event = "input") => run(`const at = document.getElementById(${quoted(id)}); at.focus(); at.value = ${quoted(value)}; at.dispatchEvent(new Event(${quoted(event)}, { bubbles: true }));`),
+        fill: (id, value, event = "input") =>
+            run(`
+                const at = document.getElementById(${quoted(id)});
+                at.focus();
+                at.value = ${quoted(value)};
+                at.dispatchEvent(new Event(${quoted(event)}, { bubbles: true }));`),
         type: async (value) => {
             const before = await run("return document.body.dataset.linted");
             await it.fill("text", value);
@@ -77,7 +82,8 @@ async function comparesCases(browser, { run, go }) {
     let inPage = 0;
     for (let at = 0; at < commands.length; at += 20) {
         const part = commands.slice(at, at + 20);
-        const sent = part.map(({ words, files }) => [words, Object.fromEntries(Object.entries(files).map(([file, text]) => [file, text.toString("latin1")]))]);
+        const inLetters = (files) => Object.fromEntries(Object.entries(files).map(([file, text]) => [file, text.toString("latin1")]));
+        const sent = part.map(({ words, files }) => [words, inLetters(files)]);
         const began = Date.now();
         const made = await run(`
             const bytes = (text) => Uint8Array.from(text, (letter) => letter.charCodeAt(0));
@@ -101,7 +107,9 @@ async function comparesCases(browser, { run, go }) {
 
 // The picture of a text lies under the text: as high, so each line is broken at the same words.
 async function liesUnderItsText(hand, what) {
-    const [area, paint] = await hand.run("return [Math.max(editor.area.scrollHeight, editor.area.clientHeight), Math.max(editor.paint.offsetHeight + 16, editor.area.clientHeight)]");
+    const [area, paint] = await hand.run(`
+        const { area, paint } = editor;
+        return [Math.max(area.scrollHeight, area.clientHeight), Math.max(paint.offsetHeight + 16, area.clientHeight)];`);
     check(`${what}: the colours lie under the words`, Math.abs(area - paint) <= 1, [area, paint]);
 }
 
@@ -111,7 +119,8 @@ async function runsExamples(browser, hand) {
     check("it begins with the lesson", (await hand.text("about")).startsWith("One message"));
     check("it offers a turn", (await hand.text("next")).includes("local 1.1"));
     const names = await hand.run("return [...document.getElementById('examples').options].map((it) => it.value).filter(Boolean)");
-    check("all examples are in the menu", names.length === fs.readdirSync(path.join(top, "examples")).filter((it) => it.endsWith(".l4")).length, names.length);
+    const texts = fs.readdirSync(path.join(top, "examples")).filter((it) => it.endsWith(".l4"));
+    check("all examples are in the menu", names.length === texts.length, names.length);
     for (const example of names) {
         await hand.fill("examples", example, "change");
         await hand.idle();
@@ -121,7 +130,8 @@ async function runsExamples(browser, hand) {
         const rows = await hand.count("#chart .lines > div");
         check(`${example}: its chart has its steps`, rows > 0 && rows === (await hand.run("return session.whole.length")), rows);
         await hand.verb("stuck");
-        check(`${example}: its search was whole`, /All orders of the processors were searched/.test(await hand.run("return document.getElementById('found').textContent")));
+        const found = await hand.run("return document.getElementById('found').textContent");
+        check(`${example}: its search was whole`, /All orders of the processors were searched/.test(found), found);
     }
 }
 
@@ -130,7 +140,8 @@ async function findsDeadlock(browser, hand) {
     await hand.go("#example=callback.l4");
     await hand.verb("run");
     const verdict = await hand.text("verdict");
-    check("a deadlock is told", /Deadlock/.test(verdict) && /1\.1 waits for a message of 9\.1/.test(verdict) && /8\.1 waits for 1\.1 to take its message/.test(verdict), verdict);
+    const waits = ["1.1 waits for a message of 9.1", "9.1 waits for a message of 8.1", "8.1 waits for 1.1 to take its message"];
+    check("a deadlock is told", /Deadlock/.test(verdict) && waits.every((it) => verdict.includes(it)), verdict);
     check("the text shows who waits where", (await hand.count(".paint b.stuck")) === 3);
     check("three threads are stuck", (await hand.count(".card.stuck")) === 3);
     await hand.picture("callback-1200");
@@ -355,7 +366,8 @@ async function stops(browser, hand) {
     await browser.until("/at work for/.test(document.getElementById('status').textContent)");
     await hand.picture("busy-1200");
     await hand.click("#stop");
-    check("a long search is stopped", /stopped/i.test(await hand.text("status")) && (await hand.run("return document.getElementById('stop').disabled")), await hand.text("status"));
+    const isOver = await hand.run("return document.getElementById('stop').disabled");
+    check("a long search is stopped", isOver && /stopped/i.test(await hand.text("status")), await hand.text("status"));
     await hand.verb("run");
     check("and the page works on", /At rest/.test(await hand.text("verdict")), await hand.text("verdict"));
 }
@@ -369,7 +381,8 @@ async function looks(browser, hand) {
     await hand.picture("dark-1200");
     await browser.dark(false);
     await browser.size(400, 860, true);
-    for (const [file, hash] of [["first", "#example=first.l4"], ["locks", "#example=locks.l4&do=run"], ["endings", "#example=locks.l4&do=endings"]]) {
+    const narrow = { first: "#example=first.l4", locks: "#example=locks.l4&do=run", endings: "#example=locks.l4&do=endings" };
+    for (const [file, hash] of Object.entries(narrow)) {
         await hand.go(hash);
         const width = await hand.run("return document.documentElement.scrollWidth");
         check(`${file}: no wider than a phone`, width <= 400, width);
@@ -388,6 +401,23 @@ async function looks(browser, hand) {
     await hand.picture("locks-1600");
 }
 
+const PARTS = [
+    comparesCases,
+    runsExamples,
+    findsDeadlock,
+    marksFaults,
+    findsStuckEnding,
+    steps,
+    worksByKeys,
+    judges,
+    shares,
+    opensAndSaves,
+    showsManyThreads,
+    showsManySteps,
+    stops,
+    looks,
+];
+
 async function main() {
     fs.mkdirSync(pictures, { recursive: true });
     const browser = await { chromium: Chromium, firefox: Firefox }[name].open(page);
@@ -396,10 +426,8 @@ async function main() {
     try {
         await browser.size(1200, 800);
         await browser.dark(false);
-        for (const part of [comparesCases, runsExamples, findsDeadlock, marksFaults, findsStuckEnding, steps, worksByKeys, judges, shares, opensAndSaves, showsManyThreads, showsManySteps, stops, looks]) {
-            if (process.env.PARTS && !process.env.PARTS.split(",").includes(part.name)) continue;
-            await part(browser, hand);
-        }
+        const only = process.env.PARTS?.split(",");
+        for (const part of PARTS) if (!only || only.includes(part.name)) await part(browser, hand);
     } catch (fault) {
         bad += 1;
         console.log(`${name}: broken off: ${fault.stack.slice(0, 700)}`);

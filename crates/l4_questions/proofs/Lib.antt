@@ -2,3 +2,6 @@ pub mod Following
 pub mod Printing
 pub mod Telling
 pub mod Sharing
+mod Begun
+mod Alike
+mod OfAll

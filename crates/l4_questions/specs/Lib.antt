@@ -2,4 +2,5 @@ pub mod Answers
 pub mod Asked
 pub mod Beside
 pub mod Printed
+pub mod Runs
 pub mod Shown

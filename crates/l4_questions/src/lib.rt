@@ -6,7 +6,8 @@
 //!
 //! Contracts see the bytes: they are those of all endings that the question asks for, and of no
 //! others. `l4_lines` reads the lines that it asks for. `answers_beside` also tells who waits for
-//! whom in each ending, and which endings do not meet a text of expectations.
+//! whom in each ending, and which endings do not meet a text of expectations. `laws` says of all core
+//! runs what an answer says of the endings that were found.
 //!
 //! ```rust
 //! let question = Question { stuck: true, none: true, ..Question::new(1_000, 100_000) };
@@ -18,6 +19,7 @@ mod answering;
 mod asked;
 pub mod beside;
 mod closed;
+pub mod laws;
 mod printed;
 pub mod question;
 

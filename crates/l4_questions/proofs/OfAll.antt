@@ -1,0 +1,162 @@
+-- What is asked of the endings that were found is asked of all core runs that come to rest.
+use Rattle.std.proofs.Common.{◌≡◌, ℕ, zero, suc, ◌<◌, Bool, true, false, cond, Option, Some, None, List, [], ◌∷◌, ◌++◌, length, refl, ap, ap₂, sym, subst, ◌∙◌, arith}
+use Rattle.std.specs.Prelude.{◌&&◌, filter, slice_index_or}
+use Rattle.std.specs.List.{AllByRecursion, list_all}
+use Rattle.std.specs.Option.{option_copied}
+use Rattle.l4_model.specs.Machine.{Machine}
+use Rattle.l4_model.specs.Conditions.{◌>>=◌}
+use Rattle.l4_core_model.specs.Laws.{IsCoreRun}
+use Rattle.l4_core_model.specs.Runs.{Action, Happened, IsMachine, Run, at_rest, core_run, happens, opening_run, then_event}
+use Rattle.l4_core_model.specs.Schedules.{or_stays}
+use Rattle.l4_merge.proofs.CoreRuns.{core_run-append}
+use Rattle.l4_choices.specs.Entries.{Entry, entry_event, replay_entries, replays}
+use Rattle.l4_states.specs.Endings.{AreAllEndings, IsAmong, IsEnding, ending_at, led}
+use Rattle.l4_expect.specs.Expected.{Expected}
+use Rattle.l4_expect.specs.Unmet.{expected_status}
+use Rattle.l4_questions.specs.Answers.{IsAnswered, IsSearched}
+use Rattle.l4_questions.specs.Asked.{asked_of, has_asked, if_stuck, is_asked, lacks_asked, report_of_run}
+use Rattle.l4_questions.specs.Beside.{IsAnsweredBeside, meets}
+use Rattle.l4_questions.specs.Printed.{answer_status}
+use Rattle.l4_questions.specs.Runs.{AsksNoLine, ComesToRest, StandsFor, is_asked_after, is_stuck_after}
+use Rattle.l4_questions.specs.declared.question.Question.{Question}
+use Rattle.l4_questions.proofs.Alike.{are_common, stuck_alike}
+
+-- A replay is a core run.
+
+one_more : (m : Machine) (r : Run) (o : Option Action) → IsCoreRun m r →
+    IsCoreRun m (or_stays r (o >>= happens m r.system))
+one_more m r None is = is
+one_more m r (Some action) is = by (happens m r.system action) refl
+  where
+    by : (o : Option Happened) → happens m r.system action ≡ o → IsCoreRun m (or_stays r o)
+    by None none = is
+    by (Some h) some = (
+      is.0 ++ action ∷ [],
+      core_run-append m is.0 (action ∷ []) (opening_run m) r (then_event r h) is.1 (rw some refl),
+    )
+
+replays_run : (m : Machine) (entries : List Entry) (r : Run) → IsCoreRun m r →
+    IsCoreRun m (replays m r entries)
+replays_run m [] r is = is
+replays_run m (entry ∷ entries) r is =
+    replays_run m entries (or_stays r (entry_event m r.system entry >>= happens m r.system))
+    (one_more m r (entry_event m r.system entry) is)
+
+pub replay_run : (m : Machine) (entries : List Entry) → IsCoreRun m (replay_entries m entries)
+replay_run m entries = replays_run m entries (opening_run m) ([], refl)
+
+-- The ending at a place
+
+at_place : (P : List Entry → Type 0) (endings : List (List Entry)) (i : ℕ) → i < length endings →
+    AllByRecursion P endings → P (ending_at endings i)
+at_place P [] i inside all = absurd (omega (arith, inside))
+at_place P (e ∷ es) zero inside all = all.0
+at_place P (e ∷ es) (suc i) inside all = at_place P es i (omega (arith, inside)) all.1
+
+-- What a list without such elements has is not such.
+none_such : (p : List Entry → Bool) (endings : List (List Entry)) (i : ℕ) → i < length endings →
+    filter p endings ≡ [] → p (ending_at endings i) ≡ false
+none_such p [] i inside none = absurd (omega (arith, inside))
+none_such p (e ∷ es) i inside none = by i inside (p e) refl none (none_such p es)
+  where
+    by : (i : ℕ) → i < suc (length es) → (b : Bool) → p e ≡ b →
+        cond b (e ∷ filter p es) (filter p es) ≡ [] →
+        ((i : ℕ) → i < length es → filter p es ≡ [] → p (ending_at es i) ≡ false) →
+        p (ending_at (e ∷ es) i) ≡ false
+    by i inside true is none rest = cc
+    by zero inside false is none rest = is
+    by (suc i) inside false is none rest = rest i (omega (arith, inside)) none
+
+-- A question asks for both of two runs, or for neither, where each of its conditions does.
+asked_alike : (m : Machine) (q : Question) (r s : Run) → is_stuck_after m r ≡ is_stuck_after m s →
+    has_asked (option_copied q.with_line) (report_of_run m r)
+    ≡ has_asked (option_copied q.with_line) (report_of_run m s) →
+    lacks_asked (option_copied q.never) (report_of_run m r)
+    ≡ lacks_asked (option_copied q.never) (report_of_run m s) →
+    is_asked_after m q r ≡ is_asked_after m q s
+asked_alike m q r s stuck has lacks =
+    ap₂ (λ (lines none : Bool). lines && none)
+    (ap₂ (λ (waits some : Bool). if_stuck q.stuck waits && some) stuck has) lacks
+
+no_lines : (m : Machine) (q : Question) → AsksNoLine q → (r s : Run) →
+    is_stuck_after m r ≡ is_stuck_after m s → is_asked_after m q r ≡ is_asked_after m q s
+no_lines m q none r s same =
+    asked_alike m q r s same
+    (ap (λ o. has_asked (option_copied o) (report_of_run m r)) none.with_line
+    ∙ sym (ap (λ o. has_asked (option_copied o) (report_of_run m s)) none.with_line))
+    (ap (λ o. lacks_asked (option_copied o) (report_of_run m r)) none.never
+    ∙ sym (ap (λ o. lacks_asked (option_copied o) (report_of_run m s)) none.never))
+
+pub stands_for : (m : Machine) (q : Question) (endings : List (List Entry)) (depth : ℕ) →
+    IsMachine m → AsksNoLine q → AreAllEndings m endings depth true → (r : Run) → ComesToRest m r →
+    StandsFor m q endings r
+stands_for m q endings depth machine none all r run =
+    let among = all.whole refl r.system (length run.actions)
+    (record {
+      actions = run.actions;
+      run = r;
+      is = run.is;
+      ticks = run.ticks;
+      system = refl;
+      count = refl;
+    }) run.rest in
+    let entries = ending_at endings among.place in
+    let ending = at_place (IsEnding m) endings among.place among.inside all.sound in
+    let common = are_common m machine (replay_entries m entries) r (replay_run m entries)
+    (run.actions, run.is) ending.rest among.similar in
+    record {
+      place = among.place;
+      inside = among.inside;
+      similar = among.similar;
+      asked = no_lines m q none (replay_entries m entries) r
+          (stuck_alike m (replay_entries m entries) r common among.similar);
+    }
+
+pub none_asked : (m : Machine) (q : Question) (endings : List (List Entry)) (r : Run) →
+    asked_of m q endings ≡ [] → StandsFor m q endings r → is_asked_after m q r ≡ false
+none_asked m q endings r none s =
+    sym s.asked ∙ none_such (is_asked m q) endings s.place s.inside none
+
+-- Status 0 where no such ending should exist
+
+record IsWholeAndEmpty (asked : List (List Entry)) (is_whole : Bool) : Type 0 where
+  none : asked ≡ []
+  whole : is_whole ≡ true
+
+by_status : (asked : List (List Entry)) (is_whole : Bool) → 0 ≡ answer_status true asked is_whole →
+    IsWholeAndEmpty asked is_whole
+by_status [] true is = record { none = refl; whole = refl }
+by_status [] false is = absurd (omega (arith, is))
+by_status (e ∷ endings) is_whole is = absurd (omega (arith, is))
+
+met_status : (met : Bool) (status : ℕ) → 0 ≡ expected_status met status → 0 ≡ status
+met_status true status is = is
+met_status false status is = absurd (omega (arith, is))
+
+pub searched_none : (m : Machine) (q : Question) (endings : List (List Entry)) (states depth : ℕ)
+    (is_whole : Bool) → IsMachine m → AsksNoLine q → q.none ≡ true →
+    IsSearched m q endings states depth is_whole →
+    0 ≡ answer_status q.none (asked_of m q endings) is_whole →
+    (r : Run) → ComesToRest m r → is_asked_after m q r ≡ false
+searched_none m q endings states depth is_whole machine lines none searched status r run =
+    let is = by_status (asked_of m q endings) is_whole
+    (status ∙ ap (λ (b : Bool). answer_status b (asked_of m q endings) is_whole) none) in
+    none_asked m q endings r is.none
+    (stands_for m q endings depth machine lines
+    (subst (AreAllEndings m endings depth) is.whole searched.all) r run)
+
+pub answered_none : (m : Machine) (q : Question) (lines : List ℕ) → IsMachine m → AsksNoLine q →
+    q.none ≡ true → IsAnswered m q lines 0 → (r : Run) → ComesToRest m r →
+    is_asked_after m q r ≡ false
+answered_none m q lines machine no_line none a =
+    searched_none m q a.endings a.states a.depth a.is_whole machine no_line none a.searched
+    a.status_is
+
+pub beside_none : (m : Machine) (q : Question) (waits : Bool) (expected : Option (List Expected))
+    (lines unmet : List ℕ) → IsMachine m → AsksNoLine q → q.none ≡ true →
+    IsAnsweredBeside m q waits expected lines unmet 0 → (r : Run) → ComesToRest m r →
+    is_asked_after m q r ≡ false
+beside_none m q waits expected lines unmet machine no_line none a =
+    searched_none m q a.endings a.states a.depth a.is_whole machine no_line none a.searched
+    (met_status (list_all (meets expected m) (asked_of m q a.endings))
+    (answer_status q.none (asked_of m q a.endings) a.is_whole) a.status_is)

@@ -23,6 +23,7 @@ async function call(compiled, words, files, limit) {
     };
     const put = (bytes) => {
         const at = l4_room(BigInt(bytes.length + 16));
+        if (!at) throw new Error("no room for the words and files");
         new Uint8Array(memory.buffer, Number(at), bytes.length).set(bytes);
         return at;
     };

@@ -14,7 +14,7 @@ function printedBy(program, { words, files }) {
         }
         const env = { ...process.env };
         for (const name of ["COLUMNS", "TERM"]) delete env[name];
-        const done = spawnSync(program, words, { cwd: folder, env, input: files["/dev/stdin"] ?? "", maxBuffer: 2 ** 30 });
+        const done = spawnSync(path.resolve(program), words, { cwd: folder, env, input: files["/dev/stdin"] ?? "", maxBuffer: 2 ** 30 });
         return { status: done.status, out: done.stdout, faults: done.stderr };
     } finally {
         fs.rmSync(folder, { recursive: true });

@@ -1,5 +1,5 @@
 -- What line_fault lets through does not tell the lines of similar endings apart.
-use Rattle.std.proofs.Common.{◌≡◌, ◌⊎◌, inl, inr, ℕ, Bool, true, false, not, cond, Option, Some, None, List, [], ◌∷◌, refl, ap, ap₂, sym, ◌∙◌}
+use Rattle.std.proofs.Common.{◌≡◌, ℕ, Bool, true, false, not, cond, Option, Some, None, List, [], ◌∷◌, refl, ap, ap₂, sym, ◌∙◌}
 use Rattle.std.specs.Prelude.{◌&&◌, ◌||◌, is_some, codes}
 use Rattle.std.specs.Str.{bytes_eq}
 use Rattle.std.proofs.lemmas.Slice.Eq.{bytes_eq-Decides}
@@ -8,7 +8,6 @@ use Rattle.l4_model.specs.World.{Name}
 use Rattle.l4_words.specs.Names.{is_name, name_of, name_word}
 use Rattle.l4_words.proofs.ReadNames.{name_is_read}
 use Rattle.l4_lines.specs.Lines.{are_rest, asks_for_number, asks_of_deleted, fault_of_words, fits, fits_word, is_any, is_send_of, may_begin, thread_asked}
-use Rattle.l4_lines.specs.declared.lines.LineFault.{LineFault}
 use Rattle.l4_lines.specs.declared.lines.LineFault.TheVariants.{Unknown, Deleted, Number}
 
 -- What has no fault

@@ -1,16 +1,16 @@
 -- Reports of core runs that come to rest in similar states have the same lines that may be asked
 -- for.
-use Rattle.std.proofs.Common.{◌≡◌, ◌⊎◌, inl, inr, ℕ, zero, suc, ◌<◌, Bool, true, false, not, Option, Some, None, List, [], ◌∷◌, ◌++◌, length, map, refl, ap, ap₂, sym, subst, ◌∙◌, append_assoc, arith}
+use Rattle.std.proofs.Common.{◌≡◌, ◌⊎◌, inl, inr, ℕ, suc, ◌<◌, Bool, true, false, not, Option, Some, None, List, [], ◌∷◌, ◌++◌, length, map, refl, ap, ap₂, sym, subst, ◌∙◌, append_assoc, arith}
 use Rattle.std.specs.Prelude.{◌&&◌, ◌||◌, codes, decimal, flat_map, is_none, slice_index_or, zip}
 use Rattle.std.specs.List.{list_all, list_any}
 use Rattle.std.proofs.lemmas.Bool.{and_parts}
 use Rattle.l4_model.specs.Words.{GlobalId, Id}
 use Rattle.l4_model.specs.Machine.{Declaration, Machine}
-use Rattle.l4_model.specs.World.{Deleted, Name, Phase, Thread, World, opening_thread}
-use Rattle.l4_model.specs.History.{Report, reached, report_of, state_of, view, waiting}
+use Rattle.l4_model.specs.World.{Deleted, Name, Phase, Thread, opening_thread}
+use Rattle.l4_model.specs.History.{Report, report_of, state_of, waiting}
 use Rattle.l4_model.proofs.Worlds.{reached_facts}
 use Rattle.l4_core_model.specs.Runs.{Run, at_rest, told}
-use Rattle.l4_in_common.specs.InCommon.{AreDeleted, AreToldAlike, HaveInCommon}
+use Rattle.l4_in_common.specs.InCommon.{AreDeleted, AreToldAlike}
 use Rattle.l4_words.specs.Names.{is_name, name_word}
 use Rattle.l4_words.specs.Numbers.{hexadecimal}
 use Rattle.l4_words.specs.Threads.{id_word, thread_word}

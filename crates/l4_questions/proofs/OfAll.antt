@@ -1,17 +1,17 @@
 -- What is asked of the endings that were found is asked of all core runs that come to rest.
 use Rattle.std.proofs.Common.{◌≡◌, ℕ, zero, suc, ◌<◌, Bool, true, false, cond, Option, Some, None, List, [], ◌∷◌, ◌++◌, length, refl, ap, ap₂, sym, subst, ◌∙◌, arith}
-use Rattle.std.specs.Prelude.{◌&&◌, filter, slice_index_or}
+use Rattle.std.specs.Prelude.{◌&&◌, filter}
 use Rattle.std.specs.List.{AllByRecursion, list_all}
 use Rattle.std.specs.Option.{option_copied}
 use Rattle.l4_model.specs.Machine.{Machine}
 use Rattle.l4_model.specs.Conditions.{◌>>=◌}
 use Rattle.l4_core_model.specs.Laws.{IsCoreRun}
-use Rattle.l4_core_model.specs.Runs.{Action, Happened, IsMachine, Run, at_rest, core_run, happens, opening_run, then_event}
+use Rattle.l4_core_model.specs.Runs.{Action, Happened, IsMachine, Run, at_rest, happens, opening_run, then_event}
 use Rattle.l4_core_model.specs.Schedules.{or_stays}
 use Rattle.l4_merge.proofs.CoreRuns.{core_run-append}
 use Rattle.l4_choices.specs.Entries.{Entry, entry_event, replay_entries, replays}
 use Rattle.l4_shifted.specs.Shifted.{IsShifted}
-use Rattle.l4_states.specs.Endings.{AreAllEndings, IsAmong, IsEnding, ending_at, led}
+use Rattle.l4_states.specs.Endings.{AreAllEndings, IsEnding, ending_at, led}
 use Rattle.l4_expect.specs.Expected.{Expected}
 use Rattle.l4_expect.specs.Unmet.{expected_status}
 use Rattle.l4_questions.specs.Answers.{IsAnswered, IsSearched}

@@ -1,16 +1,16 @@
 -- Core runs that come to rest in similar states are stuck alike.
-use Rattle.std.proofs.Common.{◌≡◌, ◌⊎◌, inl, inr, ℕ, zero, suc, ◌<◌, Bool, true, false, not, Option, Some, None, List, [], ◌∷◌, length, map, refl, ap, ap₂, sym, subst, ◌∙◌, arith}
-use Rattle.std.specs.Prelude.{◌==◌, ◌||◌, slice_get, slice_index, slice_index_or}
+use Rattle.std.proofs.Common.{◌≡◌, ◌⊎◌, inl, inr, ℕ, zero, suc, ◌<◌, Bool, true, not, Option, Some, None, List, [], ◌∷◌, length, map, refl, ap, ap₂, sym, ◌∙◌}
+use Rattle.std.specs.Prelude.{◌||◌, slice_get, slice_index, slice_index_or}
 use Rattle.std.specs.List.{list_any, range_with_len}
 use Rattle.std.specs.Option.{option_map}
 use Rattle.l4_model.specs.Words.{GlobalId, Id}
 use Rattle.l4_model.specs.Machine.{Declaration, Machine, place_of}
-use Rattle.l4_model.specs.World.{Name, Phase, Ready, Sending, Receiving, Ordering, Ended, Deleted, Receive, Send, Thread, World, opening_thread, receive_now}
+use Rattle.l4_model.specs.World.{Name, Phase, Ready, Sending, Receiving, Ordering, Ended, Deleted, Send, Thread, World, opening_thread, receive_now}
 use Rattle.l4_model.specs.Steps.{Step}
-use Rattle.l4_model.specs.Conditions.{◌>>=◌, ◌>>◌, Found, found_at, Pending, undecided}
+use Rattle.l4_model.specs.Conditions.{Pending, undecided}
 use Rattle.l4_model.specs.History.{reached, report_of, waiting}
-use Rattle.l4_model.proofs.Chains.{bind_then, guard_then, some_is}
-use Rattle.l4_model.proofs.Places.{KnownSend, known_send, eqb_same, place_id, sender_found}
+use Rattle.l4_model.proofs.Chains.{some_is}
+use Rattle.l4_model.proofs.Places.{known_send, eqb_same, place_id}
 use Rattle.l4_core_model.specs.Laws.{IsCoreRun}
 use Rattle.l4_core_model.specs.Local.{Local, declared, thread}
 use Rattle.l4_core_model.specs.Runs.{IsMachine, Run, System, at_rest, is_empty, told}
@@ -21,9 +21,8 @@ use Rattle.l4_split.specs.Laws.{home_thread, thread_of}
 use Rattle.l4_split.proofs.Law.{RunFacts, run_facts}
 use Rattle.l4_in_common.specs.InCommon.{AreDeleted, AreToldAlike, HaveInCommon, thread_at}
 use Rattle.l4_in_common.proofs.InCommon.{in_common}
-use Rattle.l4_questions.specs.Asked.{has_closed_receive, is_closed, is_closed_at, sends_after, sends_in}
-use Rattle.l4_questions.specs.Runs.{is_stuck_after}
-use Rattle.l4_questions.proofs.Begun.{Has, IsPending, is_listed, is_pending}
+use Rattle.l4_questions.specs.Asked.{has_closed_receive, is_closed, is_closed_at, is_stuck_after, sends_after, sends_in}
+use Rattle.l4_questions.proofs.Begun.{Has, is_listed, is_pending}
 
 -- A receive is closed by who it is from, and not by when it began.
 

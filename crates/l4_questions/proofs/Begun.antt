@@ -1,15 +1,14 @@
 -- The sends that wait after a core run are those that its threads have.
-use Rattle.std.proofs.Common.{◌≡◌, ◌⊎◌, inl, inr, ℕ, zero, suc, ◌+◌, ◌<◌, ◌≤◌, Bool, true, false, cond, Option, Some, None, List, [], ◌∷◌, length, refl, ap, sym, subst, ◌∙◌, arith}
-use Rattle.std.specs.Prelude.{◌==◌, filter_map, is_some, slice_get, slice_index_or}
+use Rattle.std.proofs.Common.{◌≡◌, ◌⊎◌, inl, inr, ℕ, ◌+◌, ◌<◌, ◌≤◌, Bool, true, false, cond, Option, Some, None, List, [], ◌∷◌, refl, ap, sym, subst, ◌∙◌, arith}
+use Rattle.std.specs.Prelude.{is_some}
 use Rattle.std.specs.List.{cons_option}
-use Rattle.std.specs.Option.{option_map}
 use Rattle.std.proofs.lemmas.List.Sums.{sum_by-cons}
 use Rattle.l4_model.specs.Words.{Id}
 use Rattle.l4_model.specs.Machine.{Machine}
 use Rattle.l4_model.specs.World.{Name, World, opening}
 use Rattle.l4_model.specs.Steps.{Step, next}
 use Rattle.l4_model.specs.Conditions.{◌>>=◌, Pending, undecided}
-use Rattle.l4_model.specs.History.{begun_name, reached, run, waiting, waiting_name}
+use Rattle.l4_model.specs.History.{begun_name, reached, run, waiting}
 use Rattle.l4_model.specs.Laws.{begins_of, names, same_name}
 use Rattle.l4_model.proofs.Accounted.{opening_pending, pending_is, step_balance}
 use Rattle.l4_model.proofs.Chains.{bind_then, some_is}

@@ -4,4 +4,7 @@ pub mod Telling
 pub mod Sharing
 mod Begun
 mod Alike
+mod Fits
+mod Texts
+mod Lines
 mod OfAll

@@ -1,25 +1,27 @@
 -- What is asked of the endings that were found is asked of all core runs that come to rest.
 use Rattle.std.proofs.Common.{◌≡◌, ℕ, zero, suc, ◌<◌, Bool, true, false, cond, Option, Some, None, List, [], ◌∷◌, ◌++◌, length, refl, ap, ap₂, sym, subst, ◌∙◌, arith}
-use Rattle.std.specs.Prelude.{◌&&◌, filter, slice_index_or}
+use Rattle.std.specs.Prelude.{◌&&◌, filter}
 use Rattle.std.specs.List.{AllByRecursion, list_all}
 use Rattle.std.specs.Option.{option_copied}
 use Rattle.l4_model.specs.Machine.{Machine}
 use Rattle.l4_model.specs.Conditions.{◌>>=◌}
 use Rattle.l4_core_model.specs.Laws.{IsCoreRun}
-use Rattle.l4_core_model.specs.Runs.{Action, Happened, IsMachine, Run, at_rest, core_run, happens, opening_run, then_event}
+use Rattle.l4_core_model.specs.Runs.{Action, Happened, IsMachine, Run, at_rest, happens, opening_run, then_event}
 use Rattle.l4_core_model.specs.Schedules.{or_stays}
 use Rattle.l4_merge.proofs.CoreRuns.{core_run-append}
 use Rattle.l4_choices.specs.Entries.{Entry, entry_event, replay_entries, replays}
-use Rattle.l4_states.specs.Endings.{AreAllEndings, IsAmong, IsEnding, ending_at, led}
+use Rattle.l4_shifted.specs.Shifted.{IsShifted}
+use Rattle.l4_states.specs.Endings.{AreAllEndings, IsEnding, ending_at, led}
 use Rattle.l4_expect.specs.Expected.{Expected}
 use Rattle.l4_expect.specs.Unmet.{expected_status}
 use Rattle.l4_questions.specs.Answers.{IsAnswered, IsSearched}
-use Rattle.l4_questions.specs.Asked.{asked_of, has_asked, if_stuck, is_asked, lacks_asked, report_of_run}
+use Rattle.l4_questions.specs.Asked.{asked_of, has_asked, if_stuck, is_asked, is_asked_after, is_stuck_after, lacks_asked, report_of_run}
 use Rattle.l4_questions.specs.Beside.{IsAnsweredBeside, meets}
 use Rattle.l4_questions.specs.Printed.{answer_status}
-use Rattle.l4_questions.specs.Runs.{AsksNoLine, ComesToRest, StandsFor, is_asked_after, is_stuck_after}
+use Rattle.l4_questions.specs.Runs.{AreSpelled, AsksForLines, AsksNoLine, ComesToRest, IsSpelled, StandsFor}
 use Rattle.l4_questions.specs.declared.question.Question.{Question}
-use Rattle.l4_questions.proofs.Alike.{are_common, stuck_alike}
+use Rattle.l4_questions.proofs.Alike.{AreCommon, are_common, stuck_alike}
+use Rattle.l4_questions.proofs.Lines.{has_alike, lacks_alike}
 
 -- A replay is a core run.
 
@@ -87,10 +89,15 @@ no_lines m q none r s same =
     (ap (λ o. lacks_asked (option_copied o) (report_of_run m r)) none.never
     ∙ sym (ap (λ o. lacks_asked (option_copied o) (report_of_run m s)) none.never))
 
-pub stands_for : (m : Machine) (q : Question) (endings : List (List Entry)) (depth : ℕ) →
-    IsMachine m → AsksNoLine q → AreAllEndings m endings depth true → (r : Run) → ComesToRest m r →
+-- A listed ending stands for a run where similar ones are asked for alike.
+stands_by : (m : Machine) (q : Question) (endings : List (List Entry)) (depth : ℕ) →
+    IsMachine m → AreAllEndings m endings depth true → (r : Run) → ComesToRest m r →
+    ((i : ℕ) → i < length endings → IsShifted (led m (ending_at endings i)) r.system →
+    at_rest m (led m (ending_at endings i)) ≡ true →
+    AreCommon m (replay_entries m (ending_at endings i)) r →
+    is_asked m q (ending_at endings i) ≡ is_asked_after m q r) →
     StandsFor m q endings r
-stands_for m q endings depth machine none all r run =
+stands_by m q endings depth machine all r run alike =
     let among = all.whole refl r.system (length run.actions)
     (record {
       actions = run.actions;
@@ -102,15 +109,35 @@ stands_for m q endings depth machine none all r run =
     }) run.rest in
     let entries = ending_at endings among.place in
     let ending = at_place (IsEnding m) endings among.place among.inside all.sound in
-    let common = are_common m machine (replay_entries m entries) r (replay_run m entries)
-    (run.actions, run.is) ending.rest among.similar in
     record {
       place = among.place;
       inside = among.inside;
       similar = among.similar;
-      asked = no_lines m q none (replay_entries m entries) r
-          (stuck_alike m (replay_entries m entries) r common among.similar);
+      asked = alike among.place among.inside among.similar ending.rest
+          (are_common m machine (replay_entries m entries) r (replay_run m entries)
+          (run.actions, run.is) ending.rest among.similar);
     }
+
+pub stands_for : (m : Machine) (q : Question) (endings : List (List Entry)) (depth : ℕ) →
+    IsMachine m → AsksNoLine q → AreAllEndings m endings depth true → (r : Run) → ComesToRest m r →
+    StandsFor m q endings r
+stands_for m q endings depth machine none all r run =
+    stands_by m q endings depth machine all r run (λ i inside similar rest common.
+    no_lines m q none (replay_entries m (ending_at endings i)) r
+    (stuck_alike m (replay_entries m (ending_at endings i)) r common similar))
+
+pub lines_stand_for : (m : Machine) (q : Question) (endings : List (List Entry)) (depth : ℕ) →
+    IsMachine m → AsksForLines q → AreAllEndings m endings depth true → AreSpelled m endings →
+    (r : Run) → ComesToRest m r → IsSpelled m r → StandsFor m q endings r
+lines_stand_for m q endings depth machine may all spelled r run told =
+    stands_by m q endings depth machine all r run (λ i inside similar rest common.
+    let entries = ending_at endings i in
+    let s = replay_entries m entries in
+    let its = at_place (λ e. IsSpelled m (replay_entries m e)) endings i inside spelled in
+    let both = rest ∙ sym run.rest in
+    asked_alike m q s r (stuck_alike m s r common similar)
+    (has_alike m s r common both its told (option_copied q.with_line) may.with_line)
+    (lacks_alike m s r common both its told (option_copied q.never) may.never))
 
 pub none_asked : (m : Machine) (q : Question) (endings : List (List Entry)) (r : Run) →
     asked_of m q endings ≡ [] → StandsFor m q endings r → is_asked_after m q r ≡ false
@@ -158,5 +185,32 @@ pub beside_none : (m : Machine) (q : Question) (waits : Bool) (expected : Option
     is_asked_after m q r ≡ false
 beside_none m q waits expected lines unmet machine no_line none a =
     searched_none m q a.endings a.states a.depth a.is_whole machine no_line none a.searched
+    (met_status (list_all (meets expected m) (asked_of m q a.endings))
+    (answer_status q.none (asked_of m q a.endings) a.is_whole) a.status_is)
+
+pub lines_none : (m : Machine) (q : Question) (endings : List (List Entry)) (states depth : ℕ)
+    (is_whole : Bool) → IsMachine m → AsksForLines q → q.none ≡ true →
+    IsSearched m q endings states depth is_whole →
+    0 ≡ answer_status q.none (asked_of m q endings) is_whole → AreSpelled m endings →
+    (r : Run) → ComesToRest m r → IsSpelled m r → is_asked_after m q r ≡ false
+lines_none m q endings states depth is_whole machine lines none searched status spelled r run told =
+    let is = by_status (asked_of m q endings) is_whole
+    (status ∙ ap (λ (b : Bool). answer_status b (asked_of m q endings) is_whole) none) in
+    none_asked m q endings r is.none
+    (lines_stand_for m q endings depth machine lines
+    (subst (AreAllEndings m endings depth) is.whole searched.all) spelled r run told)
+
+pub answered_lines : (m : Machine) (q : Question) (lines : List ℕ) → IsMachine m →
+    AsksForLines q → q.none ≡ true → (a : IsAnswered m q lines 0) → AreSpelled m a.endings →
+    (r : Run) → ComesToRest m r → IsSpelled m r → is_asked_after m q r ≡ false
+answered_lines m q lines machine may none a =
+    lines_none m q a.endings a.states a.depth a.is_whole machine may none a.searched a.status_is
+
+pub beside_lines : (m : Machine) (q : Question) (waits : Bool) (expected : Option (List Expected))
+    (lines unmet : List ℕ) → IsMachine m → AsksForLines q → q.none ≡ true →
+    (a : IsAnsweredBeside m q waits expected lines unmet 0) → AreSpelled m a.endings →
+    (r : Run) → ComesToRest m r → IsSpelled m r → is_asked_after m q r ≡ false
+beside_lines m q waits expected lines unmet machine may none a =
+    lines_none m q a.endings a.states a.depth a.is_whole machine may none a.searched
     (met_status (list_all (meets expected m) (asked_of m q a.endings))
     (answer_status q.none (asked_of m q a.endings) a.is_whole) a.status_is)

@@ -9,7 +9,6 @@ use Rattle.l4_model.specs.History.{Report, reached, view, waiting as undecided_s
 use Rattle.l4_core_model.specs.Runs.{Run, System, at_rest, is_empty, told}
 use Rattle.l4_choices.specs.Entries.{Entry, replay_entries}
 use Rattle.l4_split.specs.Laws.{home_thread}
-use Rattle.l4_states.specs.Endings.{led}
 use Rattle.l4_reports.specs.ReportLines.{ending_at_rest, report_text}
 use Rattle.l4_lines.specs.Lines.{has_line}
 use Rattle.l4_questions.specs.declared.question.Question.{Question}
@@ -41,8 +40,12 @@ abbrev pub report_after : Machine → List Entry → List ℕ
 report_after m entries = report_of_run m (replay_entries m entries)
 
 -- A send waits for its receiver.
+
+abbrev pub has_waiting_send_after : Machine → Run → Bool
+has_waiting_send_after m r = not (is_empty (sends_after m r))
+
 abbrev pub has_waiting_send : Machine → List Entry → Bool
-has_waiting_send m entries = not (is_empty (sends_after m (replay_entries m entries)))
+has_waiting_send m entries = has_waiting_send_after m (replay_entries m entries)
 
 -- A receive from one thread is closed to all others. A receive from any, or from any local thread,
 -- is open, as that of an idle server.
@@ -65,11 +68,14 @@ is_closed_at m g place = is_closed (receive_now (home_thread m g.locals place).p
 abbrev pub has_closed_receive : Machine → System → Bool
 has_closed_receive m g = list_any (is_closed_at m g) (range_with_len 0 (length m.threads))
 
--- A thread waits that may wait for ever.
-abbrev pub is_stuck : Machine → List Entry → Bool
-is_stuck m entries = has_waiting_send m entries || has_closed_receive m (led m entries)
+-- A thread waits that may wait for ever, after a core run.
+abbrev pub is_stuck_after : Machine → Run → Bool
+is_stuck_after m r = has_waiting_send_after m r || has_closed_receive m r.system
 
--- All conditions of a question.
+abbrev pub is_stuck : Machine → List Entry → Bool
+is_stuck m entries = is_stuck_after m (replay_entries m entries)
+
+-- All conditions of a question, of what a core run ends with.
 
 abbrev pub if_stuck : (asked is : Bool) → Bool
 if_stuck true is = is
@@ -83,11 +89,14 @@ abbrev pub lacks_asked : Option (List ℕ) → (report : List ℕ) → Bool
 lacks_asked None report = true
 lacks_asked (Some line) report = not (has_line line report)
 
+abbrev pub is_asked_after : Machine → Question → Run → Bool
+is_asked_after m q r =
+    if_stuck q.stuck (is_stuck_after m r)
+    && has_asked (option_copied q.with_line) (report_of_run m r)
+    && lacks_asked (option_copied q.never) (report_of_run m r)
+
 abbrev pub is_asked : Machine → Question → List Entry → Bool
-is_asked m q entries =
-    if_stuck q.stuck (is_stuck m entries)
-    && has_asked (option_copied q.with_line) (report_after m entries)
-    && lacks_asked (option_copied q.never) (report_after m entries)
+is_asked m q entries = is_asked_after m q (replay_entries m entries)
 
 abbrev pub asked_of : Machine → Question → List (List Entry) → List (List Entry)
 asked_of m q endings = filter (is_asked m q) endings

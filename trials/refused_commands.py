@@ -64,10 +64,8 @@ def outcome(program, command, folder, env):
 
 
 def is_right(found, wanted):
-    """Whether a refused growth was borne, or reported with nothing else done. A fault of which only the line was refused stands behind its output."""
-    status, output, faults, record = found
-    is_whole = wanted[2] and output == wanted[1]
-    return found == wanted or ((status, faults, record) == (1, NO_MEMORY, None) and (not output or is_whole))
+    """Whether a refused growth was borne, or reported with nothing else done."""
+    return found in (wanted, (1, b"", NO_MEMORY, None))
 
 
 def refusals(library, program, cases, command):

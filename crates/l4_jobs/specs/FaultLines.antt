@@ -1,5 +1,5 @@
 -- The lines of faults.
-use Rattle.std.specs.Prelude.{◌≡◌, ◌⊎◌, ℕ, Bool, List, ◌++◌, codes, decimal}
+use Rattle.std.specs.Prelude.{ℕ, Bool, List, ◌++◌, codes, decimal}
 use Rattle.l4_expect.specs.declared.judging.Wrong.{Wrong}
 use Rattle.l4_expect.specs.declared.judging.Wrong.TheVariants as wrong
 use Rattle.l4_script.specs.declared.text.fault.TextFaultKind.{TextFaultKind}
@@ -47,8 +47,11 @@ fault_words fault.Write = codes "cannot write"
 abbrev pub fault_line : Fault → List ℕ
 fault_line f = codes "l4run: " ++ fault_words f ++ codes "\n"
 
--- The fault's one line was handed to the writer, or that of refused memory where the line had none.
--- If the writer did not take all of it, only the status tells.
+-- A line whose words are followed by a number, a colon and a name, each of which may be empty.
+abbrev pub line_in_parts : (words number colon name : List ℕ) → List ℕ
+line_in_parts words number colon name =
+    codes "l4run: " ++ (words ++ (number ++ (colon ++ (name ++ codes "\n"))))
+
+-- The fault's one line was handed to the writer. If it did not take all of it, only the status tells.
 abbrev pub IsReported : (takes : (bytes : List ℕ) → (all : Bool) → Type 0) → Fault → Type 0
-IsReported takes f = (line : List ℕ) × ((line ≡ fault_line f) ⊎
-    (line ≡ fault_line fault.NoMemory)) × ((all : Bool) × takes line all)
+IsReported takes f = (all : Bool) × takes (fault_line f) all

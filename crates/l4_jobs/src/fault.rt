@@ -1,10 +1,9 @@
 //! What the program reports on standard error, one line each.
-ghost use Rattle.std.specs.Prelude.{◌≡◌, ◌⊎◌, IfOk, Some};
-ghost use Rattle.std.specs.String.{string_bytes};
+ghost use Rattle.std.specs.Prelude.{◌≡◌, IfOk, MatchResult, false, true};
 ghost use Rattle.l4_jobs.specs.Audits.{fault_of_reading};
 ghost use Rattle.l4_jobs.specs.ChartJobs.{fault_of_list};
 ghost use Rattle.l4_jobs.specs.Expectations.{fault_of_expect};
-ghost use Rattle.l4_jobs.specs.FaultLines.{kind_word, wrong_word, fault_words, fault_line};
+ghost use Rattle.l4_jobs.specs.FaultLines.{kind_word, wrong_word, fault_line, line_in_parts};
 ghost use Rattle.l4_jobs.specs.FaultLines.{IsReported};
 ghost use Rattle.l4_jobs.specs.Inputs.{IsUnread};
 ghost use Rattle.l4_jobs.specs.Jobs.{text_fault};
@@ -12,7 +11,8 @@ ghost use Rattle.l4_jobs.specs.Schedules.{fault_of_run};
 ghost use Rattle.l4_jobs.specs.Searches.{fault_of_question};
 ghost use Rattle.l4_jobs.specs.declared.fault.Fault.TheVariants.{NoMemory as OutOfMemory};
 
-use crate::streams::Sink;
+use crate::streams::{NotWritten, Sink};
+use itoa::Buffer;
 use l4_chart::threads::ThreadsFault;
 use l4_expect::expectations::ExpectFault;
 use l4_expect::judging::Wrong;
@@ -21,9 +21,8 @@ use l4_questions::question::QuestionFault;
 use l4_script::text::{TextFault, TextFaultKind};
 use l4_trace::fault::TraceFault;
 use l4_types::errors::NoMemory;
-use std::alloc::{AllocError, Global};
+use std::alloc::Global;
 use std::fmt;
-use std::fmt::Display;
 use std::io::ErrorKind;
 use thiserror::Error;
 
@@ -192,51 +191,80 @@ fn spelled_wrong(wrong: Wrong) -> &'static str
     }
 }
 
-// The words of a fault. They are those of its `Display`, which has no contract.
-#[derive(Clone, Copy)]
-struct Words<'f, 'a>(&'f Fault<'a>);
+// Writes a line in parts, of which all but the words may be empty.
+fn put_line<'p, E: Sink>(
+    faults: &mut E,
+    words: &'p str,
+    number: &'p str,
+    colon: &'p str,
+    name: &'p str,
+) -> Result<(), NotWritten>
+    ensures { MatchResult result
+        (λ _. E.takes faults.old faults.new
+        (line_in_parts words.now number.now colon.now name.now) true)
+        (λ _. E.takes faults.old faults.new
+        (line_in_parts words.now number.now colon.now name.now) false) }
+{
+    faults.put_parts(&["l4run: ", words, number, colon, name, "\n"])
+}
 
-impl Display for Words<'_, '_> {
-    ghost output = { λ words. Some (fault_words words.0.now) };
-
-    fn fmt<W: fmt::Write>(&self, f: &mut fmt::Formatter<W>) -> fmt::Result {
-        match self.0 {
-            Fault::Text { line, kind } => write!(f, "line {line}: {}", spelled_kind(*kind)),
-            Fault::Turns => f.write_str("turns out of range"),
-            Fault::Depth => f.write_str("depth out of range"),
-            Fault::States => f.write_str("states out of range"),
-            Fault::Schedule(number) => write!(f, "schedule item {number}"),
-            Fault::Threads(number) => write!(f, "threads item {number}"),
-            Fault::Trace(line) => write!(f, "trace line {line}"),
-            Fault::Refused(step) => write!(f, "refused at step {step}"),
-            Fault::Expectation(line, wrong) => {
-                write!(f, "expectation line {line}: {}", spelled_wrong(*wrong))
-            }
-            Fault::NoMemory => f.write_str("no memory"),
-            Fault::Read(name) => write!(f, "cannot read {name}"),
-            Fault::Unwritten(name) => write!(f, "cannot write {name}"),
-            Fault::Write => f.write_str("cannot write"),
+// Writes the line of a fault, and takes no memory. Its words are those of the fault's `Display`,
+// which has no contract.
+fn put_fault<E: Sink>(faults: &mut E, fault: &Fault<'_>) -> Result<(), NotWritten>
+    ensures { MatchResult result (λ _. E.takes faults.old faults.new (fault_line fault.now) true)
+        (λ _. E.takes faults.old faults.new (fault_line fault.now) false) }
+{
+    let mut digits = Buffer::new();
+    match fault {
+        Fault::Text { line, kind } => {
+            let kind = spelled_kind(*kind);
+            put_line(faults, "line ", digits.format(*line), ": ", kind)
         }
+        Fault::Turns => put_line(faults, "turns out of range", "", "", ""),
+        Fault::Depth => put_line(faults, "depth out of range", "", "", ""),
+        Fault::States => put_line(faults, "states out of range", "", "", ""),
+        Fault::Schedule(item) => put_line(faults, "schedule item ", digits.format(*item), "", ""),
+        Fault::Threads(item) => put_line(faults, "threads item ", digits.format(*item), "", ""),
+        Fault::Trace(line) => put_line(faults, "trace line ", digits.format(*line), "", ""),
+        Fault::Refused(step) => put_line(faults, "refused at step ", digits.format(*step), "", ""),
+        Fault::Expectation(line, wrong) => {
+            let wrong = spelled_wrong(*wrong);
+            put_line(
+                faults,
+                "expectation line ",
+                digits.format(*line),
+                ": ",
+                wrong,
+            )
+        }
+        Fault::NoMemory => put_line(faults, "no memory", "", "", ""),
+        Fault::Read(name) => put_line(faults, "cannot read ", "", "", name),
+        Fault::Unwritten(name) => put_line(faults, "cannot write ", "", "", name),
+        Fault::Write => put_line(faults, "cannot write", "", "", ""),
     }
 }
 
 // The line of a fault.
-pub(crate) fn line_of(alloc: Global, fault: &Fault<'_>) -> Result<String, AllocError>
-    ensures { IfOk result (λ line. string_bytes line ≡ fault_line fault.now) }
+pub(crate) fn line_of(alloc: Global, fault: &Fault<'_>) -> Result<Vec<u8>, NoMemory>
+    ensures { IfOk result (λ line. line.items ≡ fault_line fault.now) }
 {
-    format!(in alloc; "l4run: {}\n", Words(fault))
+    let mut line = Vec::new(alloc);
+    match put_fault(&mut line, fault) {
+        Ok(()) => Ok(line),
+        Err(_) => Err(NoMemory),
+    }
 }
 
-/// Writes the line of a fault and returns the exit status 1. If memory for the line is refused, it
-/// writes that of `NoMemory`.
+/// Writes the line of a fault and returns the exit status 1. It is one write, unless memory for the
+/// line is refused.
 pub fn report<E: Sink>(alloc: Global, faults: &mut E, fault: &Fault<'_>) -> u8
     ensures told { IsReported (E.takes faults.old faults.new) fault.now }
     ensures status { result ≡ 1 }
 {
-    // Where this can't be written either, only the status says so.
+    // Where this can't be written, only the status says so.
     let _ = match line_of(alloc, fault) {
-        Ok(line) => faults.put(line.as_bytes()),
-        Err(_) => faults.put(b"l4run: no memory\n"),
+        Ok(line) => faults.put(line.as_slice()),
+        Err(_) => put_fault(faults, fault),
     };
     1
 }

@@ -1,8 +1,9 @@
 //! What a job reads from and writes to: sources, sinks, and folders that open files. Unlike those
 //! of std's readers and writers, their contracts also say when a call failed.
 ghost use Rattle.std.specs.Prelude.{◌≡◌, ◌⊎◌, ℕ, Bool, List, take, true, false, Result, Ok, Err};
-ghost use Rattle.std.specs.Prelude.{IfOk, OnErr, MatchResult, Some};
+ghost use Rattle.std.specs.Prelude.{IfOk, OnErr, MatchResult, Some, flat_map};
 ghost use Rattle.std.specs.Option.{option_copied};
+ghost use Rattle.std.specs.Io.KnownBytes.{Keeps};
 ghost use Rattle.std.specs.declared.io.ErrorKind.{ErrorKind as Kind};
 ghost use Rattle.l4_jobs.specs.Streams.{GivenGives, HasAppended, IsWrittenApart, MayGive, MayTake};
 ghost use Rattle.l4_jobs.specs.Streams.{OpenedGives, OpensWithInput, TellsOver, name_read};
@@ -68,6 +69,12 @@ pub trait Sink {
     fn put(&mut self, bytes: &[u8]) -> Result<(), NotWritten>
         ensures { MatchResult result (λ _. takes self.old self.new bytes.now true)
             (λ _. takes self.old self.new bytes.now false) };
+
+    /// Writes texts, one behind the other, and flushes.
+    fn put_parts(&mut self, parts: &[&str]) -> Result<(), NotWritten>
+        ensures { MatchResult result
+            (λ _. takes self.old self.new (flat_map (λ part. part.now) parts.now) true)
+            (λ _. takes self.old self.new (flat_map (λ part. part.now) parts.now) false) };
 }
 
 // Writes a beginning of the bytes, and returns what is left of them.
@@ -86,19 +93,54 @@ fn write_some<'a, W: Write>(out: &mut W, bytes: &'a [u8]) -> Result<&'a [u8], No
     }
 }
 
+// Writes the bytes, or a beginning of them.
+#[tactic(auto, using(crate::proofs::Appending::onto, crate::proofs::Appending::begun, crate::proofs::Appending::whole))]
+fn write_whole<W: Write>(out: &mut W, bytes: &[u8]) -> Result<(), NotWritten>
+    ensures { MatchResult result
+        (λ _. MayTake (W.contents out.old) (W.contents out.new) bytes.now true)
+        (λ _. MayTake (W.contents out.old) (W.contents out.new) bytes.now false) }
+{
+    let mut left = bytes;
+    for _ in 0..u64::MAX {
+        if left.is_empty() {
+            return Ok(());
+        }
+        left = write_some(out, left)?;
+    }
+    Err(NotWritten)
+}
+
+// Writes the texts, one behind the other, or a beginning of them all.
+fn write_parts<W: Write>(out: &mut W, parts: &[&str]) -> Result<(), NotWritten>
+    ensures { MatchResult result
+        (λ _. MayTake (W.contents out.old) (W.contents out.new)
+        (flat_map (λ part. part.now) parts.now) true)
+        (λ _. MayTake (W.contents out.old) (W.contents out.new)
+        (flat_map (λ part. part.now) parts.now) false) }
+{
+    for part in parts {
+        write_whole(out, part.as_bytes())?;
+    }
+    Ok(())
+}
+
+fn flush<W: Write>(out: &mut W) -> Result<(), NotWritten>
+    ensures { Keeps (W.contents out.old) (W.contents out.new) }
+{
+    out.flush().map_err(|_| NotWritten)
+}
+
 impl<W: Write> Sink for W {
     ghost takes = { λ old new bytes all. MayTake (W.contents old) (W.contents new) bytes all };
 
-    #[tactic(auto, using(crate::proofs::Appending::onto, crate::proofs::Appending::begun, crate::proofs::Appending::whole))]
     fn put(&mut self, bytes: &[u8]) -> Result<(), NotWritten> {
-        let mut left = bytes;
-        for _ in 0..u64::MAX {
-            if left.is_empty() {
-                return self.flush().map_err(|_| NotWritten);
-            }
-            left = write_some(self, left)?;
-        }
-        Err(NotWritten)
+        write_whole(self, bytes)?;
+        flush(self)
+    }
+
+    fn put_parts(&mut self, parts: &[&str]) -> Result<(), NotWritten> {
+        write_parts(self, parts)?;
+        flush(self)
     }
 }
 

@@ -23,7 +23,7 @@ fn refusal(alloc: Global, refused: Option<usize>) -> Result<Vec<u8>, NoMemory>
 {
     match refused {
         None => Ok(Vec::new(alloc)),
-        Some(step) => Ok(line_of(alloc, &Fault::Refused(step))?.into_bytes()),
+        Some(step) => line_of(alloc, &Fault::Refused(step)),
     }
 }
 

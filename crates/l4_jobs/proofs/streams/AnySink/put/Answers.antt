@@ -1,5 +1,5 @@
-use Rattle.l4_jobs.proofs.Appending.{onto}
+use Rattle.l4_jobs.proofs.Appending.{flushed}
 use Rattle.l4_jobs.proofs.streams.AnySink.put.Goals as goal
 
-pub loop-preserved : goal.loop-preserved
-loop-preserved g c = onto _ _ _ _ _ _ c.loop.invariant c.in_ok-left.ensures.some
+pub returns : goal.returns
+returns g c = flushed _ _ _ _ _ c.in_ok-write_whole.ensures c.flush.ensures

@@ -36,7 +36,8 @@ function verdictOf({ report, steps }, isBeginning) {
 
 // What a search for endings came to: of all, of the stuck ones, or of those with or without a line.
 function searchText({ endings, last, isStuckOnly, isPart }) {
-    const [, states, , depth, whole] = last.split(" ");
+    const [found, ...known] = last.split(", ");
+    const [, states, , depth, whole] = found.split(" ");
     const isWhole = whole === "whole";
     const bad = endings.filter(({ report }) => report.threads.some((thread) => thread.isStuck)).length;
     const tone = bad ? "bad" : isWhole ? "good" : "fair";
@@ -44,7 +45,15 @@ function searchText({ endings, last, isStuckOnly, isPart }) {
         ? `All orders of the processors were searched: ${counted(states, "state")}, up to ${counted(depth, "item")}.`
         : `Cut off after ${counted(states, "state")}, ${counted(depth, "item")}: there may be more. Limits has the numbers.`;
     const choose = endings.length ? ["Choose one to step through it."] : [];
-    return { tone, head: endingsText(endings.length, bad, isStuckOnly, isPart), lines: [searched, ...choose] };
+    return { tone, head: endingsText(endings.length, bad, isStuckOnly, isPart), lines: [searched, ...limitsText(known), ...choose] };
+}
+// Of which runs a whole search knows, as its last line says.
+function limitsText(known) {
+    const texts = {
+        "least ticks": "Each clock went to the least deadline of its processor. Where it goes further first, there may be others.",
+        "in turn": "Threads of one processor took their turns in one order. A kernel that takes them in another may end otherwise.",
+    };
+    return known.map((word) => texts[word] ?? word);
 }
 function endingsText(all, bad, isStuckOnly, isPart) {
     const such = isPart ? "such " : "";

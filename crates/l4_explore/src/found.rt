@@ -65,6 +65,14 @@ impl Found {
         self.codes.len()
     }
 
+    /// The code of the state at a place.
+    pub fn code(&self, place: usize) -> &[u8]
+        requires { place < length self.now }
+        ensures { result.now ≡ (seen_at self.now place).state.code }
+    {
+        self.codes.code(place)
+    }
+
     /// Whether nothing is left to do in the state at a place.
     pub fn is_end(&self, place: usize) -> bool
         requires { place < length self.now }
@@ -88,6 +96,20 @@ impl Found {
         }
         schedule.reverse();
         Ok(schedule)
+    }
+
+    /// How many entries the schedule of the state at a place has.
+    pub fn depth(&self, place: usize) -> usize
+        requires { place < length self.now }
+        ensures { result ≡ length (seen_at self.now place).schedule }
+    {
+        let mut depth = 0;
+        let mut place = place;
+        while let Some(arrival) = self.last_step(place) {
+            depth += 1;
+            place = arrival.from as usize;
+        }
+        depth
     }
 
     // The last step of the schedule of the state at a place. None if the schedule is empty.

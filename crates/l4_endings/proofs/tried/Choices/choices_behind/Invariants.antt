@@ -3,7 +3,7 @@ use Rattle.l4_explore.specs.Views.{next_from}
 use Rattle.l4_states.specs.Choices.{state_after}
 use Rattle.l4_endings.specs.Tried.{AreUpTo, IsTickOf}
 use Rattle.l4_endings.proofs.Walking.{IsNearAfter}
-use Rattle.l4_endings.proofs.tried.ChoicesTries.choices.Given as goal
+use Rattle.l4_endings.proofs.tried.Choices.choices_behind.Given as goal
 
 -- All that lead on below the next one were listed, and the deadlines of the ticks among them are
 -- near.

@@ -214,13 +214,17 @@ def may_ask_to_propagate(instruction):
 
 @dataclasses.dataclass(eq=False)
 class Found:
-    """A world with how many steps but ticks lead to it, the world before, and the last steps, with ticks."""
+    """A world with how many steps but ticks lead to it, what is possible there, the world before, and the last steps, with ticks."""
 
     world: World
     steps: int
+    possible: list
     before: "Found | None" = None
     last: tuple = ()
-    is_ending: bool = False
+
+    @property
+    def is_ending(self):
+        return not self.possible
 
     def history(self):
         parts, found = [], self
@@ -244,14 +248,13 @@ class Search:
 
 def search(machine, depth, most, reduction):
     """Ends where a world is as deep as this, or where there is one world more than these."""
-    opening = Found(World(machine), 0)
-    worlds, order = {code(opening.world): opening}, [opening]
+    first = World(machine)
+    opening = Found(first, 0, possible(first))
+    worlds, order = {code(first): opening}, [opening]
     for found in order:
-        steps = possible(found.world)
-        found.is_ending = not steps
-        if steps and found.steps >= depth:
+        if found.possible and found.steps >= depth:
             return Search(worlds, depth, False)
-        for step in reduction.chosen(steps):
+        for step in reduction.chosen(found.possible):
             last = (*ticks(found.world), step)
             world = after(found.world, last)
             key = code(world)
@@ -259,7 +262,7 @@ def search(machine, depth, most, reduction):
                 continue
             if len(worlds) >= most:
                 return Search(worlds, found.steps, False)
-            worlds[key] = Found(world, found.steps + 1, found, last)
+            worlds[key] = Found(world, found.steps + 1, possible(world), found, last)
             order.append(worlds[key])
     return Search(worlds, order[-1].steps, True)
 

@@ -1,0 +1,11 @@
+pub mod Alone
+pub mod Spared
+pub mod Own
+pub mod Begun
+pub mod Tried
+pub mod Next
+pub mod Quiet
+pub mod Given
+pub mod Plain
+pub mod First
+pub mod Examples

@@ -1,0 +1,4 @@
+pub mod Apart
+pub mod Coded
+pub mod Entries
+pub mod Ways

@@ -1,0 +1,274 @@
+"""A search in breadth of all worlds that histories of a machine reach, under any scheduler and at any times.
+
+Ticks are no choices: before each step all clocks go so far on that each finite period is over, as no step but a tick ever asks that one is not. Worlds are told apart by
+all that a later step may read but time and numbers of sends. So an ending comes with a shortest history, but for ticks, to a world in which nothing but clocks can go on."""
+
+import copy
+import dataclasses
+
+from second import machines, threads, traces, words
+from second.model import World
+from second.threads import Name, Phase
+
+# Longer than each period that a time has.
+LONG = 1 << 42
+
+
+# Worlds
+
+
+def copied(world):
+    """Another world in which all is as it is in this one."""
+    other = World.__new__(World)
+    other.machine = world.machine
+    other.sends = {name: copy.copy(send) for name, send in world.sends.items()}
+    other.members = {thread: member_copied(member, other.sends) for thread, member in world.members.items()}
+    other.send_wishes = set(world.send_wishes)
+    other.owed = dict(world.owed)
+    other.clocks = list(world.clocks)
+    return other
+
+
+def member_copied(member, sends):
+    other = copy.copy(member)
+    other.context = copy.copy(member.context)
+    other.context.registers = list(member.context.registers)
+    other.send = member.send and sends[member.send.name]
+    other.waiting = list(member.waiting)
+    return other
+
+
+def ticks(world):
+    """So many that each finite period which stands is over."""
+    return [("tick", cpu, clock + LONG) for cpu, clock in enumerate(world.clocks) if is_timed(world)]
+
+
+def is_timed(world):
+    """Whether a finite period stands that is not over yet, by any clock."""
+    periods = [member.period for member in world.members.values() if member.receives()] + [send.period for send in world.sends.values()]
+    return any(periods)
+
+
+def after(world, steps):
+    other = copied(world)
+    for step in steps:
+        other.take(*step)
+    return other
+
+
+def code(world):
+    """What tells it from other worlds. Nothing reads the registers, the place or the order of what waits of a deleted thread any more."""
+    members = tuple(member_code(world, member) for member in world.members.values())
+    owed = tuple((owed.name.thread, owed.originator, owed.old_partner, owed.new_partner) for owed in world.owed.values())
+    return members, owed
+
+
+def member_code(world, member):
+    waiting = tuple(name.thread for name in member.waiting)
+    send = member.send and send_code(member.send, member.send.name in world.send_wishes)
+    if not member.alive:
+        return tuple(sorted(waiting)), send, member.order
+    return waiting, send, member.order, context_code(member.context), phase_code(member), member.receive_wish
+
+
+def context_code(context):
+    return tuple(context.registers), int(context.error), context.last, context.actual, context.place
+
+
+def phase_code(member):
+    if member.phase is Phase.RECEIVING:
+        return member.phase.value, member.source, member.period
+    return member.phase.value
+
+
+def send_code(send, is_cancelled):
+    return send.destination, send.label, send.message, send.propagated, send.shown, send.period, send.source, send.receive_period, is_cancelled
+
+
+# What is possible
+
+
+def late(_thread):
+    return traces.LAST_CLOCK
+
+
+def possible(world):
+    """Every step but ticks that is possible now or after ticks alone."""
+    steps = [step for thread, member in world.members.items() for step in of_thread(world, thread, member)]
+    return steps + [("retarget", name) for name in world.owed]
+
+
+def of_thread(world, thread, member):
+    own = own_step(world, thread, member)
+    if own:
+        yield own
+    if member.order is not None:
+        yield "obey", thread
+    yield from of_receive(world, thread, member)
+    if member.send is not None:
+        yield from of_send(world, member.send.name)
+
+
+def own_step(world, thread, member):
+    """That of the instruction which a thread is ready for."""
+    if not member.alive or member.phase is not Phase.READY:
+        return None
+    context = member.context
+    instruction = context.instruction()
+    if threads.concerns_nobody_else(world.machine, context):
+        return "local", thread
+    if isinstance(instruction, machines.Order):
+        return "order", thread, instruction.target, instruction.what
+    if context.destination(instruction) == words.NIL:
+        return "wait", thread
+    return "begin", Name(thread, context.begun + 1)
+
+
+def of_receive(world, thread, member):
+    if not member.receives():
+        return
+    if world.can_rtimeout(thread, late):
+        yield "rtimeout", thread
+    if world.can_rnobody(thread):
+        yield "rnobody", thread
+    if world.can_rcancel(thread):
+        yield "rcancel", thread
+
+
+def of_send(world, name):
+    if world.can_queue(name):
+        yield "queue", name
+    if world.can_deliver(name):
+        yield "deliver", name, *world.told(name)
+    if world.can_stimeout(name, late):
+        yield "stimeout", name
+    if world.can_snobody(name):
+        yield "snobody", name
+    if world.can_scancel(name):
+        yield "scancel", name
+    if world.can_drop(name):
+        yield "drop", name
+
+
+# A thread's own next step alone
+
+
+class Reduction:
+    """Which threads nobody else can disturb, by the scripts alone."""
+
+    def __init__(self, machine):
+        declared = machine.threads.values()
+        self.deleted = {thread for thread in machine.threads if is_named(declared, thread, deletes)}
+        self.ordered = {thread for thread in machine.threads if is_named(declared, thread, orders)}
+        self.tried = {thread for thread in machine.threads if is_named(declared, thread, tries)}
+        self.turns = machine.retargets() and any(may_ask_to_propagate(each) for declaration in declared for each in declaration.script)
+
+    def is_alone(self, step):
+        match step:
+            case ("local", thread) | ("order", thread, *_):
+                return thread not in self.deleted
+            case ("wait", thread) | ("begin", Name(thread, _)):
+                return not self.turns and thread not in self.ordered and thread not in self.tried
+        return False
+
+    def chosen(self, steps):
+        """The first step that need be tried alone, or else all."""
+        return next(([step] for step in steps if self.is_alone(step)), steps)
+
+
+class All:
+    """Nothing is left out."""
+
+    def chosen(self, steps):
+        return steps
+
+
+def is_named(declared, thread, names):
+    return any(names(each, thread) for declaration in declared if declaration.thread != thread for each in declaration.script)
+
+
+def deletes(instruction, thread):
+    return orders(instruction, thread) and instruction.what == machines.DELETE
+
+
+def orders(instruction, thread):
+    return isinstance(instruction, machines.Order) and instruction.target == thread
+
+
+def tries(instruction, thread):
+    return isinstance(instruction, machines.Ipc) and instruction.send_period == 0 and instruction.to in (thread, machines.LAST)
+
+
+def may_ask_to_propagate(instruction):
+    """Bit 12 of MR0 asks. A message that is received has it only where one asked before."""
+    match instruction:
+        case machines.Tag(word):
+            return bool(word & words.PROPAGATED)
+        case machines.Set(register, _) | machines.Copy(register, _) | machines.Add(register, _):
+            return register == 0
+    return False
+
+
+# The search
+
+
+@dataclasses.dataclass(eq=False)
+class Found:
+    """A world with how many steps but ticks lead to it, what is possible there, the world before, and the last steps, with ticks."""
+
+    world: World
+    steps: int
+    possible: list
+    before: "Found | None" = None
+    last: tuple = ()
+
+    @property
+    def is_ending(self):
+        return not self.possible
+
+    def history(self):
+        parts, found = [], self
+        while found:
+            parts.append(found.last)
+            found = found.before
+        return [step for part in reversed(parts) for step in part]
+
+
+@dataclasses.dataclass(frozen=True)
+class Search:
+    """How many worlds were found, the endings among them, how deep all are told, and whether there are no more."""
+
+    worlds: dict
+    steps: int
+    is_whole: bool
+
+    def endings(self):
+        return [found for found in self.worlds.values() if found.is_ending]
+
+
+def search(machine, depth, most, reduction):
+    """Ends where a world is as deep as this, or where there is one world more than these."""
+    first = World(machine)
+    opening = Found(first, 0, possible(first))
+    worlds, order = {code(first): opening}, [opening]
+    for found in order:
+        if found.possible and found.steps >= depth:
+            return Search(worlds, depth, False)
+        for step in reduction.chosen(found.possible):
+            last = (*ticks(found.world), step)
+            world = after(found.world, last)
+            key = code(world)
+            if key in worlds:
+                continue
+            if len(worlds) >= most:
+                return Search(worlds, found.steps, False)
+            worlds[key] = Found(world, found.steps + 1, possible(world), found, last)
+            order.append(worlds[key])
+    return Search(worlds, order[-1].steps, True)
+
+
+def answer(machine, depth, most):
+    """The lines of each ending and the last line."""
+    found = search(machine, depth, most, Reduction(machine))
+    parts = [f"ending {number} steps {ending.steps}\n{ending.world.report(at_rest=True)}" for number, ending in enumerate(found.endings(), 1)]
+    return "".join(parts) + f"worlds {len(found.worlds)} steps {found.steps} {'whole' if found.is_whole else 'cut'}\n"

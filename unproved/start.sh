@@ -34,8 +34,9 @@ keep_program() {
     ) 9>"$kept/lock"
 }
 
-# How a program that a check stops reports that: the functions that were under way, by their names.
-reports="symbolize=1:external_symbolizer_path='$top/unproved/llvm-symbolizer':stack_trace_format='in %f':dump_registers=0:print_summary=0"
+# How a program that a check stops reports that: the functions that were under way, by their names, but for those that were compiled into their caller.
+# Memory that was freed is known as long as it is in the last mebibyte of such memory: more than that takes a search twice as long.
+reports="symbolize=1:external_symbolizer_path='$top/unproved/llvm-symbolizer':stack_trace_format='in %f':dump_registers=0:print_summary=0:malloc_context_size=0:quarantine_size_mb=1"
 
 # Does what `l4run` does with these words.
 start_unproved() {

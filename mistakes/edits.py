@@ -43,6 +43,8 @@ class Edit:
                 self.pairs[-1] = file, old, f"{self.pairs[-1][2]}\n{text}"
             elif key == "new":
                 self.pairs.append((file, old, text))
+            else:
+                sys.exit(f"mistakes/{self.group}.edits: {self.name}: a line begins with `{key}`")
             last = key
 
     def planted(self, texts):

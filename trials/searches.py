@@ -40,7 +40,7 @@ def compared(program, file, text, words, counts):
     if not is_same and not agree(told.stdout, expected):
         sys.exit(f"{words}, the machine:\n{text}\nthe program says, {told.returncode}:\n{told.stdout}\nthe second emulator says, {status}:\n{expected}")
     last = expected.splitlines()[-1].split()
-    counts[f"machines whose search is {last[-1]}"] += 1
+    counts[f"machines whose search is {'cut' if last[-1] == 'cut' else 'whole'}"] += 1
     counts[f"machines with status {status}"] += 1
     counts["machines with the same lines and status"] += is_same
     counts["states"] += int(last[1])

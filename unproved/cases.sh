@@ -9,6 +9,7 @@ called=x
 
 if [ $# = 0 ]; then
     mapfile -t names < <("$top/.ci/cases")
+    [ ${#names[@]} != 0 ] || { echo 'x: no case is listed' >&2 && exit 1; }
     set -- "${names[@]}"
 fi
 keep_program
@@ -50,9 +51,9 @@ for job in "${jobs[@]}"; do
 done
 cat "$work"/said-* | awk '
     /^all cases as wanted$/ { next }
-    /^[0-9]+ commands differ$/ { differ += $1; next }
+    /^[0-9]+ commands or faults differ$/ { differ += $1; next }
     { print }
-    END { if (differ) print differ " commands differ" }
+    END { if (differ) print differ " commands or faults differ" }
 '
 [ "$status" = 0 ] && echo 'all cases as wanted'
 exit "$status"

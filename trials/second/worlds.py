@@ -6,8 +6,8 @@ all that a later step may read but time and numbers of sends. So an ending comes
 import copy
 import dataclasses
 
-from second import machines, threads, traces, words
-from second.model import World
+from second import machines, threads, words
+from second.model import World, late
 from second.threads import Name, Phase
 
 # Longer than each period that a time has.
@@ -18,7 +18,7 @@ LONG = 1 << 42
 
 
 def copied(world):
-    """Another world in which all is as it is in this one."""
+    """Another world in which all is as it is in this one, as `World.copy` makes it, without what no step changes: a search copies for each step."""
     other = World.__new__(World)
     other.machine = world.machine
     other.sends = {name: copy.copy(send) for name, send in world.sends.items()}
@@ -86,10 +86,6 @@ def send_code(send, is_cancelled):
 
 
 # What is possible
-
-
-def late(_thread):
-    return traces.LAST_CLOCK
 
 
 def possible(world):

@@ -23,7 +23,7 @@ sys.path.insert(0, str(HERE / "module"))
 import module  # noqa: E402
 
 # What a worker has, and what the page has, in this order.
-WORKER = ["../module/call.js", "reading.js", "next.js", "rest.js", "worker.js"]
+WORKER = ["../module/call.js", "reading.js", "next.js", "possible.js", "rest.js", "worker.js"]
 SCRIPT = [
     "reading.js",
     "places.js",
@@ -64,7 +64,11 @@ def made_from(is_proved):
 def lessons():
     """The examples in the order of their page, with what each shows and the commands in its last lines."""
     folder = TOP / "examples"
-    about = dict(re.findall(r"^\| `(\S+\.l4)` \| (.*?) \|$", (folder / "README.md").read_text(), re.M))
+    listed = re.findall(r"^- `(\S+\.l4)`: (.*?)\n(?=- |\n)", (folder / "README.md").read_text(), re.M | re.S)
+    about = {}
+    for name, said in listed:
+        # The page may name a text again further down.
+        about.setdefault(name, " ".join(said.split()))
     others = sorted(it.name for it in folder.glob("*.l4") if it.name not in about)
     found = []
     for name in [*about, *others]:

@@ -188,6 +188,20 @@ static _Bool same(const u8 *a, const u8 *b) {
     return *a == *b;
 }
 
+// The bytes of the file of this name, whose place among all is told too, counted from 1. None where there is no such file.
+static const u8 *found(const u8 *name, u64 *size, u64 *place) {
+    *place = 0;
+    for (const u8 *at = files; at < files_end;) {
+        u64 n = length(at);
+        const u8 *bytes = at + n + 9;
+        __builtin_memcpy(size, at + n + 1, 8);
+        ++*place;
+        if (same(at, name)) return bytes;
+        at = bytes + *size;
+    }
+    return 0;
+}
+
 int open(const u8 *name, int flags, ...) {
     int fd = 3;
     while (fd < FILES && (opened[fd].at || opened[fd].is_written)) fd++;
@@ -196,17 +210,35 @@ int open(const u8 *name, int flags, ...) {
         opened[fd].is_written = 1;
         return fd;
     }
-    for (const u8 *at = files; at < files_end;) {
-        u64 n = length(at), size;
-        __builtin_memcpy(&size, at + n + 1, 8);
-        const u8 *bytes = at + n + 9;
-        if (same(at, name)) {
-            opened[fd] = (struct Open){bytes, size, 0};
-            return fd;
-        }
-        at = bytes + size;
-    }
-    return failed(NO_FILE);
+    u64 size, place;
+    const u8 *bytes = found(name, &size, &place);
+    if (!bytes) return failed(NO_FILE);
+    opened[fd] = (struct Open){bytes, size, 0};
+    return fd;
+}
+
+// What the system tells of a file, as far as the program asks: whether it is a regular one, and by which number it is known.
+struct Told {
+    u8 before[28];
+    unsigned short mode;
+    u64 number;
+    u8 behind[216];
+};
+_Static_assert(sizeof(struct Told) == 256, "as struct statx of Linux");
+int statx(int folder, const u8 *name, int flags, u32 wanted, struct Told *to) {
+    u64 size, place;
+    if (!found(name, &size, &place)) return failed(NO_FILE);
+    memset(to, 0, sizeof *to);
+    to->mode = 0100644;
+    to->number = place;
+    return 0;
+}
+
+// Whatever is written to a file is what was recorded, by any name, unless it is removed.
+int rename(const u8 *from, const u8 *to) { return 0; }
+int unlink(const u8 *name) {
+    grown[2].used = 0;
+    return 0;
 }
 
 i64 read(int fd, u8 *to, u64 room) {

@@ -96,7 +96,7 @@ def proved_module(work):
 
     if not PROGRAM.exists():
         sys.exit("page: there is no proved program: ./l4run or ./x gate makes it; with --unproved one is made without a proof")
-    crate, rtlib = unproved.crate(), unproved.rtlib
+    crate, rtlib = unproved.crate("l4run"), unproved.rtlib
     missing = [it.name for it in crate.below() if not pathlib.Path(it.rlib).is_dir()]
     if missing:
         sys.exit(f"page: not proved yet, or no longer there: {', '.join(missing)}; ./l4run or ./x gate proves them")
@@ -120,7 +120,7 @@ def unproved_module(work):
     """The module of the program as it is built without a proof, without the checks of that build, in lines."""
     import unproved
 
-    crate, plain = unproved.crate(), work / "program.ll"
+    crate, plain = unproved.crate("l4run"), work / "program.ll"
     with text_of(unproved.catch(crate, work), work / "checked.ll").open() as lines, plain.open("w") as to:
         to.writelines(unproved.without_checks(lines, unproved.hints(crate)))
     return plain
@@ -177,7 +177,7 @@ def compiled(source, to, work):
     linker = work / "wasm-ld"
     linker.symlink_to(compiler())
     # The stack lies at the bottom, so that one that overflows traps.
-    layout = ["--no-entry", "--gc-sections", "--stack-first", "-z", f"stack-size={STACK}", "--strip-all", "-O2"]
+    layout = ["--no-entry", "--gc-sections", "--stack-first", "-z", f"stack-size={STACK}", "--strip-all", "-O2", "--fatal-warnings"]
     run([linker, "-mwasm64", *layout, program, host, "-o", wide])
     wide.write_bytes(without_table(wide.read_bytes()))
     run(["wasm-opt", *(f"--enable-{it}" for it in FEATURES), "--memory64-lowering", wide, "-o", to])

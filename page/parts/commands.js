@@ -37,9 +37,16 @@ async function command(line) {
     $("words").value = words.map(quoted).join(" ");
     print(made);
     tab("output");
-    const list = words[words.indexOf("--schedule") + 1];
-    // A replay of the text at the left can be stepped through.
-    if (words[0] === "replay" && fileOf(words[1]) === editor.text && !list.startsWith("@") && !isFault(made)) await begin(editor.text, listOf(list));
+    const begun = isFault(made) || fileOf(words[1]) !== editor.text ? null : sessionOf(words, made);
+    if (begun) await begin(begun);
     tellCommand(made, []);
     document.body.dataset.did = "command";
+}
+
+// What can be stepped through of a command over the text at the left: a replay, an audit, or the trace of an ending.
+function sessionOf(words, made) {
+    const list = words[words.indexOf("--schedule") + 1];
+    if (words[0] === "replay" && !list.startsWith("@")) return new Schedule(program, editor.text, listOf(list));
+    if (words[0] === "audit") return new Trace(program, editor.text, stepsOf(fileOf(words[2]) ?? ""));
+    return words[0] === "endings" && words.includes("--trace") ? new Trace(program, editor.text, stepsOf(made.out)) : null;
 }

@@ -1,13 +1,40 @@
-// The tab Endings: a search of all orders of the processors, and a card for each ending.
+// The tab Endings: a search of all orders, and a card for each ending. Where the program searches whatever the scheduler does, an ending
+// has a trace, which is asked for by its number. Where it searches turns as the processors take them, an ending has the list of items.
 
 const MOST_CARDS = 300;
 const MOST_THREADS = 14; // on a card
 
+// Asks the program whether it knows both searches. One that does not has that of the processors' turns alone.
+async function askForSearches() {
+    const [help] = await program.perform("lint", {}, ["help", "endings"]);
+    $("turnsonly").hidden = !help.out.includes("--placed");
+}
+
+// The words of a search: of which kind, and within which limits.
+function searchWords() {
+    const isPlaced = !$("turnsonly").hidden && $("placed").checked;
+    return ["endings", "m.l4", ...(isPlaced ? ["--placed"] : []), "--depth", $("depth").value, "--states", $("states").value];
+}
+
+// Opens an ending that a search with these words found, at its end.
+async function openEnding({ number, list }, words, text) {
+    if (list) {
+        tab("steps");
+        await begin(new Schedule(program, text, list));
+        return;
+    }
+    const [made] = await program.perform("long", { "m.l4": text }, [...words, "--trace", number]);
+    if (isFault(made)) throw new Error(made.faults.trim());
+    tab("steps");
+    await begin(new Trace(program, text, stepsOf(made.out)));
+}
+
 async function search(isStuckOnly) {
     $("onlystuck").checked = isStuckOnly;
-    const words = ["endings", "m.l4", "--depth", $("depth").value, "--states", $("states").value, "--waits"];
-    if (isStuckOnly) words.push("--stuck");
-    for (const name of ["with", "never"]) if ($(name).value.trim()) words.push(`--${name}`, $(name).value.trim());
+    const asked = searchWords();
+    if (isStuckOnly) asked.push("--stuck");
+    for (const name of ["with", "never"]) if ($(name).value.trim()) asked.push(`--${name}`, $(name).value.trim());
+    const words = [...asked, "--waits"];
     const { text } = editor;
     sayIn("found", { tone: "", head: "Searching all orders ..", lines: [] });
     $("endinglist").replaceChildren();
@@ -26,18 +53,18 @@ async function search(isStuckOnly) {
         sayIn("found", { tone: "bad", head: made.faults.trim(), lines: [] });
     } else {
         const found = endingsOf(made.out);
-        const isPart = words.includes("--with") || words.includes("--never");
+        const isPart = asked.includes("--with") || asked.includes("--never");
         sayIn("found", searchText({ ...found, isStuckOnly, isPart }));
         $("count").textContent = found.endings.length;
-        showEndings(found.endings, text);
+        showEndings(found.endings, (ending) => openEnding(ending, asked, text));
         tellCommand(made, [], found.last);
     }
     document.body.dataset.searched = text;
 }
 
-function showEndings(endings, text) {
+function showEndings(endings, open) {
     const differs = differences(endings);
-    const cards = endings.slice(0, MOST_CARDS).map((ending) => endingCard(ending, differs, text));
+    const cards = endings.slice(0, MOST_CARDS).map((ending) => endingCard(ending, differs, () => open(ending)));
     const more = endings.length - cards.length;
     const rest = more > 0 ? [el("p", { className: "none", textContent: `${more} more are in the tab Output.` })] : [];
     $("endinglist").replaceChildren(...cards, ...rest);
@@ -59,26 +86,23 @@ function differences(endings) {
     return (id, name) => values.get(`${id} ${name}`)?.size > 1;
 }
 
-function endingCard({ number, list, report }, differs, text) {
+function endingCard({ number, list, steps, report }, differs, open) {
     const rows = report.threads.map((thread) => endingRow(thread, differs));
     const told = rows.length <= MOST_THREADS ? rows : rows.filter(({ matters }) => matters).slice(0, MOST_THREADS);
     const more = rows.length - told.length;
-    const open = () => {
-        tab("steps");
-        return begin(text, list).then(() => $("slider").focus());
-    };
     const isBad = report.threads.some((thread) => thread.isStuck);
     const deadlocks = report.deadlocks.map((ids) => el("span", { className: "circle", textContent: `deadlock of ${ids.join(", ")}` }));
-    const length = el("small", { textContent: counted(list.length, "item") });
+    const length = el("small", { textContent: list ? counted(list.length, "item") : counted(steps, "step") });
+    const by = list && el("span", { className: "by", title: list.join(","), textContent: list.join(",") || "nothing happens" });
     const name = el("span", { className: "name" }, el("b", { textContent: `Ending ${number}` }), isBad ? "somebody is stuck" : "", length);
     return el(
         "button",
-        { className: `ending ${isBad ? "bad" : "good"}`, onclick: () => guarded(open) },
+        { className: `ending ${isBad ? "bad" : "good"}`, onclick: () => guarded(() => open().then(() => $("slider").focus())) },
         name,
         ...deadlocks,
         ...told.map(({ row }) => row),
         more > 0 && el("span", { className: "small", textContent: `and ${counted(more, "thread")} more` }),
-        el("span", { className: "by", title: list.join(","), textContent: list.join(",") || "nothing happens" }),
+        by,
     );
 }
 

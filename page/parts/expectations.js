@@ -6,21 +6,26 @@ const MOST_MISSING = 200;
 const expectations = () => $("wanted").value.replace(/\n*$/, "\n");
 
 async function fillIn() {
-    const [made] = await program.perform("step", session.files(session.at), ["replay", "m.l4", "--schedule", "@list", "--report"]);
-    $("wanted").value = isFault(made) ? "" : made.out;
+    const [made] = await program.perform("step", session.files(session.at), session.command("--report"));
+    $("wanted").value = isFault(made) ? "" : made.out.replace(/^passed .*\n/, "");
     tellCommand(made, session.done);
 }
 
 async function judge(isOfAll) {
+    if (!isOfAll && session instanceof Trace) {
+        const lines = ["The program judges runs, lists of items, and all endings."];
+        sayIn("judged", { tone: "fair", head: "A state of a trace is judged by none of its commands.", lines });
+        return;
+    }
     const wanted = expectations();
-    const files = isOfAll ? { "m.l4": editor.text, wanted } : { ...session.files(session.at), wanted };
-    const words = isOfAll
-        ? ["endings", "m.l4", "--depth", $("depth").value, "--states", $("states").value]
-        : ["replay", "m.l4", "--schedule", "@list", "--report"];
+    const { text } = editor;
+    const files = isOfAll ? { "m.l4": text, wanted } : { ...session.files(session.at), wanted };
+    const words = isOfAll ? searchWords() : session.command("--report");
     const [made] = await program.perform("long", files, [...words, "--expect", "wanted"]);
     sayIn("judged", judgement(made, isOfAll));
     const missing = made.status === 4 ? linesOf(made.faults).slice(0, MOST_MISSING) : [];
-    $("missing").replaceChildren(...missing.map((line) => el("li", {}, missingLine(line, wanted))));
+    const open = (ending) => openEnding(ending, words, text);
+    $("missing").replaceChildren(...missing.map((line) => el("li", {}, missingLine(line, wanted, open))));
     print(made);
     tellCommand(made, isOfAll ? [] : session.done);
     document.body.dataset.did = "judge";
@@ -42,14 +47,9 @@ function judgement(made, isOfAll) {
 }
 
 // A line that does not hold leads to its expectation, the name of an ending to its steps.
-function missingLine(line, wanted) {
-    const ending = line.match(/^ending (\d+)(?: (\S+))?$/);
-    if (ending) {
-        return button(`ending ${ending[1]}: step through it`, () => {
-            tab("steps");
-            return begin(editor.text, listOf(ending[2] ?? ""));
-        });
-    }
+function missingLine(line, wanted, open) {
+    const ending = headOf(line);
+    if (ending) return button(`ending ${ending.number}: step through it`, () => open(ending));
     return button(line, () => {
         const number = Number(line.match(/^line (\d+): /)?.[1] ?? 1);
         const lines = wanted.split("\n");

@@ -30,7 +30,8 @@ function tell(text) {
     $("status").textContent = text;
 }
 function tellCommand(made, list, note = "") {
-    const words = made.words.map((word) => (word === "m.l4" ? doc.name : word === "@list" ? list.join(",") : word));
+    const names = { "m.l4": doc.name, "m.trace": `${stem()}.trace`, "@list": list.join(",") };
+    const words = made.words.map((word) => names[word] ?? word);
     commandShown = `l4run ${words.map(quoted).join(" ")}`;
     const short = commandShown.length > 150 ? `${commandShown.slice(0, 110)} … ${commandShown.slice(-34)}` : commandShown;
     const took = made.took < 10 ? made.took.toFixed(1) : made.took.toFixed(0);
@@ -125,7 +126,7 @@ function onTyped() {
 async function settled() {
     await lint();
     // A text that nobody has stepped through yet is begun anew at once.
-    if (editor.text !== session.text && !session.list.length) await begin(editor.text);
+    if (editor.text !== session.text && !session.list.length) await begin(session.in(editor.text));
     $("stale").hidden = editor.text === session.text;
     addressSoon();
 }
@@ -150,7 +151,9 @@ function kept(key) {
 let ownAddress = "";
 async function addressOf() {
     const way = { n: doc.name, t: editor.text, v: doc.tab };
-    if (session.text === editor.text && session.list.length) Object.assign(way, { s: session.list.join(","), i: session.at });
+    if (session.text === editor.text && session.list.length) {
+        Object.assign(way, { [session instanceof Trace ? "h" : "s"]: session.written(session.list), i: session.at });
+    }
     if ($("wanted").value) way.e = $("wanted").value;
     return `#z=${await packed(way)}`;
 }
@@ -180,10 +183,10 @@ async function follow() {
     const asked = new URLSearchParams(location.hash.slice(1));
     const way = await wayOf(asked);
     const lesson = lessons.find(({ name }) => name === way.n) ?? lessons[0];
-    const list = listOf(way.s ?? "");
+    const text = way.t ?? lesson.text;
     $("wanted").value = way.e ?? "";
     tab(TABS.includes(way.v) ? way.v : "steps");
-    await opened(way.t === undefined ? lesson.name : way.n ?? "linked.l4", way.t ?? lesson.text, list, way.i ?? list.length);
+    await opened(way.t === undefined ? lesson.name : way.n ?? "linked.l4", text, sessionBy(way.h ?? way.s ?? "", text, way.i));
     if (way.isDamaged) tell("This link is damaged: its text could not be read.");
     if (VERBS[asked.get("do")]) await verb(asked.get("do"));
 }
@@ -195,8 +198,13 @@ async function wayOf(asked) {
     return last ? { n: last.name, t: last.text } : {};
 }
 
+// A list that was typed, opened or linked: of items, or the steps of a trace.
+function sessionBy(list, text, at) {
+    return isTrace(list) ? new Trace(program, text, stepsOf(list), at) : new Schedule(program, text, listOf(list), at);
+}
+
 // Shows a text at the left.
-async function opened(name, text, list = [], at = list.length) {
+async function opened(name, text, begun) {
     doc.name = name;
     document.title = `${name} – l4run`;
     editor.text = text.replaceAll("\r\n", "\n");
@@ -210,10 +218,18 @@ async function opened(name, text, list = [], at = list.length) {
     $("count").textContent = "";
     sayIn("found", { tone: "", head: "No search yet.", lines: [] });
     tellLine(1);
-    await Promise.all([lint(), begin(editor.text, list, at)]);
+    await Promise.all([lint(), begin(begun?.in(editor.text) ?? new Schedule(program, editor.text))]);
 }
+
+// Opens a text; or a list or a trace, which is that of the text at the left.
 async function openedFile(file) {
-    if (file) await opened(file.name, await file.text());
+    if (!file) return;
+    if (!/\.(list|trace)$/.test(file.name)) {
+        await opened(file.name, await file.text());
+        return;
+    }
+    tab("steps");
+    await begin(sessionBy(await file.text(), editor.text));
 }
 
 function saved(name, text, type = "text/plain") {
@@ -241,15 +257,14 @@ async function run() {
     const words = ["run", "m.l4", "--turns", $("turns").value, "--waits", "--counts", "--record", "list"];
     const [made] = await program.perform("long", { "m.l4": editor.text }, words);
     print(made);
-    await begin(editor.text, listOf(made.recorded));
+    await begin(new Schedule(program, editor.text, listOf(made.recorded)));
     tellCommand(made, [], isFault(made) ? "" : `${counted(session.list.length, "item")} recorded`);
 }
 
 // The report of the state that is shown.
 async function report() {
     if (session.text !== editor.text || !session.list.length) await run();
-    const words = ["replay", "m.l4", "--schedule", "@list", "--report", "--waits", "--counts"];
-    const [made] = await program.perform("long", session.files(session.at), words);
+    const [made] = await program.perform("long", session.files(session.at), session.command("--report", "--waits", "--counts"));
     print(made);
     tellCommand(made, session.done);
     tab("output");
@@ -375,10 +390,11 @@ function wireSteps() {
     on("last", "click", () => view(session.list.length));
     on("slider", "input", () => view(Number($("slider").value)));
     on("rest", "click", toRest);
-    on("take", "click", () => begin(session.text, listOf($("schedule").value)));
-    on("copylist", "click", () => copied(session.list.join(","), "list copied"));
-    on("anew", "click", () => begin(editor.text, session.list, session.at));
-    on("zero", "click", () => begin(editor.text));
+    on("take", "click", () => begin(sessionBy($("schedule").value, session.text)));
+    on("copylist", "click", () => copied(session.written(session.list), "list copied"));
+    on("anew", "click", () => begin(session.in(editor.text)));
+    on("zero", "click", () => begin(new session.constructor(program, editor.text)));
+    on("way", "change", () => goOnBy($("way").value));
     on("filter", "change", () => view(session.at));
     on("columns", "change", () => view(session.at));
     on("concerned", "click", onlyConcerned);
@@ -481,6 +497,7 @@ async function start() {
     const module = await bytesThrough(bytesOf64($("packed").textContent), new DecompressionStream("gzip"));
     const limit = () => Math.max(16, Number($("memory").value) || 3072) * 2 ** 20;
     program = new Program(await WebAssembly.compile(module), { onBusy, limit });
+    await guarded(askForSearches);
     await guarded(follow);
     document.body.dataset.ready = "yes";
 }

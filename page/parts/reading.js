@@ -69,18 +69,25 @@ function isClosed(wait) {
     return !!wait && (wait.phase === "send" || (wait.to !== "any" && wait.to !== "anylocal"));
 }
 
-// The endings that a search printed, and its last line.
+// The head of an ending: its number, and either the items that lead there or the number of steps. No head has neither.
+function headOf(line) {
+    const [, number, steps, items] = line.match(/^ending (\d+)(?: steps (\d+)| (\S+))?$/) ?? [];
+    if (number === undefined) return null;
+    return steps === undefined ? { number, list: listOf(items ?? "") } : { number, steps: Number(steps) };
+}
+
+// The endings that a search printed, and its last line. `isEndless`: nothing ends at all.
 function endingsOf(out) {
-    const endings = [];
-    let last = "";
+    const found = { endings: [], last: "", isEndless: false };
     for (const line of linesOf(out)) {
-        const head = line.match(/^ending (\d+)(?: (\S+))?$/);
-        if (head) endings.push({ number: head[1], list: head[2] ? head[2].split(",") : [], lines: [] });
-        else if (line.startsWith("states ")) last = line;
-        else endings.at(-1)?.lines.push(line);
+        const head = headOf(line);
+        if (head) found.endings.push({ ...head, lines: [] });
+        else if (/^(states|worlds) /.test(line)) found.last = line;
+        else if (line.startsWith("no ending")) found.isEndless = true;
+        else found.endings.at(-1)?.lines.push(line);
     }
-    for (const ending of endings) ending.report = reportOf(ending.lines.join("\n"));
-    return { endings, last };
+    for (const ending of found.endings) ending.report = reportOf(ending.lines.join("\n"));
+    return found;
 }
 
 // The marks of `lint`: each has a line, a column, a word and what may stand there, or what is doubtful.
@@ -105,6 +112,11 @@ function listOf(text) {
     const lines = text.split("\n").filter((line) => !line.startsWith(";"));
     return lines.join("\n").split(/[\s,]+/).filter(Boolean);
 }
+
+// The steps of a trace that was typed, opened or printed.
+const stepsOf = (text) => text.split("\n").map((line) => line.trim()).filter(Boolean);
+// A list of items has no word of more than one letter.
+const isTrace = (text) => /^\s*[a-z]{2}/.test(text);
 
 // The words of a command line, as a shell takes them apart: by blanks, and by single and double quotes.
 function wordsOf(line) {

@@ -1,4 +1,5 @@
-// A text and a list of items that is stepped through: what the program says of each beginning of the list.
+// A text and what happens in it, a list that is stepped through: what the program says of each beginning of the list. The list has the
+// items of a schedule, which a replay takes, or the steps of a trace, which an audit judges.
 class Session {
     static KEPT = 64; // states that are remembered
 
@@ -6,35 +7,30 @@ class Session {
         Object.assign(this, { program, text, list, at, machine: machineOf(text), states: new Map(), nexts: new Map(), whole: null });
     }
 
-    // The items that are done.
+    // What is done.
     get done() {
         return this.list.slice(0, this.at);
     }
 
-    // The session in which these items follow what is done. What is known of that stays known.
-    with(items) {
-        const made = new Session(this.program, this.text, [...this.done, ...items]);
+    // The session in which this follows what is done. What is known of that stays known.
+    with(more) {
+        const made = new this.constructor(this.program, this.text, [...this.done, ...more]);
         for (const [place, state] of this.states) if (place <= this.at) made.states.set(place, state);
         made.nexts = this.nexts;
         return made;
     }
 
-    files(place) {
-        return { "m.l4": this.text, list: this.list.slice(0, place).join(",") };
+    // The same list in another text.
+    in(text) {
+        return new this.constructor(this.program, text, this.list, this.at);
     }
 
-    // The states behind so many items each: the report, and the steps up to there. A place below 0 has none.
+    // The states behind so much of the list each: the report, and the steps up to there. A place below 0 has none.
     async statesAt(...places) {
         if (this.states.size > Session.KEPT) {
             for (const place of [...this.states.keys()]) if (!places.includes(place)) this.states.delete(place);
         }
-        for (const place of places) {
-            if (place < 0 || this.states.has(place)) continue;
-            const replay = ["replay", "m.l4", "--schedule", "@list"];
-            const asked = this.program.perform("step", this.files(place), [...replay, "--report", "--waits"], replay);
-            const [made, trace] = await asked;
-            this.states.set(place, { made, report: reportOf(made.out), steps: linesOf(trace.out) });
-        }
+        for (const place of places) if (place >= 0 && !this.states.has(place)) this.states.set(place, await this.stateAt(place));
         return places.map((place) => this.states.get(place));
     }
 
@@ -47,7 +43,7 @@ class Session {
         return this.whole;
     }
 
-    // The least number of items that tell this step.
+    // The least part of the list that tells this step.
     async placeOf(step) {
         let low = 0;
         let high = this.list.length;
@@ -62,19 +58,68 @@ class Session {
 
     // What may happen next. `onPart` hears what was found so far.
     async next(onPart) {
-        const list = this.done;
-        const key = list.join(",");
-        if (!this.nexts.has(key)) {
-            const { cpus, threads } = this.machine;
-            const turns = Math.max(0, ...Array.from({ length: cpus }, (_, cpu) => threads.filter((thread) => thread.cpu === cpu).length));
-            this.nexts.set(key, await this.program.ask("next", { kind: "next", text: this.text, list, cpus, turns }, onPart));
-        }
+        const key = this.written(this.done);
+        if (!this.nexts.has(key)) this.nexts.set(key, await this.program.ask("next", this.question(), onPart));
         return this.nexts.get(key);
+    }
+}
+
+// The items of a schedule: turns, letters and ticks, as the processors take them.
+class Schedule extends Session {
+    static UNIT = "item";
+    static NAME = "The list";
+
+    // A command over the first items.
+    command(...options) {
+        return ["replay", "m.l4", "--schedule", "@list", ...options];
+    }
+    files(place) {
+        return { "m.l4": this.text, list: this.written(this.list.slice(0, place)) };
+    }
+    written(list) {
+        return list.join(",");
+    }
+
+    async stateAt(place) {
+        const asked = this.program.perform("step", this.files(place), this.command("--report", "--waits"), this.command());
+        const [made, trace] = await asked;
+        return { made, report: reportOf(made.out), steps: linesOf(trace.out) };
+    }
+
+    question() {
+        const { cpus, threads } = this.machine;
+        const turns = Math.max(0, ...Array.from({ length: cpus }, (_, cpu) => threads.filter((thread) => thread.cpu === cpu).length));
+        return { kind: "next", text: this.text, list: this.done, cpus, turns };
     }
 
     // The list by which what is done goes on to rest.
     async rest(most) {
         const question = { kind: "rest", text: this.text, list: this.done, cpus: this.machine.cpus, most };
         return (await this.program.ask("long", question)).list;
+    }
+}
+
+// The steps of a trace: whatever may happen, in any order.
+class Trace extends Session {
+    static UNIT = "step";
+    static NAME = "The trace";
+
+    command(...options) {
+        return ["audit", "m.l4", "m.trace", ...options];
+    }
+    files(place) {
+        return { "m.l4": this.text, "m.trace": this.written(this.list.slice(0, place)) };
+    }
+    written(list) {
+        return list.map((step) => `${step}\n`).join("");
+    }
+
+    async stateAt(place) {
+        const [made] = await this.program.perform("step", this.files(place), this.command("--report", "--waits"));
+        return { made, report: reportOf(made.out), steps: this.list.slice(0, place) };
+    }
+
+    question() {
+        return { kind: "possible", text: this.text, list: this.done };
     }
 }

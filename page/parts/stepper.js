@@ -8,18 +8,22 @@ let wanted = null; // a place that is asked for while another is shown
 let showing = null;
 let chartShown = ""; // which rows and columns the chart has
 
-function begin(text, list = [], at = list.length) {
-    session = new Session(program, text, list, at);
+function begin(begun) {
+    session = begun;
     chartShown = "";
-    return view(at);
+    return view(session.at);
 }
 
-// Does items behind those that are done.
-function perform(...items) {
-    if (items.length === 1 && session.list[session.at] === items[0]) return view(session.at + 1);
-    session = session.with(items);
-    chartShown = "";
-    return view(session.list.length);
+// Does items, or steps, behind those that are done.
+function perform(...more) {
+    if (more.length === 1 && session.list[session.at] === more[0]) return view(session.at + 1);
+    return begin(session.with(more));
+}
+
+// Goes on in another way: by any step that may happen, from the state that is shown, or anew by turns of the processors.
+async function goOnBy(way) {
+    const [state] = await session.statesAt(session.at);
+    await begin(way === "steps" ? new Trace(program, session.text, state.steps) : new Schedule(program, session.text));
 }
 
 // Shows the state behind so many items. Where several are asked for at once, the last alone is shown.
@@ -57,26 +61,34 @@ async function show(shown, at) {
     $("rest").disabled = now.report.ending === "quiet";
     const said = verdictOf(now, at === 0);
     sayIn("verdict", said);
-    if (said.tone === "good" && shown.machine.cpus > 1) askForOthers();
+    if (said.tone === "good" && hasOtherOrders(shown.machine)) askForOthers();
     showCards(now.report, before?.report);
     editor.stand(shown.text === editor.text ? standing(shown.machine, now) : new Map());
     tellCommand(now.made, shown.done);
     await draw(shown, now.steps.length, told.length, isOld);
 }
 
-function showTransport({ list, at }) {
+function showTransport(shown) {
+    const { list, at } = shown;
+    const { UNIT, NAME } = shown.constructor;
     $("slider").max = list.length;
     $("slider").value = at;
-    $("slider").setAttribute("aria-valuetext", `${at} of ${counted(list.length, "item")}`);
+    $("slider").setAttribute("aria-valuetext", `${at} of ${counted(list.length, UNIT)}`);
     for (const id of ["first", "back"]) $(id).disabled = at === 0;
     for (const id of ["forth", "last"]) $(id).disabled = at === list.length;
-    if (document.activeElement !== $("schedule")) $("schedule").value = list.join(",");
+    $("rest").hidden = !shown.rest;
+    $("way").value = `${UNIT}s`;
+    $("listname").textContent = NAME;
+    if (document.activeElement !== $("schedule")) $("schedule").value = shown.written(list);
 }
 
-function showWhere({ list, at }, now, told) {
+function showWhere(shown, now, told) {
+    const { list, at } = shown;
+    const { UNIT } = shown.constructor;
     const did = at ? [": ", el("b", { textContent: list[at - 1] })] : [];
     const tells = at ? [" · ", el("b", { textContent: told.join("; ") || "nothing told" })] : [];
-    $("where").replaceChildren(`item ${at} of ${list.length}`, ...did, `, step ${now.steps.length}`, ...tells);
+    const steps = UNIT === "step" ? [] : [`, step ${now.steps.length}`, ...tells];
+    $("where").replaceChildren(`${UNIT} ${at} of ${list.length}`, ...did, ...steps);
 }
 
 // The text or the list has a fault.
@@ -95,11 +107,12 @@ function showFault(made) {
     if (number) $("verdict").append(" ", button(`go to line ${number}`, () => editor.goTo(number, mark?.column)));
 }
 
-// A run takes one order of the processors; what of the others?
+// A run takes one order; what of the others?
+const hasOtherOrders = ({ cpus, threads }) => ($("turnsonly").hidden ? cpus > 1 : threads.length > 1);
 function askForOthers() {
     const ask = button("Is somebody stuck in another order?", () => verb("stuck"));
     ask.className = "inline";
-    $("verdict").append(el("p", {}, "This is one order of the processors. ", ask));
+    $("verdict").append(el("p", {}, "This is one order of many. ", ask));
 }
 
 // For each line of the text the threads that are there.
@@ -273,6 +286,21 @@ const KINDS = {
     own: () => "takes a turn, letters wait",
     tick: () => "its clock goes on",
     silent: () => "works on",
+    local: () => "what concerns nobody else",
+    begin: () => "a send begins",
+    queue: () => "it waits at its receiver",
+    deliver: () => "a message arrives",
+    wait: () => "a receive begins",
+    stimeout: () => "the time of a send is over",
+    snobody: () => "a send to nobody fails",
+    scancel: () => "a send is cancelled",
+    rtimeout: () => "the time of a receive is over",
+    rnobody: () => "a receive from nobody fails",
+    rcancel: () => "a receive is cancelled",
+    drop: () => "the send of a deleted thread goes",
+    order: () => "it asks for a cancellation or deletion",
+    obey: () => "what it asked for is done",
+    retarget: () => "it waits for the thread that it was handed to",
 };
 
 function drawNext({ found, others }, state, isPart) {
@@ -280,7 +308,7 @@ function drawNext({ found, others }, state, isPart) {
     const focused = place.contains(document.activeElement) ? document.activeElement.dataset.cpu ?? "" : null;
     const choices = found.map((choice, number) => choiceButton(choice, number + 1));
     const isAtRest = state.report.ending === "quiet";
-    const nothing = isAtRest ? "Nothing: all processors are at rest." : "Nothing that tells a step, but letters are under way.";
+    const nothing = isAtRest ? "Nothing: all is at rest." : "Nothing that tells a step, but letters are under way.";
     const said = isPart ? "looking at the other processors .." : found.length ? null : nothing;
     const note = said ? [el("p", { className: "none", textContent: said })] : [];
     const more = isAtRest || isPart ? [] : [otherItems(others, !found.length)];
@@ -297,7 +325,7 @@ function choiceButton(choice, number) {
         { className: `choice${steps.length ? "" : " silent"}`, title: `item ${item}`, onclick: () => perform(item) },
         el("kbd", { textContent: number < 10 ? number : "·" }),
         el("span", { className: "told" }, ...(steps.length ? steps : ["nothing to tell yet"]).map((step) => el("span", { textContent: step }))),
-        el("span", { className: "what", textContent: `cpu ${cpu} ${KINDS[kind](choice)}` }),
+        el("span", { className: "what", textContent: `${cpu === undefined ? "" : `cpu ${cpu} `}${steps[0] === item ? "· " : ""}${KINDS[kind](choice)}` }),
     );
     made.dataset.item = item;
     made.dataset.cpu = cpu;
@@ -306,15 +334,16 @@ function choiceButton(choice, number) {
 
 // Items of one's own, and those of which it is not known whether they do anything.
 function otherItems(others, isOpen) {
-    const typed = el("input", { placeholder: "c0, 1:0, t0:24" });
-    typed.setAttribute("aria-label", "other items, joined by commas");
-    const form = el("form", { className: "bar" }, "other items", typed, el("button", { textContent: "Do" }));
+    const isSteps = session instanceof Trace;
+    const typed = el("input", { placeholder: isSteps ? "tick 0 24" : "c0, 1:0, t0:24" });
+    typed.setAttribute("aria-label", isSteps ? "another step" : "other items, joined by commas");
+    const form = el("form", { className: "bar" }, isSteps ? "another step" : "other items", typed, el("button", { textContent: "Do" }));
     form.onsubmit = (event) => {
         event.preventDefault();
-        const items = listOf(typed.value);
-        if (items.length) perform(...items);
+        const more = isSteps ? stepsOf(typed.value) : listOf(typed.value);
+        if (more.length) perform(...more);
     };
     const silent = others.slice(0, 40).map((item) => button(item, () => perform(item)));
     const tells = silent.length ? [el("div", { className: "bar" }, "tell nothing, if they do anything:", ...silent)] : [];
-    return el("details", { className: "others", open: isOpen }, el("summary", { textContent: "Other items" }), form, ...tells);
+    return el("details", { className: "others", open: isOpen }, el("summary", { textContent: isSteps ? "Another step" : "Other items" }), form, ...tells);
 }

@@ -35,17 +35,18 @@ function verdictOf({ report, steps }, isBeginning) {
 }
 
 // What a search for endings came to: of all, of the stuck ones, or of those with or without a line.
-function searchText({ endings, last, isStuckOnly, isPart }) {
+function searchText({ endings, last, isEndless, isStuckOnly, isPart }) {
     const [found, ...known] = last.split(", ");
-    const [, states, , depth, whole] = found.split(" ");
+    const [kind, number, , depth, whole] = found.split(" ");
     const isWhole = whole === "whole";
     const bad = endings.filter(({ report }) => report.threads.some((thread) => thread.isStuck)).length;
     const tone = bad ? "bad" : isWhole ? "good" : "fair";
-    const searched = isWhole
-        ? `All orders of the processors were searched: ${counted(states, "state")}, up to ${counted(depth, "item")}.`
-        : `Cut off after ${counted(states, "state")}, ${counted(depth, "item")}: there may be more. Limits has the numbers.`;
+    const size = kind === "states" ? [counted(number, "state"), counted(depth, "item")] : [counted(number, "world"), counted(depth, "step")];
+    const all = kind === "states" ? "All orders of the processors were searched" : "All orders of any scheduler were searched, whatever time passes";
+    const searched = isWhole ? `${all}: ${size.join(", up to ")}.` : `Cut off after ${size.join(", ")}: there may be more. Limits has the numbers.`;
     const choose = endings.length ? ["Choose one to step through it."] : [];
-    return { tone, head: endingsText(endings.length, bad, isStuckOnly, isPart), lines: [searched, ...limitsText(known), ...choose] };
+    const head = isEndless ? "No ending: it goes on for ever." : endingsText(endings.length, bad, isStuckOnly, isPart);
+    return { tone, head, lines: [searched, ...limitsText(known), ...choose] };
 }
 // Of which runs a whole search knows, as its last line says.
 function limitsText(known) {

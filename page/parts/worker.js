@@ -9,8 +9,9 @@ async function performed(words, files, limit) {
     return { words, status: made.status, out, faults, recorded, took: performance.now() - began };
 }
 
-// Performs a command over a text and a list.
+// Performs a command over a text and a list, of items or of the steps of a trace.
 const asker = ({ text, limit }) => (words, list) => performed(words, { "m.l4": text, list: list.join(",") }, limit);
+const auditor = ({ text, limit }) => (words, list) => performed(words, { "m.l4": text, "m.trace": list.map((step) => `${step}\n`).join("") }, limit);
 
 const WORK = {
     // Each of these commands over these files, in order.
@@ -20,6 +21,7 @@ const WORK = {
         return all;
     },
     next: (asked) => nextOf({ ...asked, ask: asker(asked), part: (found) => postMessage({ id: asked.id, part: found }) }),
+    possible: (asked) => possibleOf({ ...asked, ask: auditor(asked) }),
     rest: (asked) => restOf({ ...asked, ask: asker(asked) }),
 };
 

@@ -2,6 +2,7 @@
 """Makes the page: one HTML file with the program's module and the examples in it.
 
     page/make.py OUT.html [--unproved]
+    page/make.py OUT.html --empty      without a program, in a moment, for tests of its parts
 
 It says of itself of which commit it was made, and with which kit the program was proved, or that nothing is proved.
 """
@@ -91,10 +92,10 @@ def joined(names):
     return in_script("\n".join(re.sub(r"^if \(typeof module .*\n", "", text, flags=re.M) for text in texts))
 
 
-def made(is_proved):
-    """The page."""
+def made(is_proved, program):
+    """The page with this program, a module."""
     whole, short = made_from(is_proved)
-    packed = gzip.compress(module.module(is_proved).read_bytes(), 9, mtime=0)
+    packed = gzip.compress(program, 9, mtime=0)
     parts = {
         "@STYLE@": (PARTS / "style.css").read_text(),
         "@WORKER@": joined(WORKER),
@@ -108,13 +109,14 @@ def made(is_proved):
 
 
 def main(words):
-    is_proved = "--unproved" not in words
+    is_empty = "--empty" in words
+    is_proved = not is_empty and "--unproved" not in words
     names = [word for word in words if not word.startswith("--")]
-    if len(names) != 1 or any(word != "--unproved" for word in words if word.startswith("--")):
+    if len(names) != 1 or any(word not in ("--unproved", "--empty") for word in words if word.startswith("--")):
         sys.exit(__doc__)
     to = pathlib.Path(names[0])
     to.parent.mkdir(parents=True, exist_ok=True)
-    page = made(is_proved).encode()
+    page = made(is_proved, b"" if is_empty else module.module(is_proved).read_bytes()).encode()
     to.write_bytes(page)
     print(f"{os.path.relpath(to)}: {len(page)} bytes, packed {len(gzip.compress(page, 9))}; {made_from(is_proved)[0]}")
 

@@ -1,5 +1,8 @@
 """Compiles the program for WebAssembly, from the very module that it is compiled from for x86-64.
 
+    page/module/module.py [--unproved]     writes page/out/proved.wasm, or unproved.wasm
+    page/module/module.py --wants OBJECT   says in a second what the program's object wants of a system, and host.c lacks
+
 The compiler lowers a proved program to one module of LLVM's, and hands it to clang. A stand-in for clang keeps a copy of what it is
 given, and calls clang. In the copy the layout and the processor are exchanged for those of wasm64. Pointers have 64 bits in both, so
 each size and offset stays what the proof was about. Debian's binaryen then makes of it a module with a memory of 32 bits, which each
@@ -183,6 +186,24 @@ def compiled(source, to, work):
     run(["wasm-opt", *(f"--enable-{it}" for it in FEATURES), "--memory64-lowering", wide, "-o", to])
 
 
+def lacking(program, work):
+    """What an object of the program wants of a system, and host.c lacks. It is asked without compiling the program."""
+    wants = [line.split()[0] for line in run(["nm", "-u", "--format=posix", program]).splitlines()]
+    source, asks, host, to = (work / name for name in ("asks.c", "asks.o", "host.o", "asks.wasm"))
+    declared = "".join(f"void {name}(void);\n" for name in wants)
+    listed = f"void *const wants[] = {{{', '.join(wants)}}};\n"
+    asked = '__attribute__((export_name("asked"))) void *asked(int place) { return wants[place]; }\nint main(void) { return 0; }\n'
+    source.write_text(declared + listed + asked)
+    clang = [compiler(), f"--target={TRIPLE}", "--no-default-config", f"-mcpu={PROCESSOR}", "-ffreestanding", "-fno-builtin", "-c"]
+    run([*clang, "-w", source, "-o", asks])
+    run([*clang, HERE / "host.c", "-o", host])
+    linker = work / "wasm-ld"
+    linker.symlink_to(compiler())
+    words = [str(word) for word in (linker, "-mwasm64", "--no-entry", "--error-limit=0", asks, host, "-o", to)]
+    said = subprocess.run(words, stdout=subprocess.PIPE, stderr=subprocess.STDOUT, text=True).stdout
+    return sorted(set(re.findall(r"undefined symbol: (\S+)", said)))
+
+
 def stamp(is_proved):
     """What a module depends on: what is compiled, and by what."""
     total = hashlib.sha256(f"{kit_line()} {is_proved}".encode())
@@ -214,5 +235,9 @@ def module(is_proved):
 
 if __name__ == "__main__":
     words = sys.argv[1:]
+    if words[:1] == ["--wants"]:
+        with tempfile.TemporaryDirectory(prefix="page-") as folder:
+            lacks = lacking(words[1], pathlib.Path(folder))
+        sys.exit(f"page: page/module/host.c lacks what the program wants of a system: {', '.join(lacks)}" if lacks else 0)
     made = module("--unproved" not in words)
     print(f"{os.path.relpath(made)}: {made.stat().st_size} bytes")

@@ -1,20 +1,22 @@
-// node guesses.cjs MODULE.wasm TOP: what the page works out for itself, against what the program says.
+// node guesses.cjs MODULE.wasm|PROGRAM TOP [EACH]: what the page works out for itself, against what the program says.
 //
-// Of each example: is each item of the shortest schedule of its first ending offered at its place? Does going on to rest tell the steps of
-// --then-rest? Of these and of each case: does the line at which a thread is shown agree with its state?
+// Of each example: is each item of the shortest schedule of its first ending offered at its place, and each step that this tells? Does going
+// on to rest tell the steps of --then-rest? Of these and of each case: does the line at which a thread is shown agree with its state? With
+// EACH every so manyth place alone is tried.
 const fs = require("fs");
 const path = require("path");
 const vm = require("vm");
 const { call } = require("../module/call.js");
+const { printedBy } = require("./native.cjs");
 
-const [, , module_, top] = process.argv;
+const [, , source, top, each = "1"] = process.argv;
 const MOST_ITEMS = 20; // of a list
-const EACH = 7; // items, at which the way to rest is tried
+const EACH_REST = 7; // items, at which the way to rest is tried
 
 const scope = vm.createContext({ console });
-const parts = ["reading.js", "places.js", "next.js", "rest.js"].map((name) => fs.readFileSync(path.join(__dirname, "..", "parts", name), "utf8"));
-vm.runInContext(`${parts.join("\n")}\nglobalThis.parts = { machineOf, reportOf, endingsOf, linesOf, listOf, placesOf, nextOf, restOf };`, scope);
-const { machineOf, reportOf, endingsOf, linesOf, listOf, placesOf, nextOf, restOf } = scope.parts;
+const parts = ["reading.js", "places.js", "next.js", "possible.js", "rest.js"].map((name) => fs.readFileSync(path.join(__dirname, "..", "parts", name), "utf8"));
+vm.runInContext(`${parts.join("\n")}\nglobalThis.parts = { machineOf, reportOf, endingsOf, linesOf, listOf, placesOf, nextOf, possibleOf, restOf };`, scope);
+const { machineOf, reportOf, endingsOf, linesOf, listOf, placesOf, nextOf, possibleOf, restOf } = scope.parts;
 
 const folder = path.join(top, "crates", "l4_cases", "data");
 const textsOf = (at) => fs.readdirSync(at).filter((name) => name.endsWith(".l4")).sort().map((name) => path.join(at, name));
@@ -29,36 +31,64 @@ function fits(state, [word, to, from]) {
     return state === "ended" ? word === "end" : true;
 }
 
+// Performs commands by the module, or by the program.
+function performer() {
+    if (!source.endsWith(".wasm")) return async (words, files) => printedBy(source, { words, files });
+    const compiled = new WebAssembly.Module(fs.readFileSync(source));
+    return (words, files) => call(compiled, words, files);
+}
+
 async function main() {
-    const compiled = new WebAssembly.Module(fs.readFileSync(module_));
-    const counts = { items: 0, silent: 0, missed: 0, places: 0, wrong: 0, rests: 0, other: 0 };
+    const performed = performer();
+    const counts = { items: 0, silent: 0, missed: 0, steps: 0, impossible: 0, places: 0, wrong: 0, rests: 0, other: 0 };
     const decoder = new TextDecoder();
     const examples = textsOf(path.join(folder, "examples"));
+    // Items are those of the search of turns, where the program knows another one too.
+    const help = decoder.decode((await performed(["help", "endings"], {})).out);
+    const endings = ["endings", "m.l4", ...(help.includes("--placed") ? ["--placed"] : [])];
     for (const file of [...examples, ...textsOf(folder)]) {
         const text = fs.readFileSync(file, "utf8");
         const name = path.basename(file);
         const { cpus, threads } = machineOf(text);
         const perform = async (words, files = {}) => {
-            const made = await call(compiled, words, { "m.l4": text, ...files });
+            const made = await performed(words, { "m.l4": text, ...files });
             return { status: made.status, out: decoder.decode(made.out), recorded: decoder.decode(made.recorded) };
         };
         const ask = (words, list) => perform(words, { list: list.join(",") });
+        const askTrace = (words, steps) => perform(words, { "m.trace": steps.map((step) => `${step}\n`).join("") });
         const turns = Math.max(0, ...Array.from({ length: cpus }, (_, cpu) => threads.filter((thread) => thread.cpu === cpu).length));
         const run = await perform(["run", "m.l4", "--turns", "300", "--record", "list"]);
         if (run.status === 1) continue;
         const isExample = examples.includes(file);
-        const list = isExample ? endingsOf((await perform(["endings", "m.l4"])).out).endings[0].list : listOf(run.recorded);
-        for (let place = 0; place <= Math.min(list.length, MOST_ITEMS); place += 1) {
-            const tried = { list, place, before: list.slice(0, place), name, text, cpus, turns, ask, counts };
+        const list = isExample ? endingsOf((await perform(endings)).out).endings[0].list : listOf(run.recorded);
+        for (let place = 0; place <= Math.min(list.length, MOST_ITEMS); place += Number(each)) {
+            const tried = { list, place, before: list.slice(0, place), name, text, cpus, turns, ask, askTrace, counts };
             await triesPlaces(tried);
             if (isExample) await triesNext(tried);
-            if (isExample && place % EACH === 0) await triesRest(tried);
+            if (isExample) await triesPossible(tried);
+            if (isExample && place % EACH_REST === 0) await triesRest(tried);
         }
     }
     console.log(`${counts.items} items of endings: ${counts.silent} offered only among those that tell nothing, ${counts.missed} not at all`);
+    console.log(`${counts.steps} steps of endings: ${counts.impossible} not among those that are offered`);
     console.log(`${counts.places} threads at lines: ${counts.wrong} do not fit their state`);
     console.log(`${counts.rests} ways to rest: ${counts.other} tell other steps than --then-rest`);
-    process.exitCode = counts.missed || counts.wrong || counts.other || !counts.items ? 1 : 0;
+    const { items, missed, steps, impossible, wrong, other } = counts;
+    process.exitCode = missed || impossible || wrong || other || !items || !steps ? 1 : 0;
+}
+
+// Is each step that comes next, told by the item at this place, offered as one? Of a tick, one of its processor.
+async function triesPossible({ list, place, text, name, ask, askTrace, counts }) {
+    const before = linesOf((await ask(replay, list.slice(0, place))).out);
+    const behind = linesOf((await ask(replay, list.slice(0, place + 1))).out);
+    for (let at = before.length; at < behind.length; at += 1) {
+        const { found } = await possibleOf({ text, list: behind.slice(0, at), ask: askTrace });
+        const part = (step) => (step.startsWith("tick ") ? step.split(" ").slice(0, 2).join(" ") : step);
+        counts.steps += 1;
+        if (found.some(({ item }) => part(item) === part(behind[at]))) continue;
+        counts.impossible += 1;
+        console.log(`${name}: no such step offered: ${behind[at]} behind ${behind.slice(0, at).join("; ")}; offered: ${found.map(({ item }) => item).join("; ")}`);
+    }
 }
 
 async function triesNext({ list, place, before, name, cpus, turns, ask, counts }) {

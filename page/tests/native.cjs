@@ -15,7 +15,9 @@ function printedBy(program, { words, files }) {
         const env = { ...process.env };
         for (const name of ["COLUMNS", "TERM"]) delete env[name];
         const done = spawnSync(path.resolve(program), words, { cwd: folder, env, input: files["/dev/stdin"] ?? "", maxBuffer: 2 ** 30 });
-        return { status: done.status, out: done.stdout, faults: done.stderr };
+        const record = words.includes("--record") ? path.join(folder, words[words.indexOf("--record") + 1]) : "";
+        const recorded = record && fs.existsSync(record) ? fs.readFileSync(record) : Buffer.from("");
+        return { status: done.status, out: done.stdout, faults: done.stderr, recorded };
     } finally {
         fs.rmSync(folder, { recursive: true });
     }

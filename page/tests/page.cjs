@@ -7,7 +7,7 @@ const zlib = require("zlib");
 const { Chromium, Firefox, sleep } = require("./browsers.cjs");
 const { allCommands } = require("./cases.cjs");
 const { printedBy, isSame } = require("./native.cjs");
-const { ring, loop, locksInRing } = require("./texts.cjs");
+const { ring, loop, locksInRing, lostReply, lost, answered } = require("./texts.cjs");
 
 const [, , name, page, program, top, pictures] = process.argv;
 let good = 0;
@@ -131,7 +131,7 @@ async function runsExamples(browser, hand) {
         check(`${example}: its chart has its steps`, rows > 0 && rows === (await hand.run("return session.whole.length")), rows);
         await hand.verb("stuck");
         const found = await hand.run("return document.getElementById('found').textContent");
-        check(`${example}: its search was whole`, /All orders of the processors were searched/.test(found), found);
+        check(`${example}: its search was whole`, /All orders .* were searched/.test(found), found);
     }
 }
 
@@ -166,9 +166,10 @@ async function marksFaults(browser, hand) {
     check("a doubt is marked", (await hand.count(".paint .line.doubt")) === 1 && (await hand.count(".paint .line.fault")) === 0);
 }
 
-// The stuck ending of locks.l4, found by the search and again by hand.
+// The stuck ending of locks.l4, found by the search of turns and again by hand.
 async function findsStuckEnding(browser, hand) {
     await hand.go("#example=locks.l4");
+    await hand.run("document.getElementById('placed').checked = true;");
     await hand.verb("endings");
     check("three endings", (await hand.count(".ending")) === 3);
     check("one is stuck", (await hand.count(".ending.bad")) === 1);
@@ -194,10 +195,95 @@ async function findsStuckEnding(browser, hand) {
     check("the same ending by hand", /4 threads wait for ever/.test(await hand.text("verdict")), await hand.text("verdict"));
     check("nothing is next", /Nothing/.test(await hand.text("next")));
     await hand.click("#tab-endings");
+    await hand.run("document.getElementById('placed').checked = true;");
     await hand.fill("with", "thread 1.1 ended ..");
     await hand.run("document.getElementById('only').requestSubmit();");
     await browser.until("document.querySelectorAll('.ending').length === 2");
     check("endings with a line", true);
+}
+
+// What a search whatever the scheduler does prints of the lost reply, for a page whose program does not have that search yet.
+function printedOfLostReply() {
+    const cards = [answered, lost].map((trace, place) => {
+        const files = { "m.l4": lostReply, "m.trace": trace.map((step) => `${step}\n`).join("") };
+        const said = printedBy(program, { words: ["audit", "m.l4", "m.trace", "--report", "--waits"], files }).out.toString();
+        return said.replace(/^passed \d+ quiet\n/, `ending ${place + 1} steps ${trace.length}\n`);
+    });
+    return `${cards.join("")}worlds 23 steps 13 whole\n`;
+}
+
+// The reply that is lost, found whatever the scheduler does, stepped through and drawn.
+async function findsLostReply(browser, hand) {
+    await hand.go(linkOf({ n: "lost.l4", t: lostReply }));
+    if (await hand.run("return document.getElementById('turnsonly').hidden")) {
+        const traces = [answered, lost].map((trace) => trace.map((step) => `${step}\n`).join(""));
+        await hand.run(`
+            const all = ${quoted(printedOfLostReply())};
+            const traces = ${quoted(traces)};
+            const perform = program.perform.bind(program);
+            const printed = (words) => (words.includes("--trace") ? traces[words.at(-1) - 1] : all);
+            program.perform = async (lane, files, ...commands) =>
+                commands[0][0] === "endings" ? [{ words: commands[0], status: 0, out: printed(commands[0]), faults: "", took: 1 }] : perform(lane, files, ...commands);
+            document.getElementById("turnsonly").hidden = false;`);
+    }
+    await hand.verb("endings");
+    check("two endings of the lost reply", (await hand.count(".ending")) === 2, await hand.count(".ending"));
+    check("of any scheduler", /any scheduler/.test(await hand.text("found")), await hand.text("found"));
+    check("its steps are told", /13 steps/.test(await hand.run("return document.querySelector('.ending.bad').innerText")));
+    await hand.picture("any-endings-1200");
+    await hand.click(".ending.bad");
+    check("its trace opens", (await hand.text("where")).startsWith("step 13 of 13"), await hand.text("where"));
+    check("who is stuck", /1.1 waits for a message of 9.1/.test(await hand.text("verdict")), await hand.text("verdict"));
+    check("its chart has its steps", (await hand.count("#chart .lines > div")) === 13);
+    await hand.picture("any-trace-1200");
+    await browser.size(400, 860, true);
+    await hand.picture("any-trace-400");
+    await browser.size(1200, 800);
+}
+
+// Any step that may happen, whatever scheduler takes it: the reply is lost by hand. A link has the trace, and a file has one.
+async function stepsByAny(browser, hand) {
+    await hand.go(linkOf({ n: "lost.l4", t: lostReply }));
+    await hand.fill("way", "steps", "change");
+    await hand.idle();
+    for (const [place, step] of lost.entries()) {
+        const pressed = await hand.run(`
+            const it = [...document.querySelectorAll("#next [data-item]")].find((one) => one.dataset.item === ${quoted(step)});
+            it?.click();
+            return Boolean(it);`);
+        check(`step ${place + 1}, ${step}, is offered`, pressed);
+        if (!pressed) break;
+        await browser.until(`document.body.dataset.next === "${place + 1}"`);
+        await hand.idle();
+    }
+    check("the reply is lost by hand", /1 thread waits for ever/.test(await hand.text("verdict")), await hand.text("verdict"));
+    check("nothing is next there", /Nothing/.test(await hand.text("next")), await hand.text("next"));
+    await hand.click("#back");
+    await hand.click("#link");
+    await browser.until("document.getElementById('status').textContent.startsWith('link copied')");
+    await hand.go(await hand.run("return location.hash"));
+    check("a link has the trace and the place", (await hand.text("where")).startsWith("step 12 of 13: local 9.1"), await hand.text("where"));
+    await hand.fill("way", "items", "change");
+    await hand.idle();
+    check("turns begin anew", (await hand.text("where")).startsWith("item 0 of 0"), await hand.text("where"));
+
+    await hand.go("#example=timeout.l4");
+    await hand.fill("way", "steps", "change");
+    await hand.idle();
+    check("a tick is offered where there are times", /tick 0 \d+/.test(await hand.text("next")), await hand.text("next"));
+
+    await hand.go("#example=callback.l4");
+    await hand.run("document.getElementById('tries').open = true;");
+    await hand.click("#trieslist button:nth-of-type(2)");
+    await hand.run("tab('steps');");
+    check("an audit of the lesson is stepped through", /step 11 of 11/.test(await hand.text("where")), await hand.text("where"));
+    const file = path.join(fs.mkdtempSync(path.join(os.tmpdir(), "page-file-")), "callback.trace");
+    fs.writeFileSync(file, fs.readFileSync(path.join(top, "examples", "callback.trace"), "utf8").split("\n").slice(0, 6).join("\n"));
+    await browser.choose("#file", file);
+    await browser.until("session.list.length === 6");
+    await hand.idle();
+    check("a trace is opened", (await hand.text("where")).startsWith("step 6 of 6"), await hand.text("where"));
+    fs.rmSync(path.dirname(file), { recursive: true });
 }
 
 // Back, forward, to a row, and on to rest.
@@ -407,6 +493,8 @@ const PARTS = [
     findsDeadlock,
     marksFaults,
     findsStuckEnding,
+    findsLostReply,
+    stepsByAny,
     steps,
     worksByKeys,
     judges,

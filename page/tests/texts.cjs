@@ -39,4 +39,22 @@ function locksInRing() {
     return `${lines.join("\n")}\n`;
 }
 
-module.exports = { ring, loop, locksInRing };
+// A client that sends and receives in two calls, and a server that answers with time zero: the answer may be lost.
+const lostReply = `l4 1 64
+cpus 1
+thread 1.1 cpu 0 space 1
+set 1 5
+tag 0x10001
+ipc 9.1 nil never never
+ipc nil 9.1 never never
+thread 9.1 cpu 0 space 3
+ipc nil any never never
+add 1 100
+ipc last any zero never
+jump 1
+`;
+const asked = ["local 1.1", "local 1.1", "wait 9.1", "begin 1.1#1", "queue 1.1#1", "deliver 1.1#1 9.1 1.1 1.1 10001 5", "local 9.1"];
+const lost = [...asked, "begin 9.1#1", "stimeout 9.1#1", "wait 1.1", "local 9.1", "local 9.1", "wait 9.1"];
+const answered = [...asked, "wait 1.1", "begin 9.1#1", "queue 9.1#1", "deliver 9.1#1 1.1 9.1 9.1 10001 69", "local 1.1"];
+
+module.exports = { ring, loop, locksInRing, lostReply, lost, answered };

@@ -29,7 +29,7 @@ module=$out/proved.wasm
 if [ "${2:-}" = --unproved ]; then
     module=$out/unproved.wasm
     program=$out/l4run-unproved
-    if [ "$module" -nt "$program" ]; then
+    if [ ! -e "$program" ] || [ -n "$(find "$top/crates.txt" "$top"/crates/*/src -type f -newer "$program" -print -quit)" ]; then
         python3 -B "$top/bench/unproved.py" "$program"
     fi
 fi

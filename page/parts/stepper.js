@@ -62,8 +62,11 @@ async function show(shown, at) {
     const said = verdictOf(now, at === 0);
     sayIn("verdict", said);
     if (said.tone === "good" && hasOtherOrders(shown.machine)) askForOthers();
-    showCards(now.report, before?.report);
-    editor.stand(shown.text === editor.text ? standing(shown.machine, now) : new Map());
+    if (at === 0 && !shown.list.length) offerHelp();
+    // Lines are those of the text at the left, as long as that is the text that is stepped through.
+    const places = shown.text === editor.text ? placesOf(shown.machine, now.steps) : [];
+    showCards(now.report, before?.report, new Map(places.map(({ id, line }) => [id, line])));
+    editor.stand(standing(places, now));
     tellCommand(now.made, shown.done);
     await draw(shown, now.steps.length, told.length, isOld);
 }
@@ -115,22 +118,29 @@ function askForOthers() {
     $("verdict").append(el("p", {}, "This is one order of many. ", ask));
 }
 
+// Who begins may not know what this is.
+function offerHelp() {
+    const help = button("What is this?", () => $("help").showModal());
+    help.className = "inline";
+    $("verdict").append(" ", help);
+}
+
 // For each line of the text the threads that are there.
-function standing(machine, now) {
-    const places = new Map();
-    if (machine.threads.length > MOST_PLACES) return places;
-    for (const { id, line } of placesOf(machine, now.steps)) {
+function standing(places, now) {
+    const there = new Map();
+    if (places.length > MOST_PLACES) return there;
+    for (const { id, line } of places) {
         const thread = now.report.byId.get(id);
         if (!line || !thread || isOver(thread)) continue;
         const tone = thread.isStuck ? "stuck" : thread.wait ? "wait" : "go";
-        places.set(line, [...(places.get(line) ?? []), { id, tone, note: `${id} ${thread.state}` }]);
+        there.set(line, [...(there.get(line) ?? []), { id, tone, note: `${id} ${thread.state}` }]);
     }
-    return places;
+    return there;
 }
 const isOver = ({ state }) => state === "ended" || state === "deleted";
 
 // Cards of threads, and what changed by the last item.
-function showCards(report, before) {
+function showCards(report, before, lines) {
     const only = $("filter").value;
     const cards = report.threads
         .map((thread) => ({ thread, was: before?.byId.get(thread.id) }))
@@ -138,22 +148,24 @@ function showCards(report, before) {
             if (only === "changed") return hasChanged(thread, was);
             return only === "waiting" ? thread.wait : only === "stuck" ? thread.isStuck : true;
         })
-        .map(({ thread, was }) => card(thread, was));
+        .map(({ thread, was }) => card(thread, was, lines.get(thread.id)));
     const none = el("p", { className: "none", textContent: report.threads.length ? "None." : "The text has no thread." });
     $("cards").replaceChildren(...(cards.length ? cards : [none]));
 }
 const hasChanged = (thread, was) => !!was && (was.line !== thread.line || waitKey(was) !== waitKey(thread));
 const waitKey = ({ wait }) => (wait ? `${wait.to} ${wait.phase}` : "");
 
-function card(thread, was) {
+function card(thread, was, line) {
     const tone = thread.isStuck ? "stuck" : isOver(thread) ? "ended" : thread.wait ? "wait" : "ready";
     const { cpu = "?", space = "?" } = session.machine.byId.get(thread.id) ?? {};
     const place = el("small", { textContent: `cpu ${cpu}, space ${space}` });
+    const name = line ? button(thread.id, () => editor.goTo(line)) : thread.id;
+    if (line) name.title = `at line ${line} of the text`;
     const from = thread.from !== "nil" && el(was && was.from !== thread.from ? "mark" : "span", { textContent: `heard from ${thread.from}` });
     return el(
         "article",
         { className: `card ${tone}${hasChanged(thread, was) ? " changed" : ""}` },
-        el("header", {}, el("b", { textContent: thread.id }), place, el("span", { className: "pill", textContent: thread.state })),
+        el("header", {}, el("b", {}, name), place, el("span", { className: "pill", textContent: thread.state })),
         thread.wait && el("p", { textContent: shortWait(thread.wait) }),
         thread.code !== "0" && el("p", { className: "error", textContent: `error ${thread.code}: ${CODES[thread.code] ?? ""}` }),
         from && el("p", {}, from, thread.actual !== thread.from ? `, by ${thread.actual}` : ""),

@@ -14,7 +14,9 @@ function printedBy(program, { words, files }) {
         }
         const env = { ...process.env };
         for (const name of ["COLUMNS", "TERM"]) delete env[name];
-        const done = spawnSync(path.resolve(program), words, { cwd: folder, env, input: files["/dev/stdin"] ?? "", maxBuffer: 2 ** 30 });
+        // Its usage names it as it was called.
+        const how = { cwd: folder, env, argv0: "l4run", input: files["/dev/stdin"] ?? "", maxBuffer: 2 ** 30 };
+        const done = spawnSync(path.resolve(program), words, how);
         const record = words.includes("--record") ? path.join(folder, words[words.indexOf("--record") + 1]) : "";
         const recorded = record && fs.existsSync(record) ? fs.readFileSync(record) : Buffer.from("");
         return { status: done.status, out: done.stdout, faults: done.stderr, recorded };

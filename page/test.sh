@@ -37,6 +37,7 @@ fi
 status=0
 node "$top/page/tests/compare.cjs" "$module" "$program" "$top" || status=1
 node "$top/page/tests/guesses.cjs" "$module" "$top" || status=1
+node "$top/page/tests/package.cjs" "$module" "$program" "$top" || status=1
 for browser in chromium firefox; do
     node "$top/page/tests/page.cjs" "$browser" "$page" "$program" "$top" "$out/pictures" || status=1
 done

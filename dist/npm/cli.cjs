@@ -7,9 +7,16 @@ const words = process.argv.slice(2);
 // A file is named by a word, behind `@`, or behind the `=` of an option.
 const names = words.flatMap((word) => [word, word.replace(/^@/, ""), word.replace(/^--[\w-]+=@?/, "")]);
 const files = {};
+// By device and number: a file that has two names here is read once, so that the program knows it again.
+const known = new Map();
 for (const name of names) {
     if (name === "-") files["/dev/stdin"] ??= fs.readFileSync(0);
-    else if (name && fs.existsSync(name) && fs.statSync(name).isFile()) files[name] = fs.readFileSync(name);
+    if (!name || !fs.existsSync(name)) continue;
+    const told = fs.statSync(name);
+    if (!told.isFile()) continue;
+    const key = `${told.dev}:${told.ino}`;
+    if (!known.has(key)) known.set(key, fs.readFileSync(name));
+    files[name] = known.get(key);
 }
 const at = words.findIndex((word) => word === "--record" || word.startsWith("--record="));
 const record = at < 0 ? null : words[at].split("=")[1] ?? words[at + 1];

@@ -1,7 +1,7 @@
 // One call of the program. Each has an instance of the module of its own, so nothing is kept between two of them.
 //
-// `words` are those of the command line behind the program's name, `files` what the names in them stand for, as texts or bytes;
-// `/dev/stdin` is the standard input. With `limit` no more memory than so many bytes is taken.
+// `words` are those of the command line behind the program's name, `files` what the names in them stand for, as texts or bytes. Names with
+// the very same bytes are of one file. `/dev/stdin` is the standard input. With `limit` no more memory than so many bytes is taken.
 async function call(compiled, words, files, limit) {
     const instance = await WebAssembly.instantiate(compiled, {});
     const { memory, l4_room, l4_call, l4_at, l4_length, l4_limit, l4_is_over, l4_status } = instance.exports;
@@ -16,9 +16,9 @@ async function call(compiled, words, files, limit) {
         }
         return all;
     };
-    const lengthOf = (bytes) => {
+    const inEight = (number) => {
         const eight = new Uint8Array(8);
-        new DataView(eight.buffer).setBigUint64(0, BigInt(bytes.length), true);
+        new DataView(eight.buffer).setBigUint64(0, BigInt(number), true);
         return eight;
     };
     const put = (bytes) => {
@@ -29,12 +29,9 @@ async function call(compiled, words, files, limit) {
     };
     const zero = new Uint8Array(1);
     const line = joined(["l4run", ...words].flatMap((word) => [bytesOf(word), zero]));
-    const given = joined(
-        Object.entries(files).flatMap(([name, text]) => {
-            const bytes = bytesOf(text);
-            return [bytesOf(name), zero, lengthOf(bytes), bytes];
-        }),
-    );
+    const handed = Object.entries(files).map(([name, text]) => [name, bytesOf(text)]);
+    const numberOf = (bytes) => 1 + handed.findIndex(([, one]) => one === bytes);
+    const given = joined(handed.flatMap(([name, bytes]) => [bytesOf(name), zero, inEight(numberOf(bytes)), inEight(bytes.length), bytes]));
     const lineAt = put(line);
     const givenAt = put(given);
     if (limit) l4_limit(BigInt(limit));

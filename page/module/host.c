@@ -140,7 +140,7 @@ struct Tried rattle_realloc(void *block, u64 kept, u64 n, u64 align) {
 }
 void rattle_dealloc(void *block) { give(block); }
 
-// Words, each ended by 0, and files as NAME 0 LENGTH(8 bytes) BYTES, one behind the other.
+// Words, each ended by 0, and files as NAME 0 NUMBER(8 bytes) LENGTH(8) BYTES, one behind the other. Two names of one file have one number.
 static const u8 *words, *words_end, *files, *files_end;
 static int error_number;
 int rattle_errno(void) { return error_number; }
@@ -188,14 +188,13 @@ static _Bool same(const u8 *a, const u8 *b) {
     return *a == *b;
 }
 
-// The bytes of the file of this name, whose place among all is told too, counted from 1. None where there is no such file.
-static const u8 *found(const u8 *name, u64 *size, u64 *place) {
-    *place = 0;
+// The bytes of the file of this name. None where there is no such file.
+static const u8 *found(const u8 *name, u64 *number, u64 *size) {
     for (const u8 *at = files; at < files_end;) {
         u64 n = length(at);
-        const u8 *bytes = at + n + 9;
-        __builtin_memcpy(size, at + n + 1, 8);
-        ++*place;
+        const u8 *bytes = at + n + 17;
+        __builtin_memcpy(number, at + n + 1, 8);
+        __builtin_memcpy(size, at + n + 9, 8);
         if (same(at, name)) return bytes;
         at = bytes + *size;
     }
@@ -210,8 +209,8 @@ int open(const u8 *name, int flags, ...) {
         opened[fd].is_written = 1;
         return fd;
     }
-    u64 size, place;
-    const u8 *bytes = found(name, &size, &place);
+    u64 number, size;
+    const u8 *bytes = found(name, &number, &size);
     if (!bytes) return failed(NO_FILE);
     opened[fd] = (struct Open){bytes, size, 0};
     return fd;
@@ -226,11 +225,11 @@ struct Told {
 };
 _Static_assert(sizeof(struct Told) == 256, "as struct statx of Linux");
 int statx(int folder, const u8 *name, int flags, u32 wanted, struct Told *to) {
-    u64 size, place;
-    if (!found(name, &size, &place)) return failed(NO_FILE);
+    u64 number, size;
+    if (!found(name, &number, &size)) return failed(NO_FILE);
     memset(to, 0, sizeof *to);
     to->mode = 0100644;
-    to->number = place;
+    to->number = number;
     return 0;
 }
 

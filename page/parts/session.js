@@ -115,7 +115,7 @@ class Trace extends Session {
     }
 
     async stateAt(place) {
-        const [made] = await this.program.perform("step", this.files(place), this.command("--report", "--waits"));
+        const [made] = await this.program.perform("step", this.files(place), this.command("--report", "--waits", "--explain"));
         return { made, report: reportOf(made.out), steps: this.list.slice(0, place) };
     }
 

@@ -106,7 +106,8 @@ function showFault(made) {
     const line = made.faults.trim();
     const number = Number(line.match(/^l4run: line (\d+): /)?.[1]);
     const mark = editor.text === session.text ? editor.marks.find((it) => it.line === number && !it.isDoubt) : undefined;
-    sayIn("verdict", { tone: "bad", head: mark ? `Line ${number}: ${markText(mark)}` : line || "a fault", lines: [] });
+    const because = made.out.match(/^because .*/m) ?? [];
+    sayIn("verdict", { tone: "bad", head: mark ? `Line ${number}: ${markText(mark)}` : line || "a fault", lines: [...because] });
     if (number) $("verdict").append(" ", button(`go to line ${number}`, () => editor.goTo(number, mark?.column)));
 }
 
@@ -298,7 +299,7 @@ const KINDS = {
     own: () => "takes a turn, letters wait",
     tick: () => "its clock goes on",
     silent: () => "works on",
-    local: () => "what concerns nobody else",
+    local: () => "an instruction of its own",
     begin: () => "a send begins",
     queue: () => "it waits at its receiver",
     deliver: () => "a message arrives",

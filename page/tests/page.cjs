@@ -263,6 +263,10 @@ async function stepsByAny(browser, hand) {
     await browser.until("document.getElementById('status').textContent.startsWith('link copied')");
     await hand.go(await hand.run("return location.hash"));
     check("a link has the trace and the place", (await hand.text("where")).startsWith("step 12 of 13: local 9.1"), await hand.text("where"));
+    await hand.run("document.querySelector('.others').open = true; document.querySelector('.others input').value = 'local 1.1'; document.querySelector('.others form').requestSubmit();");
+    await hand.idle();
+    check("why a step is refused", /because/.test(await hand.text("verdict")), await hand.text("verdict"));
+    await hand.click("#back");
     await hand.fill("way", "items", "change");
     await hand.idle();
     check("turns begin anew", (await hand.text("where")).startsWith("item 0 of 0"), await hand.text("where"));

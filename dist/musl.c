@@ -1,8 +1,11 @@
 // What musl lacks or does otherwise than glibc, for a program that is linked with nothing of the system: the words of a command line, of
-// which musl hands none to a constructor; a signal's disposition; and what glibc knows of the processor, for which the program asks first.
+// which musl hands none to a constructor; a signal's disposition; what the system tells of a file, which a musl of Debian does not ask yet;
+// and what glibc knows of the processor, for which the program asks first.
+#define _GNU_SOURCE
 #include <cpuid.h>
 #include <signal.h>
 #include <string.h>
+#include <sys/syscall.h>
 #include <sys/types.h>
 #include <unistd.h>
 
@@ -18,6 +21,11 @@ ssize_t rattle_arg(size_t place, char *to, size_t room) {
 }
 
 long __sysv_signal(int number, long what) { return (long)signal(number, (void (*)(int))what); }
+
+// Weak: later versions of musl have it.
+__attribute__((weak)) int statx(int folder, const char *name, int flags, unsigned wanted, void *to) {
+    return (int)syscall(SYS_statx, folder, name, flags, wanted, to);
+}
 
 ssize_t __write(int fd, const void *from, size_t n) { return write(fd, from, n); }
 

@@ -10,6 +10,12 @@ make_work() {
     trap 'rm -rf "$work"' EXIT
 }
 
+# Names the program that is compiled as it stands, without a proof. It is compiled first, where that was not done yet.
+unproved_program() {
+    "$TRIALS/../x" build >&2
+    echo "$TRIALS/../out/unproved/l4run"
+}
+
 # Starts a script of this folder for each part, with its share of the count, and prints the sums of what they count. Behind the count stands
 # a program, or nothing: then it is l4run, which is proved and built as it stands.
 in_parts() {

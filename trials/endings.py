@@ -1,40 +1,42 @@
 """Prints what `l4run endings` says of a machine, as a second emulator finds it, and ends with the same status.
 
-    python3 -B trials/endings.py FILE [--depth N] [--states N] [--stuck] [--with LINE] [--never LINE] [--none] [--waits] [--expect NAME]
+    python3 -B trials/endings.py FILE [--placed] [--depth N] [--states N] [--stuck] [--with LINE] [--never LINE] [--none or --some] [--waits] [--expect NAME]
+    python3 -B trials/endings.py FILE --trace N [..]
 
-A core run has at most so many events, and its ticks go to the least deadline of their processor. Each ending, a state at rest that core runs lead to, is printed
-once, with the first schedule that leads there and its report; the last line says how many states there are, how deep all were found, and whether there are no
-more, of which runs. With --waits who waits for whom stands behind each report. What of NAME an ending does not meet is told on standard error. Faults are not told as the
-program tells them.
+Each ending, a world in which nothing but clocks can go on, is printed once with its report, the shortest first: whatever the scheduler does and whatever time passes, with the
+number of steps that lead there, ticks not counted; or with --placed of core runs whose ticks go to the least deadline of their processor, with the first schedule that leads
+there. The last line says how many worlds or states there are, how deep all were found, and whether there are no more. --trace prints the trace of one ending in place of all
+else. With --waits who waits for whom stands behind each report. What of NAME an ending does not meet is told on standard error. Faults but that of --trace are not told as
+the program tells them.
 """
 
 import argparse
+import dataclasses
 import pathlib
 import sys
 
-from second import expectations, machines, model, searches, waits, words
+from second import expectations, machines, model, searches, traces, waits, words, worlds
 from second.expectations import ANY_WORD, ANY_WORDS, fits, is_name, split_lines
-from second.threads import Phase
 
 DEPTH, STATES = 1_000, 100_000
 LEAST, MOST = 1, 1_000_000
-WHOLE, USAGE, CUT, FOUND, UNMET = 0, 2, 3, 4, 4
+WHOLE, FAULT, USAGE, CUT, FOUND, UNMET, MISSED = 0, 1, 2, 3, 4, 4, 4
 OPEN = (words.ANY, words.ANY_LOCAL)
 BEGINNINGS = ("thread", "waiting", "ending", ANY_WORD)
+OUT_OF_RANGE = "l4run: ending out of range\n"
 
 
 class Ending:
-    """A state at rest, as the replay of the choices that lead there has it."""
+    """A world in which nothing but clocks can go on, its history, and what stands behind its number."""
 
-    def __init__(self, machine, choices):
-        self.choices = choices
-        self.end = searches.walk(machine, choices)
-        self.world = model.world_of(machine, self.end.history)
+    def __init__(self, machine, history, shown):
+        self.shown = shown
+        self.history = history
+        self.world = model.world_of(machine, history)
         self.report = self.world.report(at_rest=True)
 
     def head(self, number):
-        items = ",".join(map(str, self.choices))
-        return f"ending {number} {items}".rstrip(" ") + "\n"
+        return f"ending {number} {self.shown}".rstrip(" ") + "\n"
 
     def text(self, number, with_waits=False):
         behind = waits.waits_text(self.world) if with_waits else ""
@@ -46,18 +48,15 @@ class Ending:
         return told and self.head(number) + told
 
     def is_stuck(self):
-        return bool(self.world.sends) or any(map(is_closed, self.blocks()))
-
-    def blocks(self):
-        return [block for processor in self.end.processors for block in processor.own.values()]
+        return bool(self.world.sends) or any(map(is_closed, self.world.members.values()))
 
     def has_line(self, asked):
         return any(fits(asked.split(" "), words) for words in split_lines(self.report))
 
 
-def is_closed(block):
+def is_closed(member):
     """Whether a thread receives from one thread alone."""
-    return not block.deleted and block.phase is Phase.RECEIVING and block.source not in OPEN
+    return member.receives() and member.source not in OPEN
 
 
 def may_be_asked(line):
@@ -79,14 +78,33 @@ def is_asked(asked, ending):
     )
 
 
-def whole(machine):
-    """What a whole search knows of: runs whose ticks go to least deadlines, and in which threads of one processor take turns in one order."""
+@dataclasses.dataclass(frozen=True)
+class Found:
+    """What a search found: all endings, the lines behind them, and whether there are no more."""
+
+    endings: list
+    last: str
+    is_whole: bool
+
+
+def found_placed(machine, asked):
+    found = searches.search(machine, asked.depth, asked.states)
+    endings = [Ending(machine, searches.walk(machine, state.choices).history, ",".join(map(str, state.choices))) for state in found.endings()]
+    last = f"states {len(found.states)} depth {found.depth} {whole_of_placed(machine) if found.is_whole else 'cut'}\n"
+    return Found(endings, last, found.is_whole)
+
+
+def whole_of_placed(machine):
+    """What a whole search of placed threads knows of: runs whose ticks go to least deadlines, and in which threads of one processor take turns in one order."""
     cpus = [declaration.cpu for declaration in machine.threads.values()]
     return "whole, least ticks" + (", in turn" if len(set(cpus)) < len(cpus) else "")
 
 
-def last_line(machine, found):
-    return f"states {len(found.states)} depth {found.depth} {whole(machine) if found.is_whole else 'cut'}\n"
+def found_anywhere(machine, asked):
+    found = worlds.search(machine, asked.depth, asked.states, worlds.Reduction(machine))
+    endings = [Ending(machine, ending.history(), f"steps {ending.steps}") for ending in found.endings()]
+    last = "" if endings or not found.is_whole else "no ending: it goes on for ever\n"
+    return Found(endings, last + f"worlds {len(found.worlds)} steps {found.steps} {'whole' if found.is_whole else 'cut'}\n", found.is_whole)
 
 
 def answer(text, asked):
@@ -96,14 +114,38 @@ def answer(text, asked):
 
 
 def full_answer(text, asked, expected):
-    """The lines that answer a question, what the endings do not meet, and the exit status."""
+    """The lines that answer a question, those of standard error, and the exit status."""
+    return answer_of(found_in(text, asked), asked, expected)
+
+
+def found_in(text, asked):
     machine = machines.read(text)
-    found = searches.search(machine, asked.depth, asked.states)
-    endings = [ending for state in found.endings() if is_asked(asked, ending := Ending(machine, state.choices))]
+    return found_placed(machine, asked) if asked.placed else found_anywhere(machine, asked)
+
+
+def answer_of(found, asked, expected):
+    endings = [ending for ending in found.endings if is_asked(asked, ending)]
+    if asked.trace is not None:
+        return trace_answer(endings, asked.trace)
     lines = "".join(ending.text(number, asked.waits) for number, ending in enumerate(endings, 1))
     unmet = "".join(ending.unmet(number, expected) for number, ending in enumerate(endings, 1))
-    status = UNMET if unmet else FOUND if asked.none and endings else WHOLE if found.is_whole else CUT
-    return lines + last_line(machine, found), unmet, status
+    return lines + found.last, unmet, UNMET if unmet else status_of(asked, endings, found.is_whole)
+
+
+def trace_answer(endings, number):
+    if not 1 <= number <= len(endings):
+        return "", OUT_OF_RANGE, FAULT
+    return traces.text(endings[number - 1].history), "", WHOLE
+
+
+def status_of(asked, endings, is_whole):
+    if asked.none and endings:
+        return FOUND
+    if asked.some and endings:
+        return WHOLE
+    if asked.some and is_whole:
+        return MISSED
+    return WHOLE if is_whole else CUT
 
 
 def number(word):
@@ -128,14 +170,17 @@ def question(arguments):
     reader.add_argument("--with", type=line, dest="with_line")
     reader.add_argument("--never", type=line)
     reader.add_argument("--none", action="store_true")
+    reader.add_argument("--some", action="store_true")
+    reader.add_argument("--placed", action="store_true")
+    reader.add_argument("--trace", type=int)
     reader.add_argument("--waits", action="store_true")
     reader.add_argument("--expect", type=pathlib.Path)
     return reader.parse_args(arguments)
 
 
 def endings(text, depth, most):
-    """All endings of a machine, by a search as deep as this among as many states."""
-    return answer(text, argparse.Namespace(depth=depth, states=most, stuck=False, with_line=None, never=None, none=False, waits=False))[0]
+    """All endings of a machine whose threads are placed, by a search as deep as this among as many states."""
+    return answer(text, question(["FILE", "--placed", f"--depth={depth}", f"--states={most}"]))[0]
 
 
 def main(arguments):

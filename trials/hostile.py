@@ -13,16 +13,16 @@ TURNS = "300"
 # How far it is is told after so many of each.
 PROGRESS = 5_000
 KINDS = "BadLine|BadNumber|BadId|BadCpu|TypedItems|DoubleId|TooManyThreads|TooManyInstructions|BadTarget|TooLong"
-FAULTS = re.compile(rf"l4run: (line \d+: (?:{KINDS})|schedule item \d+|(?:turns|depth|states) out of range|expectation line \d+: (?:BadLine|Unknown|BadWord|Deleted|Number)|trace line \d+|threads item \d+|refused at step \d+)\n")
+FAULTS = re.compile(rf"l4run: (line \d+: (?:{KINDS})|schedule item \d+|(?:turns|depth|states|ending) out of range|expectation line \d+: (?:BadLine|Unknown|BadWord|Deleted|Number)|trace line \d+|threads item \d+|refused at step \d+)\n")
 # A line for each fault of a text, or for each doubt, and one for each thread that waits, each circle and each thread's counts.
 LINT = re.compile(rf"line (\d+) column \d+: ({KINDS})(?:: `[ -~]*`)?: [ -~]+".encode())
 DOUBT = re.compile(rb"line \d+ column \d+: (?:always|perhaps): `[ -~]*`: [ -~]+")
 BEHIND = rb"(?:waits \S+ \S+ (?:send|receive)\n)*(?:(?:circle|deadlock)(?: \S+)+\n)*(?:counts \S+ turns \d+ sends \d+ delivered \d+ received \d+ refused(?: [2-7]:\d+){6}\n)*"
 PASSED = re.compile(rb"passed \d+ (?:quiet|spent)\n" + BEHIND)
-ENDINGS = re.compile(rb"(^|\n)states \d+ depth \d+ (whole, least ticks(, in turn)?|cut)\n$")
+ENDINGS = re.compile(rb"(^|\n)(worlds \d+ steps \d+ (whole|cut)|states \d+ depth \d+ (whole, least ticks(, in turn)?|cut))\n$")
 ITEM = re.compile(rb"schedule item (\d+): (?:`[ -~]*`: )?[ -~]+")
 # What a report does not meet, and which ending that is of.
-UNMET = re.compile(r"(?:(?:ending \d+ \S*|line \d+: (?:wanted|never): [ -~]+; found: [ -~]+)\n)+")
+UNMET = re.compile(r"(?:(?:ending \d+ (?:steps \d+|\S*)|line \d+: (?:wanted|never): [ -~]+; found: [ -~]+)\n)+")
 QUIET, FAULT, USAGE, SPENT, FOUND = 0, 1, 2, 3, 4
 
 NUMBERS = ["0", "1", "63", "64", "15", "16", "17", "0x3f", "18446744073709551615", "18446744073709551616", "4294967296", "-1", "0x", "00", "1.", ""]
@@ -119,7 +119,16 @@ def question(dice):
         if dice.random() < 0.3:
             line = dice.choice(["thread 1.1 *", "thread * ended ..", "waiting ..", "thread 1.1 deleted 0", "ending quiet", "thread 2.1 sending 0 nil nil 0", "..", ""])
             words.append(f"{name}=" + spoilt(dice, line.encode()).replace(b"\0", b"").decode("utf-8", "ignore"))
-    return words + [name for name in ("--stuck", "--none") if dice.random() < 0.3]
+    words += [name for name in ("--stuck", "--placed") if dice.random() < 0.3]
+    return words + dice.choice([[], [], ["--none"], ["--some"], ["--none", "--some"]])
+
+
+def ending_audited(program, name, trace, dice, seen):
+    """The trace of an ending passes its audit."""
+    told = judged([program, "endings", name, "--depth=20", "--states=200", f"--trace={dice.choice([0, 1, 1, 2, 2**64 - 1])}"], seen, lambda out: True)
+    if told is not None:
+        write(trace, told)
+        judged([program, "audit", name, trace], seen, re.compile(rb"passed \d+ quiet\n").fullmatch)
 
 
 def is_linted(out, fault):
@@ -228,9 +237,10 @@ def main(program, folder, count, part):
         judged([program, "replay", name, "--schedule=@" + listed], seen["lists"], lambda out: True)
         waits = ["--waits"] if dice.random() < 0.3 else []
         judged([program, "endings", name, *question(dice), *waits], seen["endings"], ENDINGS.search, others=(USAGE, FOUND))
+        ending_audited(program, name, trace, dice, seen["endings"])
         report = subprocess.run([program, "run", name, "--turns", TURNS, "--report"], stdout=subprocess.PIPE).stdout
         write(wanted, expected(dice, report))
-        of = dice.choice([["run", name, "--turns", TURNS], ["replay", name, "--schedule=0,1,0"], ["endings", name, "--depth=6", "--states=50"]])
+        of = dice.choice([["run", name, "--turns", TURNS], ["replay", name, "--schedule=0,1,0"], ["endings", name, "--depth=6", "--states=50"], ["endings", name, "--placed", "--depth=6", "--states=50"]])
         judged([program, *of, "--expect=" + wanted], seen["expectations"], lambda out: True, others=(FOUND,))
         told = judged([program, "run", name, "--turns", TURNS, "--record", listed], collections.Counter(), lambda out: True)
         if told != judged([program, "replay", name, "--schedule=@" + listed], collections.Counter(), lambda out: True):

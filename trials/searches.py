@@ -1,4 +1,4 @@
-"""Compares what `l4run endings` says of random machines with what the second emulator says: the same
+"""Compares what `l4run endings --placed` says of random machines with what the second emulator says: the same
 lines and the same status, where both find as many states. Prints counts.
 
 Both search to a depth and among so many states that a machine takes no more than seconds. The program
@@ -23,7 +23,7 @@ LINES = ("waiting ..", "waiting 1.1#* *", "thread 1.1 ended ..", "thread * recei
 
 def question(dice):
     """What is asked of a machine: half of the time all endings."""
-    words = [f"--depth={DEPTH}", f"--states={MOST_STATES}"]
+    words = ["--placed", f"--depth={DEPTH}", f"--states={MOST_STATES}"]
     if dice.random() < 0.5:
         return words
     words += [name for name in ("--stuck", "--none", "--waits") if dice.random() < 0.5]

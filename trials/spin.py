@@ -1,4 +1,5 @@
-"""Asks `l4run endings` and SPIN the questions of the models in spin/, and prints both answers. Ends with status 1 where two differ."""
+"""Asks `l4run endings`, with --placed too, and SPIN the questions of the models in spin/, and prints the answers. Ends with
+status 1 where they differ, but that --placed may find none where there is one."""
 
 import dataclasses
 import pathlib
@@ -47,14 +48,14 @@ def output(command, folder=None):
     return done.stdout, done.returncode
 
 
-def endings(program, text, words):
-    said, status = output([program, "endings", text, *words, "--none"])
+def endings(program, text, words, *form):
+    said, status = output([program, "endings", text, *form, *words, "--none"])
     if status not in (WHOLE, FOUND):
-        sys.exit(f"{text} {words}: status {status}\n{said}")
+        sys.exit(f"{text} {form} {words}: status {status}\n{said}")
     found = len(re.findall(r"^ending \d", said, re.MULTILINE))
     if (status == FOUND) != (found > 0):
-        sys.exit(f"{text} {words}: status {status} does not fit\n{said}")
-    return Answer(found, number(r"^states (\d+) depth \d+ whole, least ticks(?:, in turn)?$", said))
+        sys.exit(f"{text} {form} {words}: status {status} does not fit\n{said}")
+    return Answer(found, number(r"^(?:worlds|states) (\d+) (?:steps|depth) \d+ whole", said))
 
 
 def spin(model, condition, folder):
@@ -84,10 +85,12 @@ def main(program, work):
     asked, same = 0, 0
     for model in sorted(MODELS.glob("*.pml")):
         for words, condition in questions(model):
-            ours, theirs = endings(program, text_of(model), words), spin(model, condition, pathlib.Path(work))
-            agree = (ours.found > 0) == (theirs.found > 0)
+            text = text_of(model)
+            ours, placed = endings(program, text, words), endings(program, text, words, "--placed")
+            theirs = spin(model, condition, pathlib.Path(work))
+            agree = (ours.found > 0) == (theirs.found > 0) and (placed.found == 0 or theirs.found > 0)
             asked, same = asked + 1, same + agree
-            print(f"{model.stem} {shlex.join(words)}: endings {ours}, SPIN {theirs}{'' if agree else ', and these DIFFER'}")
+            print(f"{model.stem} {shlex.join(words)}: endings {ours}, placed {placed}, SPIN {theirs}{'' if agree else ', and these DIFFER'}")
     print(f"{same} of {asked} answers are the same")
     return 0 if same == asked > 0 else 1
 

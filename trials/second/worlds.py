@@ -1,4 +1,4 @@
-"""A search in breadth of all worlds that histories of a machine reach, under any scheduler and at any times.
+"""A search in breadth of all worlds that histories of a machine reach, under any scheduler and at any times, in the order of `l4run endings`.
 
 Ticks are no choices: before each step all clocks go so far on that each finite period is over, as no step but a tick ever asks that one is not. Worlds are told apart by
 all that a later step may read but time and numbers of sends. So an ending comes with a shortest history, but for ticks, to a world in which nothing but clocks can go on."""
@@ -19,7 +19,7 @@ LONG = 1 << 42
 
 def copied(world):
     """Another world in which all is as it is in this one, as `World.copy` makes it, without what no step changes: a search copies for each step."""
-    other = World.__new__(World)
+    other = World.__new__(type(world))
     other.machine = world.machine
     other.sends = {name: copy.copy(send) for name, send in world.sends.items()}
     other.members = {thread: member_copied(member, other.sends) for thread, member in world.members.items()}
@@ -82,16 +82,24 @@ def phase_code(member):
 
 
 def send_code(send, is_cancelled):
-    return send.destination, send.label, send.message, send.propagated, send.shown, send.period, send.source, send.receive_period, is_cancelled
+    receive = (send.source, send.receive_period) if send.is_call else None
+    return send.destination, send.label, send.message, send.propagated, send.shown, send.period, receive, is_cancelled
 
 
 # What is possible
 
+# The order in which the steps of one thread are tried.
+VERBS = ("local", "begin", "queue", "deliver", "wait", "stimeout", "rtimeout", "snobody", "rnobody", "scancel", "rcancel", "drop", "order", "obey")
+
 
 def possible(world):
-    """Every step but ticks that is possible now or after ticks alone."""
-    steps = [step for thread, member in world.members.items() for step in of_thread(world, thread, member)]
+    """Every step but ticks that is possible now or after ticks alone: those of the threads in order of declaration, then those that are owed."""
+    steps = [step for thread, member in world.members.items() for step in in_order(of_thread(world, thread, member))]
     return steps + [("retarget", name) for name in world.owed]
+
+
+def in_order(steps):
+    return sorted(steps, key=lambda step: VERBS.index(step[0]))
 
 
 def of_thread(world, thread, member):
@@ -205,34 +213,62 @@ def may_ask_to_propagate(instruction):
     return False
 
 
+# Histories
+
+
+def told(machine, steps):
+    """The history of steps that were taken whatever time passes: before a timeout that is not due yet the clock of its thread's processor goes on until
+    it is."""
+    world, history = World(machine), []
+    for step in steps:
+        for taken in (*until_due(world, step), step):
+            world.take(*taken)
+            history.append(taken)
+    return history
+
+
+def until_due(world, step):
+    match step:
+        case "stimeout", name:
+            return until(world, name.thread, world.sends[name].begun + world.sends[name].period)
+        case "rtimeout", thread:
+            return until(world, thread, world.members[thread].since + world.members[thread].period)
+    return []
+
+
+def until(world, thread, clock):
+    """The tick by which the clock of a thread's processor is that late, where it is earlier."""
+    return [("tick", world.machine.cpu(thread), clock)] if world.clock(thread) < clock else []
+
+
 # The search
 
 
 @dataclasses.dataclass(eq=False)
 class Found:
-    """A world with how many steps but ticks lead to it, what is possible there, the world before, and the last steps, with ticks."""
+    """A world with how many steps lead to it, what is possible there, the world before, and the step from there."""
 
     world: World
     steps: int
     possible: list
     before: "Found | None" = None
-    last: tuple = ()
+    last: tuple | None = None
 
     @property
     def is_ending(self):
         return not self.possible
 
     def history(self):
-        parts, found = [], self
-        while found:
-            parts.append(found.last)
+        steps, found = [], self
+        while found.before:
+            steps.append(found.last)
             found = found.before
-        return [step for part in reversed(parts) for step in part]
+        return told(self.world.machine, reversed(steps))
 
 
 @dataclasses.dataclass(frozen=True)
 class Search:
-    """How many worlds were found, the endings among them, how deep all are told, and whether there are no more."""
+    """Which worlds were found, how deep all are told, and whether there are no more."""
 
     worlds: dict
     steps: int
@@ -248,23 +284,15 @@ def search(machine, depth, most, reduction):
     opening = Found(first, 0, possible(first))
     worlds, order = {code(first): opening}, [opening]
     for found in order:
-        if found.possible and found.steps >= depth:
+        if found.steps >= depth:
             return Search(worlds, depth, False)
         for step in reduction.chosen(found.possible):
-            last = (*ticks(found.world), step)
-            world = after(found.world, last)
+            world = after(found.world, (*ticks(found.world), step))
             key = code(world)
             if key in worlds:
                 continue
             if len(worlds) >= most:
                 return Search(worlds, found.steps, False)
-            worlds[key] = Found(world, found.steps + 1, possible(world), found, last)
+            worlds[key] = Found(world, found.steps + 1, possible(world), found, step)
             order.append(worlds[key])
     return Search(worlds, order[-1].steps, True)
-
-
-def answer(machine, depth, most):
-    """The lines of each ending and the last line."""
-    found = search(machine, depth, most, Reduction(machine))
-    parts = [f"ending {number} steps {ending.steps}\n{ending.world.report(at_rest=True)}" for number, ending in enumerate(found.endings(), 1)]
-    return "".join(parts) + f"worlds {len(found.worlds)} steps {found.steps} {'whole' if found.is_whole else 'cut'}\n"

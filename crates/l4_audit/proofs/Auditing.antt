@@ -1,11 +1,10 @@
 -- An audit goes on by one step.
 use Rattle.std.proofs.Common.{◌≡◌, ℕ, ◌<◌, ◌+◌, length, get_or, take, Option, Some, None, Result, Ok, Err, List, [], ◌∷◌, ◌++◌, refl, ap, sym, ◌∙◌, subst}
-use Rattle.std.specs.Prelude.{filter_map, is_some, slice_get, true}
+use Rattle.std.specs.Prelude.{filter_map}
 use Rattle.std.specs.List.{cons_option}
 use Rattle.std.specs.Option.{option_to_list}
 use Rattle.std.proofs.lemmas.List.{append-nil, take_more}
 use Rattle.std.proofs.lemmas.List.Elements.{filter_map-append}
-use Rattle.l4_model.specs.Words.{Id}
 use Rattle.l4_model.specs.Machine.{Machine}
 use Rattle.l4_model.specs.World.{Name, World, opening}
 use Rattle.l4_model.specs.Conditions.{◌>>=◌}
@@ -16,7 +15,7 @@ use Rattle.l4_model.proofs.Worlds.{reached_facts}
 use Rattle.l4_core_model.proofs.Changed.{run-last}
 use Rattle.l4_audit.specs.declared.reasons.StepFault.{StepFault}
 use Rattle.l4_audit.specs.Audited.{Audited, IsPlaced}
-use Rattle.l4_audit.specs.Auditing.{Auditing, IsUnderWay, IsPassed, Judges, waiting_send}
+use Rattle.l4_audit.specs.Auditing.{Auditing, IsUnderWay, Judges, waiting_send}
 use Rattle.l4_audit.specs.Taking.{IsTaken, Judged}
 use Rattle.l4_audit.proofs.Placing.{Placed, opening_placed, placed_at, step_placed}
 

@@ -1,5 +1,6 @@
 pub mod Auditing
 pub mod Delivering
+pub mod Late
 pub mod Listed
 pub mod Listing
 pub mod Lists

@@ -9,7 +9,7 @@ use Rattle.l4_model.specs.Words.{GlobalId, same_id}
 use Rattle.l4_model.specs.Machine.{Machine, Declaration, OrderKind, CancelSend, CancelReceive, CancelBoth, Delete, place_of}
 use Rattle.l4_model.specs.World.{Name, Owed, PendingOrder, World, same_name}
 use Rattle.l4_model.specs.Rules.{received_tag, is_cross}
-use Rattle.l4_model.specs.Conditions.{◌>>=◌, ◌>>◌, Found, Pending, found, undecided, receiver_of, act_of}
+use Rattle.l4_model.specs.Conditions.{◌>>=◌, Found, Pending, found, undecided, receiver_of, act_of}
 use Rattle.l4_model.specs.Steps.{Step, Local, Begin, Queue, Deliver, Wait, SendTimeout, ReceiveTimeout, SendNobody, ReceiveNobody, SendCancel, ReceiveCancel, Drop, Order, Obey, Tick, Retarget, order_of, next, order_kind_code}
 use Rattle.l4_model.specs.Reached.{AreNamedOnce}
 use Rattle.l4_model.specs.Still.{is_tick}

@@ -1,6 +1,6 @@
 -- The lists of waiting senders, by their places alone.
 use Rattle.std.proofs.Common.{◌≡◌, ℕ, ◌<◌, length, map, List, [], ◌∷◌, ◌++◌, refl, ap, sym, ◌∙◌}
-use Rattle.std.proofs.lemmas.List.{map_push}
+use Rattle.std.proofs.lemmas.List.{length-map, map_push}
 use Rattle.std.proofs.Math.ListN.{get_or-map}
 use Rattle.std.specs.Prelude.{slice_index_or, replicate}
 use Rattle.l4_model.specs.Machine.{Machine, Declaration}
@@ -40,3 +40,9 @@ left m bs p cs os a s is = let e = unqueued_same s p.waiting in rw (← is, ← 
 pub none_waits : (ds : List Declaration) → senders_of (replicate (length ds) []) ≡ map (λ d. []) ds
 none_waits [] = refl
 none_waits (d ∷ ds) = ap (λ ls. [] ∷ ls) (none_waits ds)
+
+-- There are as many lists as threads are declared.
+pub lists_as_many : (m : Machine) (bs : List Block) (lists : List (List plain.Waiting)) (cs : List ℕ) (os : List Owed) (a : Audited) → audited m bs (senders_of lists) cs os ≡ a → IsOf m bs lists →
+    length a.world.waiting ≡ length a.machine.threads
+lists_as_many m bs lists cs os a is of =
+    sym (ap (λ (x : Audited). length x.world.waiting) is) ∙ length-map lists blocks ∙ of.counted ∙ ap (λ (x : Audited). length x.machine.threads) is

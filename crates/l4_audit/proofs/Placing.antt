@@ -13,6 +13,8 @@ use Rattle.l4_model.specs.Reached.{Suits, WorldFacts}
 use Rattle.l4_model.proofs.Chains.{some_is, map-changed_same, get-map}
 use Rattle.l4_model.proofs.Places.{known}
 use Rattle.l4_model.proofs.Inversions.{local_taken, begin_taken, queue_taken, deliver_taken, wait_taken, send_timeout_taken, send_nobody_taken, send_cancel_taken, drop_taken, receive_timeout_taken, receive_nobody_taken, receive_cancel_taken, order_taken, obey_taken, tick_taken, retarget_taken}
+use Rattle.l4_worlds.specs.Late.{next_late}
+use Rattle.l4_worlds.proofs.Taken.{late_send_timeout, late_receive_timeout}
 
 -- What of a thread is spoken of: whether it asked for something, and its place.
 pub record Part : Type 0 where
@@ -217,3 +219,25 @@ step_placed m w v (steps.Tick cpu clock) facts h placed = let k = tick_taken m w
 step_placed m w v (steps.Retarget s) facts h placed =
     let k = retarget_taken m w v s h in
     kept m w v (record w { owed = others_owed w.owed s }) k.t.at (turns k.o) (turned_part k.o) refl k.leads_to placed
+
+-- It stays so by a step that is possible where each finite period is over.
+pub late_placed : (m : Machine) (w v : World) (step : steps.Step) → WorldFacts m w → next_late m w step ≡ Some v → Placed m w → Placed m v
+late_placed m w v (steps.SendTimeout s) facts h placed =
+    let k = late_send_timeout m w v s h in kept m w v (unqueued w k.p.sender.at) k.p.sender.at (refused 2) (refused_part 2) refl k.leads_to placed
+late_placed m w v (steps.ReceiveTimeout id) facts h placed =
+    let k = late_receive_timeout m w v id h in kept m w v w k.t.at (fails 3) (fails_part 3) refl k.leads_to placed
+late_placed m w v (steps.Tick cpu clock) facts h placed = cc
+late_placed m w v (steps.Local id) facts h placed = step_placed m w v (steps.Local id) facts h placed
+late_placed m w v (steps.Begin s) facts h placed = step_placed m w v (steps.Begin s) facts h placed
+late_placed m w v (steps.Queue s) facts h placed = step_placed m w v (steps.Queue s) facts h placed
+late_placed m w v (steps.Deliver s receiver shown actual tag words) facts h placed =
+    step_placed m w v (steps.Deliver s receiver shown actual tag words) facts h placed
+late_placed m w v (steps.Wait id) facts h placed = step_placed m w v (steps.Wait id) facts h placed
+late_placed m w v (steps.SendNobody s) facts h placed = step_placed m w v (steps.SendNobody s) facts h placed
+late_placed m w v (steps.ReceiveNobody id) facts h placed = step_placed m w v (steps.ReceiveNobody id) facts h placed
+late_placed m w v (steps.SendCancel s) facts h placed = step_placed m w v (steps.SendCancel s) facts h placed
+late_placed m w v (steps.ReceiveCancel id) facts h placed = step_placed m w v (steps.ReceiveCancel id) facts h placed
+late_placed m w v (steps.Drop s) facts h placed = step_placed m w v (steps.Drop s) facts h placed
+late_placed m w v (steps.Order caller target what) facts h placed = step_placed m w v (steps.Order caller target what) facts h placed
+late_placed m w v (steps.Obey caller) facts h placed = step_placed m w v (steps.Obey caller) facts h placed
+late_placed m w v (steps.Retarget s) facts h placed = step_placed m w v (steps.Retarget s) facts h placed

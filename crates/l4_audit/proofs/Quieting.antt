@@ -7,7 +7,7 @@ use Rattle.l4_model.specs.Machine.{Machine, Declaration}
 use Rattle.l4_model.specs.World.{World, Owed}
 use Rattle.l4_model.specs.Steps.{Step, Retarget, next}
 use Rattle.l4_model.specs.History.{reached}
-use Rattle.l4_model.specs.Still.{IsStill, late, is_still, is_still_thread}
+use Rattle.l4_model.specs.Still.{IsStill, late, is_still_thread}
 use Rattle.l4_model.proofs.NothingOwed.{still_owes_nothing}
 use Rattle.l4_model.proofs.Places.{and_true}
 use Rattle.l4_model.proofs.Stillness.{still_exactly}

@@ -1,8 +1,8 @@
 -- A reason is told exactly where a step is not possible.
-use Rattle.std.proofs.Common.{◌≡◌, ℕ, Bool, true, false, Option, Some, None, List, [], ◌∷◌, ◌++◌, refl, ap, sym, ◌∙◌}
+use Rattle.std.proofs.Common.{◌≡◌, ℕ, Bool, true, false, Option, Some, None, List, [], ◌∷◌, refl, ap, sym, ◌∙◌}
 use Rattle.std.specs.Prelude.{◌&&◌, is_some, is_none, if◌then◌else◌, ◌==◌, ◌+◌, not, nat_lt, slice_get}
 use Rattle.std.specs.Str.{bytes_eq}
-use Rattle.l4_model.specs.Words.{GlobalId, same_id, clock_limit}
+use Rattle.l4_model.specs.Words.{same_id, clock_limit}
 use Rattle.l4_model.specs.Machine.{Machine, place_of}
 use Rattle.l4_model.specs.World.{World, owed_of, must_wait, is_ready, is_alive, is_deleted, receive_now}
 use Rattle.l4_model.specs.Rules.{received_tag, is_cross}

@@ -1,12 +1,12 @@
 -- A thread begins the first phase of its Ipc.
 use Rattle.std.proofs.Common.{◌≡◌, ℕ, ◌<◌, ◌+◌, ◌^◌, zero, suc, length, get_or, set, map, Bool, true, false, Option, Some, None, List, [], ◌∷◌, refl, ap, sym, ◌∙◌, arith, subst}
-use Rattle.std.specs.Prelude.{slice_get, ◌==◌, IsSome, IsSomeAnd, slice_index_or, is_some, not}
+use Rattle.std.specs.Prelude.{slice_get, IsSome, IsSomeAnd, slice_index_or, is_some, not}
 use Rattle.std.specs.Option.{option_map}
 use Rattle.std.proofs.lemmas.List.{length-map}
 use Rattle.std.proofs.lemmas.Option.{slice_get-map, get_or_from_slice_get}
 use Rattle.l4_model.specs.Words.{Id, NilThread, AnyThread, AnyLocalThread, LocalThread, GlobalThread, GlobalId, global_id, Period}
 use Rattle.l4_model.specs.Machine.{Machine, Declaration, Instr, Set, Copy, Add, Tag, Vs, Ipc, Ask, Jump, OnErr, End}
-use Rattle.l4_model.specs.World.{Thread, Send, Receive, Owed, World, Name, change, changed, is_ready}
+use Rattle.l4_model.specs.World.{Thread, Send, Receive, Owed, World, Name, change, changed}
 use Rattle.l4_model.specs.Rules.{Act, RunsAlone, Sends, Receives, Orders, act, ipc_act, destination, receive_phase}
 use Rattle.l4_model.specs.Effects.{begins, waits}
 use Rattle.l4_model.specs.Conditions.{Found, found, act_of, instruction}

@@ -5,7 +5,7 @@ use Rattle.std.proofs.lemmas.List.{length-map}
 use Rattle.l4_core_model.specs.Plain.{Waiting}
 use Rattle.l4_model.specs.Machine.{Machine, Declaration}
 use Rattle.l4_model.specs.World.{Thread, Owed, change, changed}
-use Rattle.l4_model.proofs.Chains.{set_changed, map-changed, map-changed_same}
+use Rattle.l4_model.proofs.Chains.{set_changed, map-changed}
 use Rattle.l4_thread.specs.Parts.{Block}
 use Rattle.l4_audit.specs.Audited.{Audited, IsOf, with_world}
 

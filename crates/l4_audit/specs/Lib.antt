@@ -2,6 +2,7 @@ pub mod Audited
 pub mod Auditing
 pub mod Audits
 pub mod Delivering
+pub mod Due
 pub mod Owing
 pub mod Phases
 pub mod Possible

@@ -5,8 +5,10 @@ ghost use Rattle.l4_model.specs.History.{begun_name, view};
 ghost use Rattle.l4_model.specs.Still.{IsStill, late};
 ghost use Rattle.l4_types.specs.ReportView.{report_of_view};
 ghost use Rattle.l4_types.specs.StepView.{seen, step_of};
+ghost use Rattle.l4_worlds.specs.Told.{until_due};
 ghost use Rattle.l4_audit.specs.Auditing.{Judges, begins, waiting_send};
 ghost use Rattle.l4_audit.specs.Audits.{is_quiet};
+ghost use Rattle.l4_audit.specs.Due.{ticks_of, CanBeDue};
 ghost use Rattle.l4_audit.specs.Possible.{possible};
 ghost use Rattle.l4_audit.specs.Reasons.{reason};
 ghost use Rattle.l4_audit.specs.Stillness.{is_still_now};
@@ -20,7 +22,7 @@ use l4_types::errors::NoMemory;
 use l4_types::ids::{GlobalId, ThreadId};
 use l4_types::reports::{Ending, ThreadView};
 use l4_types::step_ref::StepRef;
-use l4_types::steps::{Name, Step};
+use l4_types::steps::{Name, Step, Tick};
 use std::alloc::Global;
 use std::marker::Model;
 
@@ -121,6 +123,16 @@ impl<'m> Auditor<'m> {
             ≡ waits_in self.now.at.machine self.now.at.world) }
     {
         self.world.waits(alloc)
+    }
+
+    /// The tick by which a timeout is due here, where it is not yet. None of any other step. A clock
+    /// has to be able to go so far.
+    pub fn until_due(&self, step: &StepRef<'_>) -> Option<Tick>
+        requires { CanBeDue self.now.at.machine self.now.at.world (seen step.now) }
+        ensures { ticks_of result
+            ≡ until_due self.now.at.machine self.now.at.world (seen step.now) }
+    {
+        self.world.until_due(step)
     }
 
     /// Every step but ticks that is possible once all clocks have their last value, in the order of

@@ -345,7 +345,7 @@ fn cpu_of(machine: &Machine, id: GlobalId) -> Option<u8>
 }
 
 /// Whether two threads are declared, and of one processor.
-pub fn same_cpu(machine: &Machine, a: GlobalId, b: GlobalId) -> bool
+pub(crate) fn same_cpu(machine: &Machine, a: GlobalId, b: GlobalId) -> bool
     ensures { result ≡ same_cpu machine.now a b }
 {
     match (cpu_of(machine, a), cpu_of(machine, b)) {
@@ -356,7 +356,12 @@ pub fn same_cpu(machine: &Machine, a: GlobalId, b: GlobalId) -> bool
 
 /// Whether a receiver with this specifier accepts a message that shows this sender (manual: Ipc,
 /// `FromSpecifier`).
-pub fn accepts(machine: &Machine, from: ThreadId, shown: GlobalId, receiver: GlobalId) -> bool
+pub(crate) fn accepts(
+    machine: &Machine,
+    from: ThreadId,
+    shown: GlobalId,
+    receiver: GlobalId,
+) -> bool
     ensures { result ≡ accepts machine.now from shown receiver }
 {
     match from.kind() {

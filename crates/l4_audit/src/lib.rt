@@ -21,9 +21,9 @@
 
 pub mod audit;
 pub mod auditor;
-mod found;
+pub mod found;
 mod periods;
 pub mod possible;
 pub mod reasons;
 pub mod waits;
-mod world;
+pub mod world;

@@ -1,9 +1,13 @@
 //! A machine at one moment.
-ghost use Rattle.std.specs.Prelude.{◌≡◌, slice_index};
+ghost use Rattle.std.specs.Prelude.{◌≡◌, ◌<◌, All, length, map, slice_index};
+ghost use Rattle.l4_model.specs.World.{list_at};
+ghost use Rattle.l4_types.specs.OwedView.{owed_of};
 ghost use Rattle.l4_model.specs.Conditions.{found, found_at, found_by, undecided, receiver_of};
 
 mod deliveries;
+mod due;
 mod effects;
+mod late;
 mod looks;
 mod opening;
 mod possible;
@@ -22,7 +26,7 @@ use l4_types::ids::{GlobalId, ThreadId};
 use l4_types::owed::Owed;
 use l4_types::steps::Name;
 use std::marker::Model;
-use tcb_arena::Arena;
+use tcb_arena::{Arena, Blocks};
 
 /// A machine, and its threads in order of declaration, for each the senders that wait at it by
 /// their places, the clocks of the processors, and the owed retargets in order of delivery. Of the
@@ -57,6 +61,38 @@ impl<'m> Model for World<'m> {
 }
 
 impl<'m> World<'m> {
+    /// The machine.
+    pub fn machine(&self) -> &'m Machine
+        ensures { result.now ≡ self.now.machine }
+    {
+        self.machine
+    }
+
+    /// The owed retargets, in order of delivery.
+    pub fn owed(&self) -> &[Owed]
+        ensures { map owed_of result.now ≡ self.now.world.owed }
+    {
+        self.owed.as_slice()
+    }
+
+    /// The places of the senders that wait at the thread at a place, in order.
+    pub fn senders_at(&self, place: usize) -> Blocks<'_>
+        requires { place < length self.now.machine.threads }
+        ensures senders { result ≡ list_at self.now.world.waiting place }
+        ensures below { All (λ sender. sender < length self.now.machine.threads) result }
+    {
+        self.lists.waiting_at(place)
+    }
+
+    /// Gives the prover what always holds of it; no code.
+    #[inline(always)]
+    pub fn facts(&self)
+        ensures threads { length self.now.world.threads ≡ length self.now.machine.threads }
+        ensures lists { length self.now.world.waiting ≡ length self.now.machine.threads }
+    {
+        let _ = &self.machine;
+    }
+
     // The clock of a processor, in ticks.
     fn clock(&self, cpu: u8) -> u64
         ensures { result ≡ slice_index self.now.world.clocks cpu }

@@ -5,7 +5,7 @@ ghost use Rattle.l4_states.specs.Codes.{thread_code};
 ghost use Rattle.l4_types.specs.StepView.{order_kind_of};
 ghost use Rattle.l4_model.specs.Steps.{order_kind_code};
 ghost use Rattle.l4_states.specs.Codes.{number_code};
-ghost use Rattle.l4_codes.specs.States.{state_number};
+ghost use Rattle.l4_codes.specs.States.{standing_code, state_number};
 ghost use Rattle.l4_codes.specs.Written.{Writes};
 
 use crate::code::Code;
@@ -87,8 +87,10 @@ fn put_state(code: &mut Code, state: State) -> Result<(), AllocError>
     }
 }
 
-// Appends the registers, and the place in the script.
-fn put_context(code: &mut Code, thread: &Thread) -> Result<(), AllocError>
+/// Appends the registers, and the place in the script.
+///
+/// `AllocError`: memory was refused.
+pub fn put_context(code: &mut Code, thread: &Thread) -> Result<(), AllocError>
     ensures { OnOk result (Writes (context_code thread.now.context) code.old code.new) }
 {
     let regs = thread.regs();
@@ -101,6 +103,19 @@ fn put_context(code: &mut Code, thread: &Thread) -> Result<(), AllocError>
     code.put(thread.place() as u64)
 }
 
+/// Appends all of a thread but its registers and its place in the script.
+///
+/// `AllocError`: memory was refused.
+pub fn put_standing(code: &mut Code, block: &Tcb) -> Result<(), AllocError>
+    ensures { OnOk result (Writes (standing_code block.now.thread) code.old code.new) }
+{
+    put_phase(code, block)?;
+    put_send_of(code, block.send())?;
+    put_order_of(code, block.order())?;
+    code.put_flag(block.is_send_cancelled())?;
+    code.put_flag(block.is_receive_cancelled())
+}
+
 /// Appends a thread.
 ///
 /// `AllocError`: memory was refused.
@@ -108,9 +123,5 @@ pub fn put_thread(code: &mut Code, block: &Tcb) -> Result<(), AllocError>
     ensures { OnOk result (Writes (thread_code block.now.thread) code.old code.new) }
 {
     put_context(code, block.thread())?;
-    put_phase(code, block)?;
-    put_send_of(code, block.send())?;
-    put_order_of(code, block.order())?;
-    code.put_flag(block.is_send_cancelled())?;
-    code.put_flag(block.is_receive_cancelled())
+    put_standing(code, block)
 }

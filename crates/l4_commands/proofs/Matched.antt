@@ -12,7 +12,7 @@ use Rattle.clap.specs.declared.error.kind.ErrorKind.{ErrorKind}
 use Rattle.clap.specs.declared.error.kind.ErrorKind.TheVariants.{OutOfMemory}
 use Rattle.clap.specs.declared.parser.matches.Found.{Found}
 use Rattle.clap.proofs.WalkLemmas.{first_value-rows, one_text-rows}
-use Rattle.l4_commands.specs.Asked.{ToRun, ToReplay, ToAudit, ToChart, ToSearch, ToLint, number_of, number_in, flag_of, flag_in, extras_in, judged_in, printed_in, are_both, flags_in, form_of, has_turns_alone, has_wrong_line, is_input_of, is_over_file, are_turns_alone, is_run_wrong, is_same, line_told, lines_told, or_else, usage_text, lists_input, names_input, run_in, rest_in, rest_turns, replay_in, audit_in, chart_in, endings_in, lint_in, IsRefusal, Tells}
+use Rattle.l4_commands.specs.Asked.{ToRun, ToReplay, ToAudit, ToChart, ToSearch, ToLint, number_of, number_in, flag_of, flag_in, extras_in, judged_in, printed_in, are_both, flags_in, form_of, has_turns_alone, is_search_wrong, scheduler_in, traced_by, traced_in, wanted_in, is_input_of, is_over_file, are_turns_alone, is_run_wrong, is_same, line_told, lines_told, or_else, usage_text, lists_input, names_input, run_in, rest_in, rest_turns, replay_in, audit_in, chart_in, endings_in, lint_in, IsRefusal, Tells}
 use Rattle.l4_commands.specs.Files.{list_name}
 use Rattle.l4_commands.specs.declared.asked.Conflict.{Conflict}
 use Rattle.l4_commands.specs.declared.asked.Flags.{Flags}
@@ -20,6 +20,8 @@ use Rattle.l4_commands.specs.declared.job.ChartForm.{ChartForm}
 use Rattle.l4_commands.specs.declared.job.Extras.{Extras}
 use Rattle.l4_commands.specs.declared.job.Judged.{Judged}
 use Rattle.l4_commands.specs.declared.job.Printed.{Printed}
+use Rattle.l4_commands.specs.declared.job.Scheduler.{Scheduler}
+use Rattle.l4_commands.specs.declared.job.Wanted.{Wanted}
 use Rattle.l4_commands.specs.declared.words.WordsFault.{WordsFault}
 use Rattle.l4_commands.specs.declared.words.WordsFault.TheVariants.{Help, Usage, NoMemory}
 
@@ -144,21 +146,30 @@ pub chart_is : (f : Found) (file trace : Text) (first last : ℕ) (threads : Opt
 chart_is f file trace first last threads flags form width p q from to listed flagged formed wide =
     rw (text_is f (codes "file") _ p, text_is f (codes "trace") _ q, from, to, flagged, formed, wide, text_is f (codes "threads") _ listed) refl
 
-pub endings_is : (f : Found) (file : Text) (depth states : ℕ) (stuck : Bool) (with_line never : Option Text) (none waits : Bool) (expected : Option Text) →
-    first_value f (codes "file") ≡ Some file → number_in (codes "depth") (rows_of f) ≡ Some depth →
+-- The ending whose trace is asked for
+pub traced_is : (f : Found) (given : Option Text) (traced : Option ℕ) → first_value f (codes "trace") ≡ given →
+    traced_by given (number_in (codes "trace") (rows_of f)) ≡ Some traced → traced_in (rows_of f) ≡ Some traced
+traced_is f given traced p is =
+    ap (λ (o : Option Text). traced_by o (number_in (codes "trace") (rows_of f))) (text_is f (codes "trace") _ p) ∙ is
+
+pub endings_is : (f : Found) (file : Text) (scheduler : Scheduler) (depth states : ℕ) (stuck : Bool) (with_line never : Option Text) (wanted : Wanted)
+    (waits : Bool) (expected : Option Text) (traced : Option ℕ) →
+    first_value f (codes "file") ≡ Some file → scheduler_in (rows_of f) ≡ Some scheduler → number_in (codes "depth") (rows_of f) ≡ Some depth →
     number_in (codes "states") (rows_of f) ≡ Some states → flag_in (codes "stuck") (rows_of f) ≡ Some stuck → first_value f (codes "with") ≡ with_line →
-    first_value f (codes "never") ≡ never → flag_in (codes "none") (rows_of f) ≡ Some none → flag_in (codes "waits") (rows_of f) ≡ Some waits →
-    first_value f (codes "expect") ≡ expected → has_wrong_line (rows_of f) ≡ false →
-    endings_in (rows_of f) ≡ Some (ToSearch file depth states stuck with_line never none waits expected)
-endings_is f file depth states stuck with_line never none waits expected p deep wide ends has lacks found told wants right =
-    unless (has_wrong_line (rows_of f)) right (text_is f (codes "file") _ p) deep wide ends found told (text_is f (codes "with") _ has)
+    first_value f (codes "never") ≡ never → wanted_in (rows_of f) ≡ Some wanted → flag_in (codes "waits") (rows_of f) ≡ Some waits →
+    first_value f (codes "expect") ≡ expected → traced_in (rows_of f) ≡ Some traced → is_search_wrong (rows_of f) ≡ false →
+    endings_in (rows_of f) ≡ Some (ToSearch file scheduler depth states stuck with_line never wanted waits expected traced)
+endings_is f file scheduler depth states stuck with_line never wanted waits expected traced p under deep wide ends has lacks found told wants asked right =
+    unless (is_search_wrong (rows_of f)) right (text_is f (codes "file") _ p) under deep wide ends found told asked (text_is f (codes "with") _ has)
     (text_is f (codes "never") _ lacks) (text_is f (codes "expect") _ wants)
   where
-    unless : (wrong : Bool) → wrong ≡ false → {o line other wanted : Option Text} {n k : Option ℕ} {a b c : Option Bool} → o ≡ Some file → n ≡ Some depth →
-        k ≡ Some states → a ≡ Some stuck → b ≡ Some none → c ≡ Some waits → line ≡ with_line → other ≡ never → wanted ≡ expected →
-        (o >>= λ f. n >>= λ d. k >>= λ s. a >>= λ u. b >>= λ e. c >>= λ w. if wrong then None else Some (ToSearch f d s u line other e w wanted))
-        ≡ Some (ToSearch file depth states stuck with_line never none waits expected)
-    unless wrong right p q r s t u v w x = rw (p, q, r, s, t, u, v, w, x, right) refl
+    unless : (wrong : Bool) → wrong ≡ false → {o line other names : Option Text} {under : Option Scheduler} {n k : Option ℕ} {a c : Option Bool}
+        {b : Option Wanted} {t : Option (Option ℕ)} → o ≡ Some file → under ≡ Some scheduler → n ≡ Some depth →
+        k ≡ Some states → a ≡ Some stuck → b ≡ Some wanted → c ≡ Some waits → t ≡ Some traced → line ≡ with_line → other ≡ never → names ≡ expected →
+        (o >>= λ f. under >>= λ y. n >>= λ d. k >>= λ s. a >>= λ u. b >>= λ e. c >>= λ w. t >>= λ z.
+        if wrong then None else Some (ToSearch f y d s u line other e w names z))
+        ≡ Some (ToSearch file scheduler depth states stuck with_line never wanted waits expected traced)
+    unless wrong right p y q r s t u z v w x = rw (p, y, q, r, s, t, u, z, v, w, x, right) refl
 
 pub lint_is : (f : Found) (file : Text) (schedule : Option Text) → first_value f (codes "file") ≡ Some file → first_value f (codes "schedule") ≡ schedule →
     lint_in (rows_of f) ≡ Some (ToLint file schedule)

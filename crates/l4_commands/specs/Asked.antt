@@ -15,7 +15,7 @@ use Rattle.l4_lines.specs.declared.lines.LineFault.TheVariants.{Unknown, Deleted
 use Rattle.l4_commands.specs.Commands.{faults_of, l4run_app}
 use Rattle.l4_commands.specs.Files.{is_input, list_name}
 use Rattle.l4_commands.specs.declared.asked.Conflict.{Conflict}
-use Rattle.l4_commands.specs.declared.asked.Conflict.TheVariants.{InputTwice, ScheduleOfRun, RecordAndExpect, TurnsAlone, OverItsFile, TwoForms, Line}
+use Rattle.l4_commands.specs.declared.asked.Conflict.TheVariants.{InputTwice, ScheduleOfRun, RecordAndExpect, TurnsAlone, OverItsFile, TwoForms, Line, NoneAndSome, TraceBeside}
 use Rattle.l4_commands.specs.declared.asked.Flags.{Flags}
 use Rattle.l4_commands.specs.declared.job.ChartForm.{ChartForm}
 use Rattle.l4_commands.specs.declared.job.ChartForm.TheVariants.{Lines, Ascii, Svg, Html, Mermaid}
@@ -24,7 +24,11 @@ use Rattle.l4_commands.specs.declared.job.Job.{Job}
 use Rattle.l4_commands.specs.declared.job.Job.TheVariants.{Run, Replay, Audit, Chart, Endings, Lint}
 use Rattle.l4_commands.specs.declared.job.Judged.{Judged}
 use Rattle.l4_commands.specs.declared.job.Printed.{Printed}
-use Rattle.l4_commands.specs.declared.texts.TheConstants.{INPUT_TWICE, SCHEDULE_OF_RUN, RECORD_AND_EXPECT, TURNS_ALONE, OVER_ITS_FILE, TWO_FORMS, UNKNOWN_LINE, DELETED_LINE, NUMBER_LINE}
+use Rattle.l4_commands.specs.declared.job.Scheduler.{Scheduler}
+use Rattle.l4_commands.specs.declared.job.Scheduler.TheVariants.{Any, Placed}
+use Rattle.l4_commands.specs.declared.job.Wanted.{Wanted}
+use Rattle.l4_commands.specs.declared.job.Wanted.TheVariants.{Whatever, NoEnding, AnEnding}
+use Rattle.l4_commands.specs.declared.texts.TheConstants.{INPUT_TWICE, SCHEDULE_OF_RUN, RECORD_AND_EXPECT, TURNS_ALONE, OVER_ITS_FILE, TWO_FORMS, UNKNOWN_LINE, DELETED_LINE, NUMBER_LINE, NONE_AND_SOME, TRACE_BESIDE}
 use Rattle.l4_commands.specs.declared.words.WordsFault.{WordsFault}
 use Rattle.l4_commands.specs.declared.words.WordsFault.TheVariants.{Help, Usage, NoMemory}
 
@@ -37,8 +41,9 @@ pub data JobTexts : Type 0 where
   ToAudit : (file trace : Text) (judged : Judged) → JobTexts
   ToChart : (file trace : Text) (first last : ℕ) (threads : Option Text) (form : ChartForm)
       (width : ℕ) → JobTexts
-  ToSearch : (file : Text) (depth states : ℕ) (stuck : Bool) (with_line never : Option Text)
-      (none waits : Bool) (expected : Option Text) → JobTexts
+  ToSearch : (file : Text) (scheduler : Scheduler) (depth states : ℕ) (stuck : Bool)
+      (with_line never : Option Text) (wanted : Wanted) (waits : Bool) (expected : Option Text)
+      (trace : Option ℕ) → JobTexts
   ToLint : (file : Text) (schedule : Option Text) → JobTexts
 
 abbrev pub asked_by : Job → JobTexts
@@ -50,8 +55,8 @@ asked_by (Audit file trace judged) = ToAudit file.now trace.now judged
 asked_by (Chart c) = ToChart c.file.now c.trace.now c.first c.last (option_copied c.threads)
     c.form c.width
 asked_by (Endings e) =
-    ToSearch e.file.now e.depth e.states e.stuck (option_copied e.with_line) (option_copied e.never)
-    e.none e.waits (option_copied e.expected)
+    ToSearch e.file.now e.scheduler e.depth e.states e.stuck (option_copied e.with_line)
+    (option_copied e.never) e.wanted e.waits (option_copied e.expected) e.trace
 asked_by (Lint file schedule) = ToLint file.now (option_copied schedule)
 
 -- The values that the text of an argument stands for.
@@ -120,12 +125,18 @@ usage_text TurnsAlone = TURNS_ALONE.now
 usage_text OverItsFile = OVER_ITS_FILE.now
 usage_text TwoForms = TWO_FORMS.now
 usage_text (Line line fault) = line_text line.now (reason fault)
+usage_text NoneAndSome = NONE_AND_SOME.now
+usage_text TraceBeside = TRACE_BESIDE.now
+
+-- An option that takes a value was given one.
+abbrev pub has_value : (name : Text) → List Row → Bool
+has_value name rows = is_some (first_of name rows)
 
 -- Of a run whose arguments exclude each other, or that has a schedule, which it does not take.
 abbrev pub run_told : List Row → Option Text
 run_told rows =
     if is_over_file rows then Some OVER_ITS_FILE.now
-    else (if is_some (first_of (codes "schedule") rows) then Some SCHEDULE_OF_RUN.now
+    else (if has_value (codes "schedule") rows then Some SCHEDULE_OF_RUN.now
     else (if are_both (first_of (codes "record") rows) (first_of (codes "expect") rows)
     then Some RECORD_AND_EXPECT.now else None))
 
@@ -223,20 +234,80 @@ abbrev pub lines_told : List Row → Option Text
 lines_told rows =
     or_else (line_told (first_of (codes "with") rows)) (line_told (first_of (codes "never") rows))
 
-abbrev pub has_wrong_line : List Row → Bool
-has_wrong_line rows = is_some (lines_told rows)
+-- A flag is given.
+
+abbrev pub is_on : Option Bool → Bool
+is_on None = false
+is_on (Some given) = given
+
+abbrev pub has_flag : (name : Text) → List Row → Bool
+has_flag name rows = is_on (flag_in name rows)
+
+-- `--none` and `--some` exclude each other. `--trace` is printed in place of what the others print
+-- or judge, and a placed search has no trace.
+
+abbrev pub is_none_and_some : List Row → Bool
+is_none_and_some rows = has_flag (codes "none") rows && has_flag (codes "some") rows
+
+abbrev pub is_trace_beside : List Row → Bool
+is_trace_beside rows =
+    has_value (codes "trace") rows
+    && (has_flag (codes "placed") rows || has_flag (codes "none") rows
+    || has_flag (codes "some") rows || has_flag (codes "waits") rows
+    || has_value (codes "expect") rows)
+
+-- A line that can't be searched for is told first.
+abbrev pub endings_told : List Row → Option Text
+endings_told rows =
+    or_else (lines_told rows)
+    (if is_none_and_some rows then Some NONE_AND_SOME.now
+    else (if is_trace_beside rows then Some TRACE_BESIDE.now else None))
+
+abbrev pub is_search_wrong : List Row → Bool
+is_search_wrong rows = is_some (endings_told rows)
+
+-- Under whom threads run, how many endings should exist, and the ending whose trace is asked for.
+
+abbrev pub scheduler_by : (placed : Bool) → Scheduler
+scheduler_by true = Placed
+scheduler_by false = Any
+
+abbrev pub scheduler_in : List Row → Option Scheduler
+scheduler_in rows = option_map scheduler_by (flag_in (codes "placed") rows)
+
+abbrev pub wanted_by : (none some : Bool) → Option Wanted
+wanted_by false false = Some Whatever
+wanted_by true false = Some NoEnding
+wanted_by false true = Some AnEnding
+wanted_by true true = None
+
+abbrev pub wanted_in : List Row → Option Wanted
+wanted_in rows = do
+  none ← flag_in (codes "none") rows
+  some ← flag_in (codes "some") rows
+  wanted_by none some
+
+abbrev pub traced_by : (given : Option Text) → (number : Option ℕ) → Option (Option ℕ)
+traced_by None number = Some None
+traced_by (Some given) number = option_map Some number
+
+abbrev pub traced_in : List Row → Option (Option ℕ)
+traced_in rows =
+    traced_by (first_of (codes "trace") rows) (number_in (codes "trace") rows)
 
 abbrev pub endings_in : List Row → Option JobTexts
 endings_in rows = do
   file ← first_of (codes "file") rows
+  scheduler ← scheduler_in rows
   depth ← number_in (codes "depth") rows
   states ← number_in (codes "states") rows
   stuck ← flag_in (codes "stuck") rows
-  none ← flag_in (codes "none") rows
+  wanted ← wanted_in rows
   waits ← flag_in (codes "waits") rows
-  if has_wrong_line rows then None
-      else Some (ToSearch file depth states stuck (first_of (codes "with") rows)
-      (first_of (codes "never") rows) none waits (first_of (codes "expect") rows))
+  trace ← traced_in rows
+  if is_search_wrong rows then None
+      else Some (ToSearch file scheduler depth states stuck (first_of (codes "with") rows)
+      (first_of (codes "never") rows) wanted waits (first_of (codes "expect") rows) trace)
 
 abbrev pub lint_in : List Row → Option JobTexts
 lint_in rows = do
@@ -296,7 +367,7 @@ told_in p =
     else (if bytes_eq p.0 (codes "run") then run_told p.1
     else (if bytes_eq p.0 (codes "replay") then replay_told p.1
     else (if bytes_eq p.0 (codes "chart") then chart_told p.1
-    else (if bytes_eq p.0 (codes "endings") then lines_told p.1
+    else (if bytes_eq p.0 (codes "endings") then endings_told p.1
     else None))))
 
 abbrev pub excluded_by : Option Text → Kinds

@@ -30,8 +30,8 @@ number name defaults =
     record (value name) { parser = Some (Unsigned 0 18446744073709551615); defaults = defaults }
 
 -- The arguments of each command, in the order of its help. `run` takes no schedule, and a text of
--- its own says so; so clap has to know the option. `--turns` of a replay has no default, so that it
--- shows whether it was given.
+-- its own says so; so clap has to know the option. `--turns` of a replay and `--trace` of endings
+-- have no default, so that it shows whether they were given.
 abbrev pub run_rules : List Rule
 run_rules =
     place (codes "file")
@@ -89,8 +89,11 @@ endings_rules =
     ∷ value (codes "never")
     ∷ flag (codes "stuck")
     ∷ flag (codes "none")
+    ∷ flag (codes "some")
     ∷ flag (codes "waits")
     ∷ value (codes "expect")
+    ∷ number (codes "trace") []
+    ∷ flag (codes "placed")
     ∷ []
 
 abbrev pub lint_rules : List Rule

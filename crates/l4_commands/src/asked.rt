@@ -7,11 +7,16 @@ ghost use Rattle.l4_commands.specs.Asked.{asked_by, asked_in, flag_in, number_in
 ghost use Rattle.l4_commands.specs.Asked.{extras_in, judged_in, printed_in, is_over_file, is_same};
 ghost use Rattle.l4_commands.specs.Asked.{run_in, replay_in, audit_in, flags_in};
 ghost use Rattle.l4_commands.specs.Asked.{form_of, chart_in, endings_in, lint_in, excludes};
+ghost use Rattle.l4_commands.specs.Asked.{scheduler_in, wanted_in, wanted_by, traced_in, has_flag, has_value};
+ghost use Rattle.l4_commands.specs.Asked.{is_none_and_some, is_trace_beside, endings_told};
 ghost use Rattle.l4_commands.specs.Asked.{are_turns_alone, has_turns_alone, rest_in, is_input_of};
 ghost use Rattle.l4_commands.specs.Asked.{are_both, are_two, lists_input, names_input, names_input_twice};
 ghost use Rattle.l4_commands.specs.Asked.{usage_text, run_told, replay_told, chart_told, line_told, lines_told, told_in};
 
-use crate::job::{ChartForm, ChartJob, EndingsJob, Extras, INPUT, Job, Judged, Printed, list_name};
+use crate::job::{
+    ChartForm, ChartJob, EndingsJob, Extras, INPUT, Job, Judged, Printed, Scheduler, Wanted,
+    list_name,
+};
 use clap::ArgMatches;
 use l4_lines::lines::{LineFault, line_fault};
 
@@ -82,11 +87,11 @@ fn is_over_file(matches: &ArgMatches<'_>) -> bool
     is_same(matches.get_str("file"), matches.get_str("record"))
 }
 
-// Whether `run` is given a schedule, which only `replay` takes.
-fn has_schedule(matches: &ArgMatches<'_>) -> bool
-    ensures { result ≡ is_some (first_of (codes "schedule") (rows_of (found_of matches.now))) }
+// Whether an option that takes a value was given one.
+fn has_value(matches: &ArgMatches<'_>, name: &str) -> bool
+    ensures { result ≡ has_value name.now (rows_of (found_of matches.now)) }
 {
-    match matches.get_str("schedule") {
+    match matches.get_str(name) {
         Some(_) => true,
         None => false,
     }
@@ -116,7 +121,7 @@ fn run_conflict<'a>(matches: &ArgMatches<'a>) -> Option<Conflict<'a>>
     if is_over_file(matches) {
         return Some(Conflict::OverItsFile);
     }
-    if has_schedule(matches) {
+    if has_value(matches, "schedule") {
         return Some(Conflict::ScheduleOfRun);
     }
     if is_recorded_and_expected(matches) {
@@ -278,6 +283,10 @@ pub enum Conflict<'a> {
     TwoForms,
     /// `--with` or `--never` of `endings` gives this line, which it can't search for, and why.
     Line(&'a str, LineFault),
+    /// `endings` is given both `--none` and `--some`.
+    NoneAndSome,
+    /// `endings` is given `--trace` beside what it is printed in place of.
+    TraceBeside,
 }
 
 // Why this line can't be searched for, where one is given.
@@ -299,24 +308,114 @@ fn wrong_line<'a>(matches: &ArgMatches<'a>) -> Option<Conflict<'a>>
     }
 }
 
+// Whether a flag is on.
+fn has_flag(matches: &ArgMatches<'_>, name: &str) -> bool
+    ensures { result ≡ has_flag name.now (rows_of (found_of matches.now)) }
+{
+    match flag(matches, name) {
+        Some(given) => given,
+        None => false,
+    }
+}
+
+// Whether `--none` and `--some` are both given.
+fn is_none_and_some(matches: &ArgMatches<'_>) -> bool
+    ensures { result ≡ is_none_and_some (rows_of (found_of matches.now)) }
+{
+    has_flag(matches, "none") && has_flag(matches, "some")
+}
+
+// Whether `--trace` is given beside what it is printed in place of.
+fn is_trace_beside(matches: &ArgMatches<'_>) -> bool
+    ensures { result ≡ is_trace_beside (rows_of (found_of matches.now)) }
+{
+    has_value(matches, "trace")
+        && (has_flag(matches, "placed")
+            || has_flag(matches, "none")
+            || has_flag(matches, "some")
+            || has_flag(matches, "waits")
+            || has_value(matches, "expect"))
+}
+
+// Which arguments of `endings` exclude each other, or the line that can't be searched for.
+fn endings_conflict<'a>(matches: &ArgMatches<'a>) -> Option<Conflict<'a>>
+    ensures { option_map usage_text result ≡ endings_told (rows_of (found_of matches.now)) }
+{
+    if let Some(conflict) = wrong_line(matches) {
+        return Some(conflict);
+    }
+    if is_none_and_some(matches) {
+        return Some(Conflict::NoneAndSome);
+    }
+    if is_trace_beside(matches) {
+        return Some(Conflict::TraceBeside);
+    }
+    None
+}
+
+// Under whom threads run.
+fn scheduler(matches: &ArgMatches<'_>) -> Option<Scheduler>
+    ensures { IfSome result (λ scheduler.
+        scheduler_in (rows_of (found_of matches.now)) ≡ Some scheduler) }
+{
+    if flag(matches, "placed")? {
+        Some(Scheduler::Placed)
+    } else {
+        Some(Scheduler::Any)
+    }
+}
+
+// How many endings should exist, by the flags `--none` and `--some`. None where both are given.
+fn wanted_by(none: bool, some: bool) -> Option<Wanted>
+    ensures { result ≡ wanted_by none some }
+{
+    match (none, some) {
+        (false, false) => Some(Wanted::Whatever),
+        (true, false) => Some(Wanted::NoEnding),
+        (false, true) => Some(Wanted::AnEnding),
+        (true, true) => None,
+    }
+}
+
+// How many endings should exist.
+fn wanted(matches: &ArgMatches<'_>) -> Option<Wanted>
+    ensures { IfSome result (λ wanted.
+        wanted_in (rows_of (found_of matches.now)) ≡ Some wanted) }
+{
+    wanted_by(flag(matches, "none")?, flag(matches, "some")?)
+}
+
+// The number of the ending whose trace is asked for: `Some(None)` where none is.
+fn traced(matches: &ArgMatches<'_>) -> Option<Option<u64>>
+    ensures { IfSome result (λ traced.
+        traced_in (rows_of (found_of matches.now)) ≡ Some traced) }
+{
+    match matches.get_str("trace") {
+        None => Some(None),
+        Some(_) => Some(Some(number(matches, "trace")?)),
+    }
+}
+
 // The job of the matches of `endings`.
 fn endings_job<'a>(matches: &ArgMatches<'a>) -> Option<Job<'a>>
     ensures { IfSome result (λ job.
         endings_in (rows_of (found_of matches.now)) ≡ Some (asked_by job)) }
 {
-    if wrong_line(matches).is_some() {
+    if endings_conflict(matches).is_some() {
         return None;
     }
     Some(Job::Endings(EndingsJob {
         file: matches.get_str("file")?,
+        scheduler: scheduler(matches)?,
         depth: number(matches, "depth")?,
         states: number(matches, "states")?,
         stuck: flag(matches, "stuck")?,
         with_line: matches.get_str("with"),
         never: matches.get_str("never"),
-        none: flag(matches, "none")?,
+        wanted: wanted(matches)?,
         waits: flag(matches, "waits")?,
         expected: matches.get_str("expect"),
+        trace: traced(matches)?,
     }))
 }
 
@@ -427,7 +526,7 @@ fn conflict_of<'a>(name: &str, matches: &ArgMatches<'a>) -> Option<Conflict<'a>>
         "run" => run_conflict(matches),
         "replay" => replay_conflict(matches),
         "chart" => chart_conflict(matches),
-        "endings" => wrong_line(matches),
+        "endings" => endings_conflict(matches),
         _ => None,
     }
 }

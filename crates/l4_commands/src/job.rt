@@ -41,16 +41,39 @@ pub struct ChartJob<'a> {
     pub width: u64,
 }
 
+/// Under whom a search lets the threads of a machine run.
+#[derive(Clone, Copy, Debug, PartialEq, Eq)]
+pub enum Scheduler {
+    /// Under any scheduler, whatever time passes.
+    Any,
+    /// Under the processors of a replay: each takes its threads in turn, and each tick goes to the
+    /// least deadline of its processor.
+    Placed,
+}
+
+/// How many of the endings that are asked for should exist.
+#[derive(Clone, Copy, Debug, PartialEq, Eq)]
+pub enum Wanted {
+    /// Any number.
+    Whatever,
+    /// None: if one is found, the status is 4.
+    NoEnding,
+    /// At least one: if there is none, the status is 4.
+    AnEnding,
+}
+
 /// A search for all endings of the machine text in a file.
 #[derive(Clone, Copy, Debug, PartialEq, Eq)]
 pub struct EndingsJob<'a> {
     /// The name of the file with the machine text.
     pub file: &'a str,
-    /// The greatest number of entries of a schedule, 1 to 1,000,000. Any other number is the fault
-    /// `Depth`.
+    /// Under whom its threads run.
+    pub scheduler: Scheduler,
+    /// The greatest number of steps but ticks of a history, or of entries of a schedule, 1 to
+    /// 1,000,000. Any other number is the fault `Depth`.
     pub depth: u64,
-    /// The greatest number of states that are visited, 1 to 1,000,000. Any other number is the
-    /// fault `States`.
+    /// The greatest number of worlds, or of states, that are looked at, 1 to 1,000,000. Any other
+    /// number is the fault `States`.
     pub states: u64,
     /// Whether to search only for endings in which a thread waits for ever.
     pub stuck: bool,
@@ -58,12 +81,15 @@ pub struct EndingsJob<'a> {
     pub with_line: Option<&'a str>,
     /// A line that the report of an ending must not have, where there is one.
     pub never: Option<&'a str>,
-    /// Whether such an ending should not exist: if one is found, the status is 4.
-    pub none: bool,
+    /// How many such endings should exist.
+    pub wanted: Wanted,
     /// Whether to tell of each ending which thread waits for which.
     pub waits: bool,
     /// The name of the file with what is expected of each ending.
     pub expected: Option<&'a str>,
+    /// The number of the ending whose trace is printed in place of all else, where one is asked
+    /// for.
+    pub trace: Option<u64>,
 }
 
 /// What is printed last of a run, a replay or an audit.

@@ -272,7 +272,7 @@ const ENDINGS_ARGUMENTS: &[Argument] = &[
             default: Some("1000"),
             is_told: true,
         },
-        help: "Searches schedules of at most N items, 1 to 1000000",
+        help: "Searches histories of at most N steps but ticks, or N items, 1 to 1000000",
     },
     Argument {
         name: "states",
@@ -280,7 +280,7 @@ const ENDINGS_ARGUMENTS: &[Argument] = &[
             default: Some("100000"),
             is_told: true,
         },
-        help: "Looks at N states at most, 1 to 1000000",
+        help: "Looks at N worlds or states at most, 1 to 1000000",
     },
     Argument {
         name: "with",
@@ -304,11 +304,30 @@ come",
         help: "Ends with status 4 where such an ending was found",
     },
     Argument {
+        name: "some",
+        takes: Takes::Nothing,
+        help: "Ends with status 4 where there is no such ending, with 0 where one was found",
+    },
+    Argument {
         name: "waits",
         takes: Takes::Nothing,
         help: "Prints behind each who waits for whom there, as `replay` does",
     },
     EXPECT,
+    Argument {
+        name: "trace",
+        takes: Takes::Number {
+            default: None,
+            is_told: false,
+        },
+        help: "Prints the trace of ending N in place of all else",
+    },
+    Argument {
+        name: "placed",
+        takes: Takes::Nothing,
+        help: "Knows only runs that take threads in turn and clocks to least deadlines, as `replay` \
+does",
+    },
 ];
 
 pub fn endings() -> Verb
@@ -316,7 +335,7 @@ pub fn endings() -> Verb
 {
     Verb {
         name: "endings",
-        about: "Searches for all endings of a machine text, each by a shortest schedule",
+        about: "Searches for all endings of a machine text, under any scheduler and at any times",
         arguments: ENDINGS_ARGUMENTS,
         example: ENDINGS_EXAMPLE,
     }

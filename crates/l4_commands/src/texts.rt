@@ -2,8 +2,8 @@
 
 /// The version of the program and of the kit that proves it, and the profiles and formats that it
 /// reads.
-pub const VERSION: &str = "0.34
-rattle-kit-13f logic dac8208d650f15bf
+pub const VERSION: &str = "0.35
+rattle-kit-13b logic dac8208d650f15bf
 profiles 1 and 2, words of 64 and 32 bits";
 
 pub const RUN_EXAMPLE: &str = "Example: `l4run run ping.l4`, where the file ping.l4 has the lines
@@ -118,23 +118,30 @@ usage. docs/FORMATS.md (Charts) tells each mark.";
 pub const ENDINGS_EXAMPLE: &str =
     "Example: `l4run endings ping.l4`, with the machine text that `l4run help run` shows, prints \
 each ending once, a
-state in which nothing is left to do: a shortest schedule that leads there, which `l4run replay` \
-takes, and its
-report. The last line says how many states were looked at, how long the longest schedule was, and \
-whether that is
-the `whole` or was `cut`: then there may be more endings, and the status is 3.
+world in which nothing but clocks can go on: whatever the scheduler does, and whatever time passes. \
+Its first line tells
+how many steps lead there at least, ticks aside; then comes its report. `l4run endings ping.l4 \
+--trace 1 >ping.trace`
+prints these steps, which `l4run audit` and `l4run chart` read. The last line says how many worlds \
+were looked at, how
+many steps deep, and whether that is the `whole` or was `cut`: then there may be more endings, and \
+the status is 3.
+Where there is none at all, `no ending: it goes on for ever` stands before it.
 
-Behind `whole` it says of which runs there are no more. `least ticks`: each tick goes to the least \
-deadline of its
-processor, as `t0` does; `l4run run` moves all clocks to the least deadline of all, and may end as \
-none of these.
-`in turn`: some processor has two threads, which take their turns in one order, not in every order.
+With `--placed` the first line of an ending has a shortest schedule, which `l4run replay` takes. \
+Then `whole` speaks of
+some runs alone. `least ticks`: each tick goes to the least deadline of its processor, as `t0` \
+does; `l4run run` moves
+all clocks to the least deadline of all, and may end as none of these. `in turn`: some processor \
+has two threads, which
+take their turns in one order, not in every order.
 
-Status 4: `--none` found one, or an ending does not meet `--expect`. 0: neither, and the search \
-was whole. 2: wrong
-usage. 1: a fault as of `run`, or `l4run: depth out of range`, `l4run: states out of range`. \
-docs/FORMATS.md
-(Endings) tells each line.";
+Status 4: `--none` found one, `--some` found that there is none, or an ending does not meet \
+`--expect`. 0: nothing of
+these, and the search was whole, or `--some` found one. 2: wrong usage. 1: a fault as of `run`, or \
+`l4run: depth out of
+range`, `l4run: states out of range`, `l4run: ending out of range`. docs/FORMATS.md (Endings) \
+tells each line.";
 
 pub const LINT_EXAMPLE: &str =
     "Example: `l4run lint ping.l4`, with the machine text that `l4run help run` shows but the line \
@@ -204,6 +211,17 @@ For more information, try '--help'.
 
 pub const DELETED_LINE: &str =
     "of a deleted thread no more may be asked for than its state, as thread 1.1 deleted ..
+
+For more information, try '--help'.
+";
+
+pub const NONE_AND_SOME: &str = "error: only one of '--none' and '--some' can be given
+
+For more information, try '--help'.
+";
+
+pub const TRACE_BESIDE: &str =
+    "error: '--trace' goes with none of '--placed', '--none', '--some', '--waits' and '--expect'
 
 For more information, try '--help'.
 ";

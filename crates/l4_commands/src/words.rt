@@ -13,8 +13,8 @@ use crate::asked::{Conflict, excluded, job_of_matches};
 use crate::commands::l4run_command;
 use crate::job::Job;
 use crate::texts::{
-    DELETED_LINE, INPUT_TWICE, NUMBER_LINE, OVER_ITS_FILE, RECORD_AND_EXPECT, SCHEDULE_OF_RUN,
-    TURNS_ALONE, TWO_FORMS, UNKNOWN_LINE,
+    DELETED_LINE, INPUT_TWICE, NONE_AND_SOME, NUMBER_LINE, OVER_ITS_FILE, RECORD_AND_EXPECT,
+    SCHEDULE_OF_RUN, TRACE_BESIDE, TURNS_ALONE, TWO_FORMS, UNKNOWN_LINE,
 };
 use clap::error::ErrorKind;
 use clap::{ArgMatches, Error};
@@ -97,6 +97,8 @@ fn conflict_text(alloc: Global, conflict: Conflict<'_>) -> Result<String, AllocE
         Conflict::OverItsFile => String::from_str(alloc, OVER_ITS_FILE),
         Conflict::TwoForms => String::from_str(alloc, TWO_FORMS),
         Conflict::Line(line, fault) => line_text(alloc, line, reason(fault)),
+        Conflict::NoneAndSome => String::from_str(alloc, NONE_AND_SOME),
+        Conflict::TraceBeside => String::from_str(alloc, TRACE_BESIDE),
     }
 }
 

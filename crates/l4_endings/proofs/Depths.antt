@@ -3,7 +3,8 @@ use Rattle.std.proofs.Common.{◌≡◌, ℕ, ◌-◌, ◌<◌, ◌≤◌, Bool,
 use Rattle.std.proofs.lemmas.Bool.{cases_lt}
 use Rattle.l4_model.specs.Machine.{Machine}
 use Rattle.l4_core_model.specs.Runs.{System, IsMachine}
-use Rattle.l4_explore.specs.Search.{Seen, seen_at, depth_of, IsExplored}
+use Rattle.l4_explore.specs.Search.{Seen, seen_at, depth_of}
+use Rattle.l4_explore.specs.States.{AreAllStates}
 use Rattle.l4_explore.proofs.Orders.{not_after_length}
 use Rattle.l4_states.specs.Choices.{state_after, IsLeastRun}
 use Rattle.l4_states.specs.Listed.{AreAllListed}
@@ -57,7 +58,7 @@ module _ (m : Machine) (found : List Seen) (depth : ℕ) (a : AreAllListed m fou
 
 -- The same for a search that reports that it is whole.
 pub deepest_of : (m : Machine) (found : List Seen) (depth : ℕ) (is_whole : Bool) → IsMachine m →
-    IsExplored (state_after m) found depth is_whole → 0 < length found → depth ≡ depth_of found →
+    AreAllStates (state_after m) found depth is_whole → 0 < length found → depth ≡ depth_of found →
     is_whole ≡ true → IsDeepest m depth
 deepest_of m found depth is_whole machine explored some deepest whole =
     is_deepest m found depth

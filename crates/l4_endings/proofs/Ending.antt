@@ -7,7 +7,8 @@ use Rattle.std.proofs.lemmas.List.{append-nil, map-append, take_more}
 use Rattle.l4_model.specs.Machine.{Machine}
 use Rattle.l4_choices.specs.Entries.{Entry}
 use Rattle.l4_core_model.specs.Runs.{IsMachine}
-use Rattle.l4_explore.specs.Search.{IsCut, IsExplored, Seen, seen_at, unseen}
+use Rattle.l4_explore.specs.Search.{Seen, seen_at, unseen}
+use Rattle.l4_explore.specs.States.{AreAllStates, AreCut}
 use Rattle.l4_explore.specs.Tries.{State}
 use Rattle.l4_machine.specs.Entries.{entry_from}
 use Rattle.l4_machine.specs.declared.entries.Entry as code
@@ -79,8 +80,8 @@ are_choices m s state is =
 
 pub are_endings : (m : Machine) (found : List Seen) (endings : List (List Entry))
     (states asked most depth : ℕ) (is_whole : Bool) → IsMachine m →
-    IsExplored (state_after m) found depth is_whole →
-    (is_whole ≡ false → IsCut (state_after m) found asked most depth) → states ≡ length found →
+    AreAllStates (state_after m) found depth is_whole →
+    (is_whole ≡ false → AreCut (state_after m) found asked most depth) → states ≡ length found →
     endings ≡ map (entries_of m) (ends_of found) →
     AreEndings m endings states asked most depth is_whole
 are_endings m found endings states asked most depth is_whole machine explored cut count are = record {

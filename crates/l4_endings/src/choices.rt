@@ -15,11 +15,11 @@ use l4_types::steps::CLOCKS;
 
 /// The number of choices, at most 288. Each processor has one for the letters of each poster, one
 /// for the turn of its core, and one for the tick to its least deadline.
-pub(crate) fn choice_count(cpus: u8) -> u16
+pub(crate) fn choice_count(cpus: u8) -> u32
     requires { cpus < 17 }
     ensures { result ≡ cpus * (cpus + 2) }
 {
-    u16::from(cpus) * (u16::from(cpus) + 2)
+    u32::from(cpus) * (u32::from(cpus) + 2)
 }
 
 // The entry of a processor's choice, by its place among the choices of that processor.
@@ -39,13 +39,13 @@ fn choice_of(cpus: u8, cpu: u8, k: u8) -> Entry
 }
 
 /// The entry of the choice of this number, which is below their count.
-pub(crate) fn choice(cpus: u8, number: u16) -> Entry
+pub(crate) fn choice(cpus: u8, number: u32) -> Entry
     requires cpus { cpus < 17 }
     requires number { number < cpus * (cpus + 2) }
     ensures value { entry_from result ≡ choice_of cpus (number / (cpus + 2)) (number % (cpus + 2)) }
     ensures lawful { is_entry_of cpus (entry_from result) ≡ true }
 {
-    let width = u16::from(cpus) + 2;
+    let width = u32::from(cpus) + 2;
     choice_of(cpus, (number / width) as u8, (number % width) as u8)
 }
 
@@ -95,7 +95,7 @@ fn is_possible_at(walk: &Walk<'_>, cpus: u8, cpu: u8, k: u8) -> bool
 
 /// Whether the choice of this number, below their count, can be made. If it is a tick, the least
 /// deadline is not farther ahead than the longest period.
-pub(crate) fn is_possible(walk: &Walk<'_>, cpus: u8, number: u16) -> bool
+pub(crate) fn is_possible(walk: &Walk<'_>, cpus: u8, number: u32) -> bool
     requires run { HasRun walk.now }
     requires cpus { cpus ≡ walk.now.machine.cpus }
     requires few { cpus < 17 }
@@ -105,6 +105,6 @@ pub(crate) fn is_possible(walk: &Walk<'_>, cpus: u8, number: u16) -> bool
     ensures near { (m : MachineOfModel) (r : Run) → IsRun m r walk.now →
         IsTickOf cpus number → IsNear r.system (number / (cpus + 2)) }
 {
-    let width = u16::from(cpus) + 2;
+    let width = u32::from(cpus) + 2;
     is_possible_at(walk, cpus, (number / width) as u8, (number % width) as u8)
 }

@@ -10,8 +10,8 @@ ghost use Rattle.l4_endings.specs.Walked.{AreChoices};
 use crate::choices::choice;
 use crate::tried::Choices;
 use l4_explore::found::Found;
-use l4_explore::progress::{Progress, Unheard};
-use l4_explore::search::explore_heard;
+use l4_explore::progress::Progress;
+use l4_explore::search::explore;
 use l4_machine::Entry;
 use l4_script::machine::Machine;
 use l4_types::errors::NoMemory;
@@ -40,31 +40,10 @@ pub struct FoundEndings {
 /// It finds at most `most` states. Where there is one more, all states that fewer events lead to
 /// are found. No search goes deeper than 1,000,000 events. A search that is not whole was cut off.
 /// Some state takes as many events as the search may go deep, or there is one more state.
+/// `progress` hears how far the search has come.
 ///
 /// `NoMemory`: memory was refused.
-pub fn endings(
-    alloc: Global,
-    machine: &Machine,
-    depth: u32,
-    most: u32,
-) -> Result<FoundEndings, NoMemory>
-    requires { 0 < most }
-    ensures all { IfOk result (λ r.
-        AreAllEndings machine.now (told r.endings.items) r.depth r.is_whole) }
-    ensures found { IfOk result (λ r.
-        AreEndings machine.now (told r.endings.items) r.states (min depth deepest) most r.depth
-        r.is_whole) }
-    ensures few { IfOk result (λ r. r.states ≤ most) }
-    ensures whole { IfOk result (λ r.
-        r.is_whole ≡ true → (r.depth < depth) × IsDeepest machine.now r.depth) }
-{
-    endings_heard(alloc, machine, depth, most, &mut Unheard)
-}
-
-/// The endings that `endings` finds. `progress` hears how far the search has come.
-///
-/// `NoMemory`: memory was refused.
-pub fn endings_heard<P: Progress>(
+pub fn endings<P: Progress>(
     alloc: Global,
     machine: &Machine,
     depth: u32,
@@ -82,7 +61,7 @@ pub fn endings_heard<P: Progress>(
         r.is_whole ≡ true → (r.depth < depth) × IsDeepest machine.now r.depth) }
 {
     machine.facts();
-    let explored = explore_heard(alloc, &Choices { machine }, depth, most, progress)?;
+    let explored = explore(alloc, &Choices { machine }, depth, most, progress)?;
     Ok(FoundEndings {
         endings: ends(alloc, machine, &explored.found)?,
         states: explored.found.len(),
@@ -127,7 +106,7 @@ fn list_end(
 }
 
 // The entries of choices.
-fn entries_of(alloc: Global, machine: &Machine, numbers: &[u16]) -> Result<Vec<Entry>, NoMemory>
+fn entries_of(alloc: Global, machine: &Machine, numbers: &[u32]) -> Result<Vec<Entry>, NoMemory>
     requires { AreChoices machine.now numbers.now }
     ensures { IfOk result (λ entries.
         entries_from entries.items ≡ entries_of machine.now numbers.now) }

@@ -5,7 +5,7 @@
 //! each ending by a shortest schedule.
 //!
 //! ```rust
-//! let found = endings(alloc, &machine, 1_000, 100_000)?;
+//! let found = endings(alloc, &machine, 1_000, 100_000, &mut Unheard)?;
 //! for entries in &found.endings {
 //!     let outcome = replay_compact(alloc, &machine, entries)?; // its report, or its trace
 //! }
@@ -18,4 +18,4 @@ mod states;
 mod tried;
 mod walks;
 
-pub use endings_of::{FoundEndings, endings, endings_heard};
+pub use endings_of::{FoundEndings, endings};

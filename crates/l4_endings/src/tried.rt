@@ -1,7 +1,9 @@
 //! The choices of a machine, as a search tries them.
-ghost use Rattle.std.specs.Prelude.{◌+◌, ◌*◌, ◌/◌, ◌<◌, ◌≡◌, ◌++◌, ◌∷◌, ◌^◌, [], IfOk, OnOk, Some, length, map};
+ghost use Rattle.std.specs.Prelude.{◌+◌, ◌*◌, ◌/◌, ◌<◌, ◌≡◌, ◌++◌, ◌∷◌, ◌^◌, [], IfOk, IsSome, OnOk, Some, length, map};
 ghost use Rattle.l4_model.specs.Machine.{Machine as MachineOfModel};
 ghost use Rattle.l4_core_model.specs.Runs.{IsMachine, Run};
+ghost use Rattle.l4_explore.specs.States.{AreAllEntries};
+ghost use Rattle.l4_explore.specs.Tries.{deepest, AreNexts, StandsForAll};
 ghost use Rattle.l4_explore.specs.Views.{next_from, state_from};
 ghost use Rattle.l4_machine.specs.UnderWay.{IsRun};
 ghost use Rattle.l4_states.specs.Choices.{state_after, IsNear};
@@ -11,6 +13,7 @@ ghost use Rattle.l4_endings.specs.Walked.{AreChoices, IsWalked};
 use crate::choices::{choice_count, is_possible};
 use crate::states::state_of;
 use crate::walks::{walk_on, walk_to};
+use l4_explore::found::Found;
 use l4_explore::tries::{Choice, Reached, Tries};
 use l4_machine::Walk;
 use l4_script::machine::Machine;
@@ -26,7 +29,9 @@ pub(crate) struct Choices<'m> {
 impl<'m> Tries for Choices<'m> {
     ghost state_of = { λ c. state_after c.machine.now };
 
-    ghost schedules = { λ c. schedules c.machine.now c.lawful };
+    ghost offers = { λ c. AreAllEntries (state_after c.machine.now) };
+
+    ghost coded = { λ c. (schedules c.machine.now c.lawful).coded };
 
     fn opening(&self, alloc: Global) -> Result<Reached, AllocError> {
         let Ok(walk) = walk_to(alloc, self.machine, &[]) else {
@@ -35,7 +40,27 @@ impl<'m> Tries for Choices<'m> {
         state_of(alloc, &walk, self.machine.cpus())
     }
 
-    fn choices(&self, alloc: Global, schedule: &[u16]) -> Result<Vec<Choice>, AllocError> {
+    fn choices(
+        &self,
+        alloc: Global,
+        found: &Found,
+        place: usize,
+    ) -> Result<Vec<Choice>, AllocError> {
+        let schedule = found.schedule(alloc, place)?;
+        self.choices_behind(alloc, &schedule)
+    }
+}
+
+impl<'m> Choices<'m> {
+    // All choices that can be made behind a schedule.
+    fn choices_behind(&self, alloc: Global, schedule: &[u32]) -> Result<Vec<Choice>, AllocError>
+        requires leads { IsSome (state_after self.now.machine.now schedule.now) }
+        requires short { length schedule.now < deepest }
+        ensures nexts { IfOk result (λ cs.
+            AreNexts (state_after self.now.machine.now) schedule.now 0 (map next_from cs.items)) }
+        ensures stands { IfOk result (λ _.
+            StandsForAll (state_after self.now.machine.now) schedule.now) }
+    {
         let Ok(walk) = walk_to(alloc, self.machine, schedule) else {
             return Err(AllocError);
         };
@@ -53,8 +78,8 @@ fn list_choice(
     alloc: Global,
     machine: &Machine,
     walk: &Walk<'_>,
-    schedule: &[u16],
-    number: u16,
+    schedule: &[u32],
+    number: u32,
     choices: &mut Vec<Choice>,
 ) -> Result<(), AllocError>
     requires walk { IsWalked machine.now schedule.now walk.now }
@@ -82,8 +107,8 @@ fn list_choice(
 fn reached_by(
     alloc: Global,
     machine: &Machine,
-    schedule: &[u16],
-    number: u16,
+    schedule: &[u32],
+    number: u32,
 ) -> Result<Reached, AllocError>
     requires few { length schedule.now < 2 ^ 60 }
     requires choices { AreChoices machine.now (schedule.now ++ number ∷ []) }

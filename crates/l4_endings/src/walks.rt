@@ -19,7 +19,7 @@ use std::alloc::Global;
 pub(crate) fn walk_to<'m>(
     alloc: Global,
     machine: &'m Machine,
-    numbers: &[u16],
+    numbers: &[u32],
 ) -> Result<Walk<'m>, NoMemory>
     requires few { length numbers.now < 2 ^ 60 }
     requires choices { AreChoices machine.now numbers.now }
@@ -39,8 +39,8 @@ pub(crate) fn walk_to<'m>(
 pub(crate) fn walk_on<'m>(
     alloc: Global,
     machine: &'m Machine,
-    numbers: &[u16],
-    number: u16,
+    numbers: &[u32],
+    number: u32,
 ) -> Result<Walk<'m>, NoMemory>
     requires few { length numbers.now < 2 ^ 60 }
     requires choices { AreChoices machine.now (numbers.now ++ number ∷ []) }
@@ -52,7 +52,7 @@ pub(crate) fn walk_on<'m>(
 }
 
 // Makes a choice. The least deadline of its processor is not farther ahead than the longest period.
-fn make(walk: &mut Walk<'_>, cpus: u8, number: u16) -> Result<(), NoMemory>
+fn make(walk: &mut Walk<'_>, cpus: u8, number: u32) -> Result<(), NoMemory>
     requires run { HasRun walk.old }
     requires few { length walk.old.order < 2 ^ 61 }
     requires cpus { cpus ≡ walk.old.machine.cpus }
@@ -63,6 +63,6 @@ fn make(walk: &mut Walk<'_>, cpus: u8, number: u16) -> Result<(), NoMemory>
     ensures near { OnOk result ((m : MachineOfModel) (r : Run) → IsRun m r walk.old →
         IsNear r.system (number / (cpus + 2))) }
 {
-    let _near = least_deadline(walk, (number / (u16::from(cpus) + 2)) as u8);
+    let _near = least_deadline(walk, (number / (u32::from(cpus) + 2)) as u8);
     walk.take(choice(cpus, number))
 }

@@ -1,222 +1,309 @@
--- What was found is all that schedules lead to, up to where a search has come.
-use Rattle.std.proofs.Common.{◌≡◌, ℕ, ◌+◌, ◌-◌, ◌<◌, ◌≤◌, true, false, ◌⊎◌, inl, inr, List, [], ◌∷◌, ◌++◌, length, Option, None, Some, refl, sym, ap, subst, ◌∙◌, arith}
+-- Where the choices of each state are all entries that lead on, what was found is all that schedules
+-- lead to, up to where a search has come.
+use Rattle.std.proofs.Common.{◌≡◌, ℕ, ◌+◌, ◌<◌, ◌≤◌, Bool, true, false, ◌⊎◌, inl, inr, List, [], ◌∷◌, ◌++◌, length, Option, None, Some, refl, sym, ap, subst, ◌∙◌, arith, append-nil}
 use Rattle.std.proofs.Math.ListN.{length-append}
 use Rattle.std.proofs.Math.Nat.{eq-or-lt_of_le}
 use Rattle.std.proofs.lemmas.Bool.{cases_lt}
-use Rattle.l4_explore.specs.Orders.{IsNotAfter}
-use Rattle.l4_explore.specs.Tries.{State, AreSchedules}
-use Rattle.l4_explore.specs.Search.{Seen, seen_at, has_code, depth_of, IsFound, AreFound, AreWithin, IsTried, IsTrying, IsSearched, IsStopped, IsExplored, IsLeftOut, IsCutByDepth, IsCutByStates}
-use Rattle.l4_explore.proofs.Orders.{before_length, before_append, before_never, before_not_after, not_after_append, not_after_last, not_after_length, not_after_trans}
-use Rattle.l4_explore.proofs.Listed.{by_end, found_later, no_place}
-use Rattle.l4_explore.proofs.Trying.{begun}
+use Rattle.l4_explore.specs.Orders.{IsBefore, IsNotAfter}
+use Rattle.l4_explore.specs.Tries.{State, Next, AreSchedules, AreNexts, LeadOn}
+use Rattle.l4_explore.specs.Search.{Seen, seen_at, AreMet, IsFound, IsGoneOn, IsStopped, IsExplored, IsCut, IsCutByDepth, IsCutByStates}
+use Rattle.l4_explore.specs.States.{AreAllEntries, AreAllStates, IsFull, AreCut}
+use Rattle.l4_explore.proofs.Orders.{before_append, before_never, before_not_after, not_after_append, not_after_last, not_after_length, not_after_trans}
+use Rattle.l4_explore.proofs.Listed.{by_end, found_later}
+use Rattle.l4_explore.proofs.Exploring.{within_last}
 
-module _ (f : List ℕ → Option State) (laws : AreSchedules f) (found : List Seen) where
+-- All entries that lead on lead on.
+pub nexts_lead_on : (f : List ℕ → Option State) (s : List ℕ) (from : ℕ) (cs : List Next) →
+    AreNexts f s from cs → LeadOn f s from cs
+nexts_lead_on f s from [] a = tt
+nexts_lead_on f s from (n ∷ ns) a = (
+  record { later = a.0.later; leads = a.0.leads },
+  nexts_lead_on f s (n.entry + 1) ns a.1,
+)
+
+-- An entry that leads on from a found state leads to a found state.
+abbrev IsTried : (List ℕ → Option State) → List Seen → (i e : ℕ) → Type 0
+IsTried f found i e =
+    (s : List ℕ) (state : State) → f s ≡ Some (seen_at found i).state →
+    f (s ++ e ∷ []) ≡ Some state → IsFound found state ((seen_at found i).schedule ++ e ∷ [])
+
+module _ (f : List ℕ → Option State) (found : List Seen) (s : List ℕ) (e : ℕ) (state : State)
+    (leads : f (s ++ e ∷ []) ≡ Some state) where
+  abbrev Here : Type 0
+  Here = IsFound found state (s ++ e ∷ [])
+
+  -- It is among the choices that were met, or behind them.
+  among : (cs left : List Next) (from : ℕ) →
+      ((later : ℕ) → AreNexts f s later left → later ≤ e → IsFound found state (s ++ e ∷ [])) →
+      AreNexts f s from (cs ++ left) → from ≤ e → AreMet found s cs →
+      IsFound found state (s ++ e ∷ [])
+  among [] left from behind nexts l m = behind from nexts l
+  among (n ∷ ns) left from behind nexts l m =
+      by (cases_lt e n.entry) (among ns left (n.entry + 1) behind nexts.1)
+    where
+      same : n.entry ≡ e → IsFound found state (s ++ e ∷ [])
+      same is =
+          let at : f (s ++ e ∷ []) ≡ Some n.state =
+          subst (λ k. f (s ++ k ∷ []) ≡ Some n.state) is nexts.0.leads in
+          let one : n.state ≡ state = cc in
+          subst (λ k. IsFound found state (s ++ k ∷ [])) is
+          (subst (λ (b : State). IsFound found b (s ++ n.entry ∷ [])) one m.0)
+
+      by : (e < n.entry) ⊎ (n.entry ≤ e) →
+          (n.entry + 1 ≤ e → AreMet found s ns → IsFound found state (s ++ e ∷ [])) →
+          IsFound found state (s ++ e ∷ [])
+      by (inl less) rest = let no = nexts.0.first e l less in cc
+      by (inr le) rest = elim (eq-or-lt_of_le le) [
+        | inl is ↦ same is
+        | inr less ↦ rest (omega (arith, less)) m.1
+      ]
+
+module _ (f : List ℕ → Option State) (found : List Seen) (i : ℕ)
+    (at : f (seen_at found i).schedule ≡ Some (seen_at found i).state) where
+  -- Of a state that the search went on from, all entries were tried.
+  all_tried : IsGoneOn (AreAllEntries f) found i → (e : ℕ) → IsTried f found i e
+  all_tried g e s state leads more =
+      let here = g.offered.stands s e state (leads ∙ sym at) more in
+      among f found (seen_at found i).schedule e state here g.choices [] 0
+      (λ later none l. let no = none e l in cc)
+      (subst (AreNexts f (seen_at found i).schedule 0) (sym (append-nil g.choices))
+      g.offered.nexts) (omega arith) g.all_met
+
+  -- Of the state at which it stopped, those below the one at which it stopped.
+  some_tried : (p : IsStopped f (AreAllEntries f) found i) → (e : ℕ) → e < p.one_more.entry →
+      IsTried f found i e
+  some_tried p e less s state leads more =
+      let here = p.offered.stands s e state (leads ∙ sym at) more in
+      among f found (seen_at found i).schedule e state here p.first (p.one_more ∷ p.others) 0
+      (λ later nexts l. let no = nexts.0.first e l less in cc)
+      p.offered.nexts (omega arith) p.all_met
+
+-- Some schedules are after all that were found.
+module _ (f : List ℕ → Option State) (laws : AreSchedules f) (found : List Seen)
+    (opening : (state : State) → f [] ≡ Some state → IsFound found state [])
+    (once : (i j : ℕ) → i < length found → j < length found →
+    (seen_at found i).state.code ≡ (seen_at found j).state.code → i ≡ j)
+    (After : List ℕ → Type 0)
+    (after_more : (s : List ℕ) (e : ℕ) → After s → After (s ++ e ∷ []))
+    (tried : (i e : ℕ) (s : List ℕ) → i < length found → IsNotAfter (seen_at found i).schedule s →
+    IsTried f found i e ⊎ After (s ++ e ∷ []))
+    (late : (i : ℕ) (s : List ℕ) → i < length found → After s →
+    IsBefore (seen_at found i).schedule s) where
   -- From a state that was found by a schedule that is no later, one entry more.
   onward : (xs : List ℕ) (x : ℕ) (c state : State) (r : IsFound found c xs) →
       IsTried f found r.place x → f xs ≡ Some c → f (xs ++ x ∷ []) ≡ Some state → IsFound found state (xs ++ x ∷ [])
-  onward xs x c state r tried e leads =
+  onward xs x c state r t e leads =
       found_later found state _ _ (not_after_append (seen_at found r.place).schedule xs x r.early)
-      (tried xs state (e ∙ sym (ap (λ (a : State). Some a) r.is)) leads)
+      (t xs state (e ∙ sym (ap (λ (a : State). Some a) r.is)) leads)
+
+  abbrev LeadsOrAfter : List ℕ → Type 0
+  LeadsOrAfter xs = (state : State) → f xs ≡ Some state → IsFound found state xs ⊎ After xs
+
+  step : (xs : List ℕ) (x : ℕ) → LeadsOrAfter xs → LeadsOrAfter (xs ++ x ∷ [])
+  step xs x rest state leads = by (f xs) refl
+    where
+      at : (c : State) (r : IsFound found c xs) → f xs ≡ Some c →
+          IsTried f found r.place x ⊎ After (xs ++ x ∷ []) →
+          IsFound found state (xs ++ x ∷ []) ⊎ After (xs ++ x ∷ [])
+      at c r e (inl t) = inl (onward xs x c state r t e leads)
+      at c r e (inr after) = inr after
+
+      by : (o : Option State) → f xs ≡ o →
+          IsFound found state (xs ++ x ∷ []) ⊎ After (xs ++ x ∷ [])
+      by None e = let no = laws.begins xs x e in cc
+      by (Some c) e = elim (rest c e) [
+        | inl r ↦ at c r e (tried r.place x xs r.inside r.early)
+        | inr after ↦ inr (after_more xs x after)
+      ]
+
+  found_or_after : (xs : List ℕ) → LeadsOrAfter xs
+  found_or_after = by_end LeadsOrAfter (λ state leads. inl (opening state leads)) step
 
   -- A state that was found by a schedule that leads there is found by an earlier one or that.
-  early_one : AreFound f found → (i : ℕ) (s : List ℕ) → i < length found →
-      IsFound found (seen_at found i).state s →
+  early_one : (i : ℕ) (s : List ℕ) → i < length found → IsFound found (seen_at found i).state s →
       IsNotAfter (seen_at found i).schedule s
-  early_one all i s l r =
+  early_one i s l r =
       subst (λ j. IsNotAfter (seen_at found j).schedule s)
-      (all.once r.place i r.inside l (ap (λ (a : State). a.code) r.is)) r.early
+      (once r.place i r.inside l (ap (λ (a : State). a.code) r.is)) r.early
 
-  -- Where none is left that was not tried
+  -- the first schedule that leads there
+  first_one : (i : ℕ) (s : List ℕ) → i < length found → f s ≡ Some (seen_at found i).state →
+      IsNotAfter (seen_at found i).schedule s
+  first_one i s l leads = elim (found_or_after s (seen_at found i).state leads) [
+    | inl r ↦ early_one i s l r
+    | inr after ↦ inr (late i s l after)
+  ]
 
-  module _ (next : ℕ) (s : IsSearched f found next) (none : length found ≤ next) where
-    abbrev Leads : List ℕ → Type 0
-    Leads xs = (state : State) → f xs ≡ Some state → IsFound found state xs
+  unless_after : (s : List ℕ) (state : State) → f s ≡ Some state → (After s → ⊥) →
+      IsFound found state s
+  unless_after s state leads never = elim (found_or_after s state leads) [
+    | inl r ↦ r
+    | inr after ↦ absurd (never after)
+  ]
 
-    step_all : (xs : List ℕ) (x : ℕ) → Leads xs → Leads (xs ++ x ∷ [])
-    step_all xs x rest state leads = by (f xs) refl
+module _ (f : List ℕ → Option State) (laws : AreSchedules f) (found : List Seen) (depth : ℕ)
+    (is_whole : Bool) (ex : IsExplored f (AreAllEntries f) found depth is_whole) where
+  -- Where the search is whole, none is after.
+  all_of_whole : is_whole ≡ true → AreAllStates f found depth is_whole
+  all_of_whole whole = record {
+    complete = λ s state leads short. all_found s state leads;
+    whole = λ w. all_found;
+    reached = ex.all.reached;
+    first = first_one f laws found ex.all.opening ex.all.once (λ s. ⊥) (λ s e never. never) tried
+        (λ i s l never. absurd never);
+    once = ex.all.once;
+    rising = ex.all.rising;
+  }
+    where
+      tried : (i e : ℕ) (s : List ℕ) → i < length found →
+          IsNotAfter (seen_at found i).schedule s → IsTried f found i e ⊎ ⊥
+      tried i e s l early =
+          inl (all_tried f found i (ex.all.reached i l) (ex.gone_on i l (inr whole)) e)
+
+      all_found : (s : List ℕ) (state : State) → f s ≡ Some state → IsFound found state s
+      all_found s state leads =
+          unless_after f laws found ex.all.opening ex.all.once (λ s. ⊥) (λ s e never. never) tried
+          (λ i s l never. absurd never) s state leads (λ never. never)
+
+  -- Where it is cut at a depth, longer schedules are.
+  module _ (asked : ℕ) (cut : IsCutByDepth found asked depth) where
+    abbrev IsLong : List ℕ → Type 0
+    IsLong s = depth < length s
+
+    long_more : (s : List ℕ) (e : ℕ) → IsLong s → IsLong (s ++ e ∷ [])
+    long_more s e l = omega (arith, l, length-append s (e ∷ []))
+
+    tried_or_long : (i e : ℕ) (s : List ℕ) → i < length found →
+        IsNotAfter (seen_at found i).schedule s → IsTried f found i e ⊎ IsLong (s ++ e ∷ [])
+    tried_or_long i e s l early = by (cases_lt (length (seen_at found i).schedule) depth)
       where
-        by : (o : Option State) → f xs ≡ o → IsFound found state (xs ++ x ∷ [])
-        by None e = let no = laws.begins xs x e in cc
-        by (Some c) e =
-            let r = rest c e in
-            onward xs x c state r (s.tried r.place x (omega (arith, r.inside))) e leads
+        by : (length (seen_at found i).schedule < depth)
+            ⊎ (depth ≤ length (seen_at found i).schedule) →
+            IsTried f found i e ⊎ (depth < length (s ++ e ∷ []))
+        by (inl less) = inl
+            (all_tried f found i (ex.all.reached i l) (ex.gone_on i l (inl less)) e)
+        by (inr le) = inr
+            (let m = not_after_length (seen_at found i).schedule s early in
+            omega (arith, le, m, length-append s (e ∷ [])))
 
-    all_found : (xs : List ℕ) → Leads xs
-    all_found = by_end Leads (λ state leads. s.opening state leads) step_all
+    late_long : (i : ℕ) (s : List ℕ) → i < length found → IsLong s →
+        IsBefore (seen_at found i).schedule s
+    late_long i s l long =
+        let w = within_last found ex.all.rising i l in inl (omega (arith, w, long, cut.all, cut.deep))
 
-    pub exhausted : (depth : ℕ) → IsExplored f found depth true
-    exhausted depth = record {
-      complete = λ xs state leads short. all_found xs state leads;
-      whole = λ h xs state leads. all_found xs state leads;
-      reached = s.all.reached;
-      first = λ i xs l leads. early_one s.all i xs l (all_found xs (seen_at found i).state leads);
-      once = s.all.once;
-      rising = s.all.rising;
-    }
-
-  -- Where the next one was tried from so far
-
-  module _ (next from : ℕ) (t : IsTrying f found next from) where
-    abbrev limit : List ℕ
-    limit = (seen_at found next).schedule ++ from ∷ []
-
-    -- found, or not before what is tried next
-    abbrev LeadsOrAfter : List ℕ → Type 0
-    LeadsOrAfter xs = (state : State) → f xs ≡ Some state →
-        IsFound found state xs ⊎ IsNotAfter limit xs
-
-    later_place : (xs : List ℕ) (x j : ℕ) → next < j → j < length found →
-        IsNotAfter (seen_at found j).schedule xs → IsNotAfter limit (xs ++ x ∷ [])
-    later_place xs x j l m early =
-        inr (before_append (seen_at found next).schedule xs from x
-        (before_not_after _ _ _ (t.all.rising next j l m) early))
-
-    later_entry : (xs : List ℕ) (x : ℕ) → from ≤ x → IsNotAfter (seen_at found next).schedule xs →
-        IsNotAfter limit (xs ++ x ∷ [])
-    later_entry xs x l early =
-        not_after_trans _ _ _ (not_after_last (seen_at found next).schedule from x l)
-        (not_after_append (seen_at found next).schedule xs x early)
-
-    step : (xs : List ℕ) (x : ℕ) → LeadsOrAfter xs → LeadsOrAfter (xs ++ x ∷ [])
-    step xs x rest state leads = by (f xs) refl
-      where
-        Answer : Type 0
-        Answer = IsFound found state (xs ++ x ∷ []) ⊎ IsNotAfter limit (xs ++ x ∷ [])
-
-        at_next : (c : State) (r : IsFound found c xs) → f xs ≡ Some c → r.place ≡ next →
-            (x < from) ⊎ (from ≤ x) →
-            IsFound found state (xs ++ x ∷ []) ⊎ IsNotAfter limit (xs ++ x ∷ [])
-        at_next c r e is (inl l) =
-            inl (onward xs x c state r
-            (subst (λ j. IsTried f found j x) (sym is) (t.first x l)) e leads)
-        at_next c r e is (inr l) =
-            inr (later_entry xs x l
-            (subst (λ j. IsNotAfter (seen_at found j).schedule xs) is r.early))
-
-        from_place : (c : State) (r : IsFound found c xs) → f xs ≡ Some c →
-            (r.place < next) ⊎ (next ≤ r.place) →
-            IsFound found state (xs ++ x ∷ []) ⊎ IsNotAfter limit (xs ++ x ∷ [])
-        from_place c r e (inl l) = inl (onward xs x c state r (t.tried r.place x l) e leads)
-        from_place c r e (inr l) = elim (eq-or-lt_of_le l) [
-          | inl is ↦ at_next c r e (sym is) (cases_lt x from)
-          | inr m ↦ inr (later_place xs x r.place m r.inside r.early)
-        ]
-
-        by : (o : Option State) → f xs ≡ o →
-            IsFound found state (xs ++ x ∷ []) ⊎ IsNotAfter limit (xs ++ x ∷ [])
-        by None e = let no = laws.begins xs x e in cc
-        by (Some c) e = elim (rest c e) [
-          | inl r ↦ from_place c r e (cases_lt r.place next)
-          | inr after ↦ inr (inr
-              (inl (let m = not_after_length limit xs after in
-              omega (arith, length-append xs (x ∷ [])))))
-        ]
-
-    found_or_after : (xs : List ℕ) → LeadsOrAfter xs
-    found_or_after = by_end LeadsOrAfter (λ state leads. inl (t.opening state leads)) step
-
-    -- the first schedule that leads there
-    first_one : (i : ℕ) (s : List ℕ) → i < length found → f s ≡ Some (seen_at found i).state →
-        IsNotAfter (seen_at found i).schedule s
-    first_one i s l leads = elim (found_or_after s (seen_at found i).state leads) [
-      | inl r ↦ early_one t.all i s l r
-      | inr after ↦ inr (before_not_after _ _ _ (t.before i from l (omega arith)) after)
-    ]
-
-    complete : (s : List ℕ) (state : State) → f s ≡ Some state →
-        length s ≤ length (seen_at found next).schedule → IsFound found state s
-    complete s state leads short = elim (found_or_after s state leads) [
-      | inl r ↦ r
-      | inr after ↦ absurd (let m = not_after_length limit s after in
-          omega (arith, length-append (seen_at found next).schedule (from ∷ [])))
-    ]
-
-    -- A search that stops here has all that schedules as long as that of the next one lead to.
-    pub stopped : IsExplored f found (length (seen_at found next).schedule) false
-    stopped = record {
-      complete = complete;
+    all_to_depth : is_whole ≡ false → AreAllStates f found depth is_whole
+    all_to_depth not_whole = record {
+      complete = λ s state leads short.
+          unless_after f laws found ex.all.opening ex.all.once IsLong long_more tried_or_long late_long
+          s state leads (λ l. omega (arith, l, short));
       whole = λ h. cc;
-      reached = t.all.reached;
-      first = first_one;
-      once = t.all.once;
-      rising = t.all.rising;
+      reached = ex.all.reached;
+      first = first_one f laws found ex.all.opening ex.all.once IsLong long_more tried_or_long late_long;
+      once = ex.all.once;
+      rising = ex.all.rising;
     }
 
-    -- What is tried next leads to a state that was not found, though all before it were.
-    pub left_out : (state : State) → f limit ≡ Some state → has_code found state.code ≡ false →
-        IsLeftOut f found limit
-    left_out state leads new = record {
-      state = state;
-      leads = leads;
-      new = λ i l e. no_place found state.code new i l (ap (λ (a : State). a.code) e);
-      before = λ s other leads' b. elim (found_or_after s other leads') [
-        | inl r ↦ r
-        | inr after ↦ absurd (before_never s (before_not_after _ _ _ b after))
-      ];
-    }
+  -- Where it is cut at a number of states, those that are not before the one left out are.
+  module _ (asked most : ℕ) (cut : IsCutByStates f (AreAllEntries f) found asked most depth) where
+    abbrev place : ℕ
+    place = cut.place
 
-module _ (f : List ℕ → Option State) (laws : AreSchedules f) (found : List Seen)
-    (next depth : ℕ) where
-  -- The next one is as deep as it was to go.
-  module _ (s : IsSearched f found next) (inside : next < length found)
-      (full : depth ≤ length (seen_at found next).schedule)
-      (deep : AreWithin found depth) where
-    at_depth : length (seen_at found next).schedule ≡ depth
-    at_depth = let d = deep next inside in omega arith
+    abbrev limit : List ℕ
+    limit = (seen_at found cut.place).schedule ++ cut.stopped.one_more.entry ∷ []
 
-    pub cut_by_depth : IsExplored f found depth false
-    cut_by_depth = subst (λ d. IsExplored f found d false) at_depth
-        (stopped f laws found next 0 (begun f found next s inside))
+    abbrev IsPast : List ℕ → Type 0
+    IsPast s = IsNotAfter limit s
 
-    pub is_cut_by_depth : IsCutByDepth found depth depth
-    is_cut_by_depth = record {
-      all = refl;
-      deep =
-          by (eq-or-lt_of_le {n = next} {m = length found - 1} (omega arith));
-    }
+    past_more : (s : List ℕ) (e : ℕ) → IsPast s → IsPast (s ++ e ∷ [])
+    past_more s e after = inr
+        (inl (let m = not_after_length limit s after in
+        omega (arith, m, length-append s (e ∷ []))))
+
+    tried_or_past : (i e : ℕ) (s : List ℕ) → i < length found →
+        IsNotAfter (seen_at found i).schedule s → IsTried f found i e ⊎ IsPast (s ++ e ∷ [])
+    tried_or_past i e s l early = by (cases_lt i cut.place)
       where
-        by : (next ≡ length found - 1) ⊎ (next < length found - 1) → depth_of found ≡ depth
-        by (inl e) = ap (λ j. length (seen_at found j).schedule) (sym e) ∙ at_depth
-        by (inr l) =
-            let d = deep (length found - 1) (omega arith) in
-            let r = before_length (seen_at found next).schedule
-            (seen_at found (length found - 1)).schedule
-            (s.all.rising next (length found - 1) l (omega arith)) in
-            omega (arith, at_depth)
+        Answer : ℕ → Type 0
+        Answer i = IsTried f found i e ⊎ IsNotAfter limit (s ++ e ∷ [])
 
-  -- There is one more than are wanted.
-  module _ (most : ℕ) (schedule : List ℕ) (s : IsStopped f found next most)
-      (same : (seen_at found next).schedule ≡ schedule) where
-    pub cut_by_states : IsExplored f found (length schedule) false
-    cut_by_states = subst (λ (t : List ℕ). IsExplored f found (length t) false) same
-        (stopped f laws found next s.entry s.trying)
+        at_place : i ≡ cut.place → (e < cut.stopped.one_more.entry) ⊎ (cut.stopped.one_more.entry ≤ e) →
+            IsTried f found i e ⊎ IsNotAfter limit (s ++ e ∷ [])
+        at_place is (inl less) = inl (subst (λ j. IsTried f found j e) (sym is)
+            (some_tried f found cut.place (ex.all.reached cut.place cut.stopped.inside) cut.stopped e
+            less))
+        at_place is (inr le) = inr
+            (not_after_trans _ _ _
+            (not_after_last (seen_at found cut.place).schedule cut.stopped.one_more.entry e le)
+            (not_after_append (seen_at found cut.place).schedule s e
+            (subst (λ j. IsNotAfter (seen_at found j).schedule s) is early)))
 
-    pub is_cut_by_states : length schedule < depth →
-        IsCutByStates f found depth most (length schedule)
-    is_cut_by_states shallow = record {
-      shallow = shallow;
-      full = s.full;
-      schedule = (seen_at found next).schedule ++ s.entry ∷ [];
-      long = length-append (seen_at found next).schedule (s.entry ∷ [])
-          ∙ ap (λ (t : List ℕ). length t + 1) same;
-      one_more = left_out f laws found next s.entry s.trying s.state s.leads s.new;
+        by : (i < cut.place) ⊎ (cut.place ≤ i) →
+            IsTried f found i e ⊎ IsNotAfter limit (s ++ e ∷ [])
+        by (inl less) = inl
+            (all_tried f found i (ex.all.reached i l) (cut.stopped.gone_on i less) e)
+        by (inr le) = elim (eq-or-lt_of_le le) [
+          | inl is ↦ at_place (sym is) (cases_lt e cut.stopped.one_more.entry)
+          | inr less ↦ inr (inr
+              (before_append (seen_at found cut.place).schedule s cut.stopped.one_more.entry e
+              (before_not_after _ _ _ (ex.all.rising cut.place i less l) early)))
+        ]
+
+    late_past : (i : ℕ) (s : List ℕ) → i < length found → IsPast s →
+        IsBefore (seen_at found i).schedule s
+    late_past i s l after = before_not_after _ _ _ (cut.stopped.before i l) after
+
+    all_to_number : is_whole ≡ false → AreAllStates f found depth is_whole
+    all_to_number not_whole = record {
+      complete = λ s state leads short.
+          unless_after f laws found ex.all.opening ex.all.once IsPast past_more tried_or_past late_past
+          s state leads (λ after. let m = not_after_length limit s after in
+          omega (
+            arith,
+            m,
+            short,
+            cut.far,
+            length-append (seen_at found cut.place).schedule (cut.stopped.one_more.entry ∷ []),
+          ));
+      whole = λ h. cc;
+      reached = ex.all.reached;
+      first = first_one f laws found ex.all.opening ex.all.once IsPast past_more tried_or_past late_past;
+      once = ex.all.once;
+      rising = ex.all.rising;
     }
 
--- Nothing is deeper than it was to go where the one that was tried is not as deep.
-pub deep_enough : (found : List Seen) (near depth : ℕ) → near < depth → AreWithin found (near + 1) →
-    AreWithin found depth
-deep_enough found near depth l w i m = let d = w i m in omega arith
+    -- What was left out, though all before it was found.
+    is_full : IsFull f found asked most depth
+    is_full = record {
+      shallow = cut.shallow;
+      full = cut.full;
+      schedule = limit;
+      long = length-append (seen_at found cut.place).schedule (cut.stopped.one_more.entry ∷ [])
+          ∙ ap (λ n. n + 1) cut.far;
+      one_more = record {
+        state = cut.stopped.one_more.state;
+        leads = cut.stopped.leads;
+        new = λ i l e. cut.stopped.new i l (ap (λ (a : State). a.code) e);
+        before = λ s other leads b.
+            unless_after f laws found ex.all.opening ex.all.once IsPast past_more tried_or_past late_past
+            s other leads (λ after. before_never s (before_not_after _ _ _ b after));
+      };
+    }
 
--- No schedule of those that were tried is longer than that of the last of them.
-pub all_shallow : (f : List ℕ → Option State) (found : List Seen) (next depth : ℕ) →
-    IsSearched f found (next + 1) →
-    length (seen_at found next).schedule < depth → (i : ℕ) → i < next + 1 →
-    length (seen_at found i).schedule < depth
-all_shallow f found next depth s short i l = by (eq-or-lt_of_le {n = i} {m = next} (omega arith))
-  where
-    by : (i ≡ next) ⊎ (i < next) → length (seen_at found i).schedule < depth
-    by (inl e) = subst (λ j. length (seen_at found j).schedule < depth) (sym e) short
-    by (inr m) =
-        let r = before_length (seen_at found i).schedule (seen_at found next).schedule
-        (s.all.rising i next m (omega (arith, s.within))) in
-        omega arith
+  pub all_states : (asked most : ℕ) →
+      (is_whole ≡ false → IsCut f (AreAllEntries f) found asked most depth) →
+      AreAllStates f found depth is_whole
+  all_states asked most cut = by is_whole refl
+    where
+      why : is_whole ≡ false → IsCut f (AreAllEntries f) found asked most depth →
+          AreAllStates f found depth is_whole
+      why not_whole (inl c) = all_to_depth asked c not_whole
+      why not_whole (inr c) = all_to_number asked most c not_whole
+
+      by : (b : Bool) → is_whole ≡ b → AreAllStates f found depth is_whole
+      by true e = all_of_whole e
+      by false e = why e (cut e)
+
+  pub are_cut : (asked most : ℕ) → IsCut f (AreAllEntries f) found asked most depth →
+      AreCut f found asked most depth
+  are_cut asked most (inl c) = inl c
+  are_cut asked most (inr c) = inr (is_full asked most c)

@@ -1,7 +1,9 @@
 pub mod Orders
 mod Listed
 mod Trying
-mod Covering
+mod Exploring
+pub mod Covering
+pub mod Nearing
 mod Growing
 mod Ends
 mod Chains

@@ -1,10 +1,11 @@
--- One entry after the other is tried.
-use Rattle.std.proofs.Common.{◌≡◌, ℕ, zero, suc, ◌+◌, ◌<◌, ◌≤◌, Bool, true, false, cond, ◌⊎◌, inl, inr, List, [], ◌∷◌, ◌++◌, length, Option, None, Some, refl, sym, ap, subst, ◌∙◌, arith, nat_lt}
+-- One choice after the other is tried.
+use Rattle.std.proofs.Common.{◌≡◌, ℕ, zero, suc, ◌+◌, ◌<◌, ◌≤◌, Bool, true, false, cond, ◌⊎◌, inl, inr, List, [], ◌∷◌, ◌++◌, length, take, Option, Some, refl, sym, ap, subst, ◌∙◌, arith, nat_lt, append-nil, append_assoc}
 use Rattle.std.proofs.Math.ListN.{length-append}
 use Rattle.std.proofs.lemmas.Bool.{cases_lt, ltb-true, ltb-false}
+use Rattle.std.proofs.lemmas.List.{take-append-le}
 use Rattle.l4_explore.specs.Orders.{IsBefore}
-use Rattle.l4_explore.specs.Tries.{State, AreSchedules, Next, IsNext, AreNexts, StandsForAll}
-use Rattle.l4_explore.specs.Search.{Seen, seen_at, has_code, seen_next, met, IsFound, AreWithin, IsTried, IsTrying, IsSearched, IsStopped}
+use Rattle.l4_explore.specs.Tries.{State, AreCoded, Next, LeadsOn, LeadOn}
+use Rattle.l4_explore.specs.Search.{Seen, seen_at, has_code, seen_next, met, AreMet, AreWithin, IsFound, IsGoneOn, IsSearched, IsStopped, AreFound, Offers}
 use Rattle.l4_explore.proofs.Orders.{before_length, before_trans, before_append, before_last}
 use Rattle.l4_explore.proofs.Listed.{seen_at-old, seen_at-new, found_in_more, place_of_code, no_place}
 
@@ -16,61 +17,72 @@ only P p (suc j) h = absurd (omega arith)
 pub below_or_last : (n i : ℕ) → i < n + 1 → (i < n) ⊎ (i ≡ n)
 below_or_last n i h = elim (cases_lt i n) [ inl l ↦ inl l | inr g ↦ inr (omega arith) ]
 
-module _ (f : List ℕ → Option State) where
-  -- What is tried of a schedule that stands for all is tried of its state.
-  stood : (found : List Seen) (next e : ℕ) → StandsForAll f (seen_at found next).schedule →
-      f (seen_at found next).schedule ≡ Some (seen_at found next).state →
-      ((state : State) → f ((seen_at found next).schedule ++ e ∷ []) ≡ Some state →
-      IsFound found state ((seen_at found next).schedule ++ e ∷ [])) → IsTried f found next e
-  stood found next e stands is tried s state at leads = tried state (stands s e state (at ∙ sym is) leads)
+-- Choices that are met
 
+pub met_too : (found : List Seen) (s : List ℕ) (cs : List Next) (n : Next) → AreMet found s cs →
+    IsFound found n.state (s ++ n.entry ∷ []) → AreMet found s (cs ++ n ∷ [])
+met_too found s [] n m f = (f, tt)
+met_too found s (c ∷ cs) n m f = (m.0, met_too found s cs n m.1 f)
+
+met_in_more : (found : List Seen) (one : Seen) (s : List ℕ) (cs : List Next) → AreMet found s cs →
+    AreMet (found ++ one ∷ []) s cs
+met_in_more found one s [] m = tt
+met_in_more found one s (c ∷ cs) m =
+    (found_in_more found one c.state (s ++ c.entry ∷ []) m.0, met_in_more found one s cs m.1)
+
+-- The choices of the state at `next` were tried that have entries below `from`: all found states are
+-- before the others.
+pub record IsTrying (f : List ℕ → Option State) (offers : Offers) (found : List Seen)
+    (next from : ℕ) : Type 0 where
+  pub all : AreFound f found
+  pub inside : next < length found
+  pub gone_on : (i : ℕ) → i < next → IsGoneOn offers found i
+  pub before : (j e : ℕ) → j < length found → from ≤ e →
+      IsBefore (seen_at found j).schedule ((seen_at found next).schedule ++ e ∷ [])
+
+module _ (f : List ℕ → Option State) (offers : Offers) where
   -- The state at the beginning alone.
   pub opened : (state : State) → f [] ≡ Some state →
-      IsSearched f (record { state = state; schedule = [] } ∷ []) 0
+      IsSearched f offers (record { state = state; schedule = [] } ∷ []) 0
   opened state e =
       let found : List Seen = record { state = state; schedule = [] } ∷ [] in
       record {
         all = record {
+          opening = λ other e'. record { place = 0; inside = omega arith; is = cc; early = inl refl };
           reached = only (λ i. f (seen_at found i).schedule ≡ Some (seen_at found i).state) e;
           once = λ i j l m same. omega arith;
           rising = λ i j l m. absurd (omega arith);
         };
-        opening = λ other e'. record { place = 0; inside = omega arith; is = cc; early = inl refl };
         within = omega arith;
-        tried = λ i e' l. absurd (omega arith);
+        gone_on = λ i l. absurd (omega arith);
         before = λ j e l m. only (λ i. IsBefore (seen_at found i).schedule (e ∷ []))
             (inl (omega arith)) j m;
       }
 
   -- A next one.
-  pub begun : (found : List Seen) (next : ℕ) → IsSearched f found next → next < length found →
-      IsTrying f found next 0
+  begun : (found : List Seen) (next : ℕ) → IsSearched f offers found next → next < length found →
+      IsTrying f offers found next 0
   begun found next s inside = record {
     all = s.all;
-    opening = s.opening;
     inside = inside;
-    tried = s.tried;
-    first = λ e l. absurd (omega arith);
+    gone_on = s.gone_on;
     before = λ j e l m. s.before j e inside l;
   }
 
   -- None of what was found is deeper by more than one.
-  pub near : (found : List Seen) (next from : ℕ) → IsTrying f found next from →
+  near : (found : List Seen) (next from : ℕ) → IsTrying f offers found next from →
       AreWithin found (length (seen_at found next).schedule + 1)
   near found next from t j l =
       let b = before_length (seen_at found j).schedule _ (t.before j from l (omega arith)) in
       omega (arith, b, length-append (seen_at found next).schedule (from ∷ []))
 
-  -- All entries were tried.
-  pub ended : (found : List Seen) (next from : ℕ) → IsTrying f found next from →
-      StandsForAll f (seen_at found next).schedule →
-      ((e : ℕ) → from ≤ e → f ((seen_at found next).schedule ++ e ∷ []) ≡ None) →
-      IsSearched f found (next + 1)
-  ended found next from t stands none = record {
+  -- All choices were tried.
+  ended : (found : List Seen) (next from : ℕ) → IsTrying f offers found next from →
+      IsGoneOn offers found next → IsSearched f offers found (next + 1)
+  ended found next from t gone = record {
     all = t.all;
-    opening = t.opening;
     within = omega (arith, t.inside);
-    tried = λ i e l. by i e (below_or_last next i l);
+    gone_on = λ i l. by i (below_or_last next i l);
     before = λ j e l m.
         let next_one = t.all.rising next (next + 1) (omega arith) l in
         before_trans _ _ _ (t.before j from m (omega arith))
@@ -78,74 +90,38 @@ module _ (f : List ℕ → Option State) where
         (seen_at found (next + 1)).schedule from e next_one);
   }
     where
-      at_next : (e : ℕ) → (e < from) ⊎ (from ≤ e) → IsTried f found next e
-      at_next e (inl l) = t.first e l
-      at_next e (inr l) = stood found next e stands (t.all.reached next t.inside)
-          (λ state leads. let no = none e l in cc)
+      by : (i : ℕ) → (i < next) ⊎ (i ≡ next) → IsGoneOn offers found i
+      by i (inl l) = t.gone_on i l
+      by i (inr is) = subst (IsGoneOn offers found) (sym is) gone
 
-      by : (i e : ℕ) → (i < next) ⊎ (i ≡ next) → IsTried f found i e
-      by i e (inl l) = t.tried i e l
-      by i e (inr is) = subst (λ k. IsTried f found k e) (sym is) (at_next e (cases_lt e from))
-
-  -- Entries that lead to none are passed over.
-  pub passed : (found : List Seen) (next from to : ℕ) → IsTrying f found next from →
-      StandsForAll f (seen_at found next).schedule → from ≤ to →
-      ((e : ℕ) → from ≤ e → e < to → f ((seen_at found next).schedule ++ e ∷ []) ≡ None) →
-      IsTrying f found next to
-  passed found next from to t stands later none = record {
+  -- Entries are passed over.
+  passed : (found : List Seen) (next from to : ℕ) → IsTrying f offers found next from → from ≤ to →
+      IsTrying f offers found next to
+  passed found next from to t later = record {
     all = t.all;
-    opening = t.opening;
     inside = t.inside;
-    tried = t.tried;
-    first = λ e l. by e l (cases_lt e from);
+    gone_on = t.gone_on;
     before = λ j e l m. t.before j e l (omega arith);
   }
-    where
-      by : (e : ℕ) → e < to → (e < from) ⊎ (from ≤ e) → IsTried f found next e
-      by e l (inl m) = t.first e m
-      by e l (inr m) = stood found next e stands (t.all.reached next t.inside)
-          (λ state leads. let no = none e m l in cc)
 
   -- An entry that leads to what was found.
-  module _ (laws : AreSchedules f) (found : List Seen) (next entry : ℕ) (state : State)
-      (t : IsTrying f found next entry) (stands : StandsForAll f (seen_at found next).schedule)
-      (leads : f ((seen_at found next).schedule ++ entry ∷ []) ≡ Some state) where
-    pub met_known : has_code found state.code ≡ true → IsTrying f found next (entry + 1)
-    met_known known = record {
-      all = t.all;
-      opening = t.opening;
-      inside = t.inside;
-      tried = t.tried;
-      first = λ e l. by e (below_or_last entry e l);
-      before = λ j e l m. t.before j e l (omega arith);
-    }
-      where
-        there : IsFound found state ((seen_at found next).schedule ++ entry ∷ [])
-        there =
-            let at = place_of_code found state.code known in
-            record {
-              place = at.place;
-              inside = at.inside;
-              is = laws.coded _ _ _ _ (t.all.reached at.place at.inside) leads at.is;
-              early = inr (t.before at.place entry at.inside (omega arith));
-            }
-
-        same : (other : State) → f ((seen_at found next).schedule ++ entry ∷ []) ≡ Some other →
-            IsFound found other ((seen_at found next).schedule ++ entry ∷ [])
-        same other leads' =
-            let e : state ≡ other = cc in
-            subst (λ s. IsFound found s ((seen_at found next).schedule ++ entry ∷ [])) e there
-
-        this : IsTried f found next entry
-        this = stood found next entry stands (t.all.reached next t.inside) same
-
-        by : (e : ℕ) → (e < entry) ⊎ (e ≡ entry) → IsTried f found next e
-        by e (inl l) = t.first e l
-        by e (inr is) = subst (λ k. IsTried f found next k) (sym is) this
+  there : AreCoded f → (found : List Seen) (next entry : ℕ) (state : State) →
+      IsTrying f offers found next entry →
+      f ((seen_at found next).schedule ++ entry ∷ []) ≡ Some state →
+      has_code found state.code ≡ true →
+      IsFound found state ((seen_at found next).schedule ++ entry ∷ [])
+  there coded found next entry state t leads known =
+      let at = place_of_code found state.code known in
+      record {
+        place = at.place;
+        inside = at.inside;
+        is = coded _ _ _ _ (t.all.reached at.place at.inside) leads at.is;
+        early = inr (t.before at.place entry at.inside (omega arith));
+      }
 
   -- An entry that leads to what was not found yet.
-  module _ (found : List Seen) (next entry : ℕ) (state : State) (t : IsTrying f found next entry)
-      (stands : StandsForAll f (seen_at found next).schedule)
+  module _ (found : List Seen) (next entry : ℕ) (state : State)
+      (t : IsTrying f offers found next entry)
       (leads : f ((seen_at found next).schedule ++ entry ∷ []) ≡ Some state)
       (new : has_code found state.code ≡ false) where
     abbrev another : Seen
@@ -201,199 +177,250 @@ module _ (f : List ℕ → Option State) where
             rw (seen_at-old found another i (omega arith), b, seen_at-new found another)
             (t.before i entry (omega arith) (omega arith))
 
-    old_next : seen_at more_found next ≡ seen_at found next
+    -- What was gone on from stays so.
+    still : (i : ℕ) → i < length found → IsGoneOn offers found i → IsGoneOn offers more_found i
+    still i l g =
+        let is = seen_at-old found another i l in
+        record {
+          choices = g.choices;
+          offered = rw (take-append-le i found (another ∷ []) (omega arith), is) g.offered;
+          all_met = rw is (met_in_more found another (seen_at found i).schedule g.choices g.all_met);
+        }
+
+    pub old_next : seen_at more_found next ≡ seen_at found next
     old_next = seen_at-old found another next t.inside
 
-    -- What was tried stays so.
-    still : (i e : ℕ) → i < length found → IsTried f found i e → IsTried f more_found i e
-    still i e l h s other at leads' =
-        let is = seen_at-old found another i l in
-        rw is (found_in_more found another other _
-        (h s other (at ∙ ap (λ (x : Seen). Some x.state) is) leads'))
+    pub same_before : take next more_found ≡ take next found
+    same_before = let l = t.inside in take-append-le next found (another ∷ []) (omega arith)
 
-    new_here : (other : State) →
-        f ((seen_at more_found next).schedule ++ entry ∷ []) ≡ Some other →
-        IsFound more_found other ((seen_at more_found next).schedule ++ entry ∷ [])
-    new_here other leads' = record {
+    pub here : IsFound more_found state ((seen_at found next).schedule ++ entry ∷ [])
+    here = record {
       place = length found;
       inside = omega (arith, long);
-      is = ap (λ (s : Seen). s.state) (seen_at-new found another)
-          ∙ same_state other (rw old_next at leads');
-      early = inl (ap (λ (s : Seen). s.schedule) (seen_at-new found another)
-          ∙ ap (λ (s : Seen). s.schedule ++ entry ∷ []) (sym old_next));
+      is = ap (λ (s : Seen). s.state) (seen_at-new found another);
+      early = inl (ap (λ (s : Seen). s.schedule) (seen_at-new found another));
     }
-      where
-        same_state : (other : State) →
-            f ((seen_at found next).schedule ++ entry ∷ []) ≡ Some other → state ≡ other
-        same_state other h = cc
 
-    new_one : IsTried f more_found next entry
-    new_one =
-        stood more_found next entry
-        (subst (λ (x : Seen). StandsForAll f x.schedule) (sym old_next) stands)
-        (subst (λ (x : Seen). f x.schedule ≡ Some x.state) (sym old_next)
-        (t.all.reached next t.inside))
-        new_here
-
-    pub met_new : IsTrying f
-        (found ++ record { state = state; schedule = (seen_at found next).schedule ++ entry ∷ [] }
-        ∷ []) next (entry + 1)
+    pub met_new : IsTrying f offers more_found next (entry + 1)
     met_new = record {
       all = record {
+        opening = λ other e. found_in_more found another other [] (t.all.opening other e);
         reached = each (λ s. f s.schedule ≡ Some s.state) t.all.reached leads;
         once = once;
         rising = rising;
       };
-      opening = λ other e. found_in_more found another other [] (t.opening other e);
       inside = omega (arith, long, t.inside);
-      tried = λ i e l. still i e (omega (arith, t.inside)) (t.tried i e l);
-      first = λ e l. by e (below_or_last entry e l);
+      gone_on = λ i l. still i (omega (arith, t.inside)) (t.gone_on i l);
       before = λ j e l m. rw old_next
           (each (λ s. IsBefore s.schedule ((seen_at found next).schedule ++ e ∷ []))
           (λ i k. t.before i e k (omega arith))
           (before_last (seen_at found next).schedule entry e (omega arith)) j l);
     }
-      where
-        by : (e : ℕ) → (e < entry) ⊎ (e ≡ entry) → IsTried f more_found next e
-        by e (inl l) = still next e t.inside (t.first e l)
-        by e (inr is) = subst (λ k. IsTried f more_found next k) (sym is) new_one
 
--- One entry more leads to a state.
+-- One choice more leads to a state.
 
--- Goes on, or is stopped.
-abbrev pub GoesOn : (List ℕ → Option State) → List Seen → (next most entry : ℕ) → Bool → Type 0
-GoesOn f found next most entry true = IsTrying f found next (entry + 1)
-GoesOn f found next most entry false = IsStopped f found next most
+-- It is found now, ..
+pub record IsMet (f : List ℕ → Option State) (offers : Offers) (old new : List Seen)
+    (next : ℕ) (n : Next) : Type 0 where
+  pub trying : IsTrying f offers new next (n.entry + 1)
+  pub is_found : IsFound new n.state ((seen_at old next).schedule ++ n.entry ∷ [])
+  pub still_met : (s : List ℕ) (cs : List Next) → AreMet old s cs → AreMet new s cs
+  pub same_before : take next new ≡ take next old
+
+-- .. or there is no room for it.
+pub record IsNotMet (f : List ℕ → Option State) (offers : Offers) (old new : List Seen)
+    (next most : ℕ) (n : Next) : Type 0 where
+  pub same : new ≡ old
+  pub trying : IsTrying f offers old next n.entry
+  pub new_state : has_code old n.state.code ≡ false
+  pub full : length old ≡ most
+
+abbrev pub Goes : (List ℕ → Option State) → Offers → (old new : List Seen) → (next most : ℕ) →
+    Next → Bool → Type 0
+Goes f offers old new next most n true = IsMet f offers old new next n
+Goes f offers old new next most n false = IsNotMet f offers old new next most n
 
 -- What is met on the way from a state.
-pub record HasMet (f : List ℕ → Option State) (old new : List Seen) (next most : ℕ) (n : Next)
-    (more : Bool) : Type 0 where
+pub record HasMet (f : List ℕ → Option State) (offers : Offers) (old new : List Seen)
+    (next most : ℕ) (n : Next) (more : Bool) : Type 0 where
   pub few : length new ≤ most
-  pub same : (seen_at new next).schedule ≡ (seen_at old next).schedule
-  pub goes : GoesOn f new next most n.entry more
+  pub same : seen_at new next ≡ seen_at old next
+  pub goes : Goes f offers old new next most n more
 
-module _ (f : List ℕ → Option State) (laws : AreSchedules f) (found : List Seen)
+module _ (f : List ℕ → Option State) (offers : Offers) (coded : AreCoded f) (found : List Seen)
     (next from most : ℕ) (n : Next)
-    (t : IsTrying f found next from) (stands : StandsForAll f (seen_at found next).schedule)
-    (is : IsNext f (seen_at found next).schedule from n) (few : length found ≤ most) where
-  here : IsTrying f found next n.entry
-  here = passed f found next from n.entry t stands is.later is.first
+    (t : IsTrying f offers found next from)
+    (is : LeadsOn f (seen_at found next).schedule from n) (few : length found ≤ most) where
+  at_entry : IsTrying f offers found next n.entry
+  at_entry = passed f offers found next from n.entry t is.later
 
   abbrev Pair : Type 0
   Pair = List Seen × Bool
 
   abbrev Has : Pair → Type 0
-  Has p = HasMet f found p.0 next most n p.1
+  Has p = HasMet f offers found p.0 next most n p.1
 
   after : (known room : Bool) → has_code found n.state.code ≡ known →
       nat_lt (length found) most ≡ room →
       Has (cond known (found, true)
       (cond room (found ++ seen_next found next n ∷ [], true) (found, false)))
-  after true room e r =
-      record {
-        few = few;
-        same = refl;
-        goes =
-            met_known f laws found next n.entry n.state here stands is.leads e;
-      }
+  after true room e r = record {
+    few = few;
+    same = refl;
+    goes = record {
+      trying = passed f offers found next n.entry (n.entry + 1) at_entry (omega arith);
+      is_found = there f offers coded found next n.entry n.state at_entry is.leads e;
+      still_met = λ s cs m. m;
+      same_before = refl;
+    };
+  }
   after false true e r = record {
     few = omega (
       arith,
       length-append found (seen_next found next n ∷ []),
       ltb-true (length found) most r,
     );
-    same = ap (λ (s : Seen). s.schedule) (seen_at-old found (seen_next found next n) next t.inside);
-    goes = met_new f found next n.entry n.state here stands is.leads e;
+    same = old_next f offers found next n.entry n.state at_entry is.leads e;
+    goes = record {
+      trying = met_new f offers found next n.entry n.state at_entry is.leads e;
+      is_found = here f offers found next n.entry n.state at_entry is.leads e;
+      still_met = λ s cs m. met_in_more found (seen_next found next n) s cs m;
+      same_before = same_before f offers found next n.entry n.state at_entry is.leads e;
+    };
   }
   after false false e r = record {
     few = few;
     same = refl;
     goes = record {
-      entry = n.entry;
-      state = n.state;
-      trying = here;
-      leads = is.leads;
-      new = e;
+      same = refl;
+      trying = at_entry;
+      new_state = e;
       full = omega (arith, few, ltb-false (length found) most r);
     };
   }
 
-  pub has_met : (new : List Seen) (more : Bool) →
+  has_met : (new : List Seen) (more : Bool) →
       ◌≡◌ {A = List Seen × Bool} (new, more) (met found next most n) →
-      HasMet f found new next most n more
+      HasMet f offers found new next most n more
   has_met new more h = subst Has (sym h)
       (after (has_code found n.state.code) (nat_lt (length found) most) refl refl)
 
--- What is left to be tried of the next one.
-pub record GoingOn (f : List ℕ → Option State) (found : List Seen) (next : ℕ) (schedule : List ℕ)
-    (left : List Next) : Type 0 where
+-- Of the choices of the next one these are left to be tried.
+pub record GoingOn (f : List ℕ → Option State) (offers : Offers) (found : List Seen) (next : ℕ)
+    (opening : Seen) (left : List Next) : Type 0 where
+  pub same : seen_at found next ≡ opening
   pub from : ℕ
-  pub trying : IsTrying f found next from
-  pub stands : StandsForAll f schedule
-  pub nexts : AreNexts f schedule from left
-  pub same : (seen_at found next).schedule ≡ schedule
+  pub trying : IsTrying f offers found next from
+  pub leads : LeadOn f opening.schedule from left
+  pub tried : List Next
+  pub offered : offers (take next found) opening (tried ++ left)
+  pub all_met : AreMet found opening.schedule tried
 
-module _ (f : List ℕ → Option State) (laws : AreSchedules f) (next most : ℕ)
-    (schedule : List ℕ) where
-  pub begin : (found : List Seen) (left : List Next) → IsSearched f found next →
-      next < length found → schedule ≡ (seen_at found next).schedule →
-      StandsForAll f schedule → AreNexts f schedule 0 left → GoingOn f found next schedule left
-  begin found left s inside same stands nexts = record {
+module _ (f : List ℕ → Option State) (offers : Offers) (coded : AreCoded f) (next most : ℕ)
+    (seen : Seen) where
+  pub begin : (found : List Seen) (left : List Next) → IsSearched f offers found next →
+      next < length found → seen_at found next ≡ seen → LeadOn f seen.schedule 0 left →
+      offers (take next found) seen left → GoingOn f offers found next seen left
+  begin found left s inside same leads offered = record {
+    same = same;
     from = 0;
-    trying = begun f found next s inside;
-    stands = stands;
-    nexts = nexts;
-    same = sym same;
+    trying = begun f offers found next s inside;
+    leads = leads;
+    tried = [];
+    offered = offered;
+    all_met = tt;
   }
 
   -- One of them is tried.
   pub one_tried : (found new : List Seen) (n : Next) (left ns : List Next) (more : Bool) →
-      GoingOn f found next schedule left → left ≡ n ∷ ns →
+      GoingOn f offers found next seen left → left ≡ n ∷ ns →
       length found ≤ most → ◌≡◌ {A = List Seen × Bool} (new, more) (met found next most n) →
-      HasMet f found new next most n more
+      HasMet f offers found new next most n more
   one_tried found new n left ns more g is few h =
-      let nexts : AreNexts f schedule g.from (n ∷ ns) =
-      subst (λ (ks : List Next). AreNexts f schedule g.from ks) is g.nexts in
-      has_met f laws found next g.from most n g.trying
-      (subst (λ (s : List ℕ). StandsForAll f s) (sym g.same) g.stands)
-      (subst (λ s. IsNext f s g.from n) (sym g.same) nexts.0) few new more h
+      let leads : LeadOn f seen.schedule g.from (n ∷ ns) =
+      subst (LeadOn f seen.schedule g.from) is g.leads in
+      has_met f offers coded found next g.from most n g.trying
+      (subst (λ (s : Seen). LeadsOn f s.schedule g.from n) (sym g.same) leads.0) few new more h
 
   pub goes_on : (found new : List Seen) (n : Next) (left ns : List Next) →
-      GoingOn f found next schedule left → left ≡ n ∷ ns →
-      HasMet f found new next most n true → GoingOn f new next schedule ns
+      GoingOn f offers found next seen left → left ≡ n ∷ ns →
+      HasMet f offers found new next most n true → GoingOn f offers new next seen ns
   goes_on found new n left ns g is m =
-      let nexts : AreNexts f schedule g.from (n ∷ ns) =
-      subst (λ (ks : List Next). AreNexts f schedule g.from ks) is g.nexts in
+      let leads : LeadOn f seen.schedule g.from (n ∷ ns) =
+      subst (LeadOn f seen.schedule g.from) is g.leads in
       record {
-        from = n.entry + 1;
-        trying = m.goes;
-        stands = g.stands;
-        nexts = nexts.1;
         same = m.same ∙ g.same;
+        from = n.entry + 1;
+        trying = m.goes.trying;
+        leads = leads.1;
+        tried = g.tried ++ n ∷ [];
+        offered = rw (m.goes.same_before, append_assoc g.tried (n ∷ []) ns)
+            (subst (λ ks. offers (take next found) seen (g.tried ++ ks)) is g.offered);
+        all_met = met_too new seen.schedule g.tried n
+            (m.goes.still_met seen.schedule g.tried g.all_met)
+            (subst (λ (s : Seen). IsFound new n.state (s.schedule ++ n.entry ∷ [])) g.same
+            m.goes.is_found);
       }
 
   -- None is left.
-  pub all_tried : (found : List Seen) (left : List Next) → GoingOn f found next schedule left →
-      left ≡ [] → IsSearched f found (next + 1)
+  pub all_tried : (found : List Seen) (left : List Next) → GoingOn f offers found next seen left →
+      left ≡ [] → IsSearched f offers found (next + 1)
   all_tried found left g is =
-      let nexts : AreNexts f schedule g.from [] =
-      subst (λ (ks : List Next). AreNexts f schedule g.from ks) is g.nexts in
-      ended f found next g.from g.trying
-      (subst (λ (s : List ℕ). StandsForAll f s) (sym g.same) g.stands)
-      (subst (λ s. (e : ℕ) → g.from ≤ e → f (s ++ e ∷ []) ≡ None) (sym g.same) nexts)
+      ended f offers found next g.from g.trying
+      (record {
+        choices = g.tried;
+        offered = rw g.same
+            (subst (offers (take next found) seen)
+            (ap (λ ks. g.tried ++ ks) is ∙ append-nil g.tried) g.offered);
+        all_met = rw g.same g.all_met;
+      })
 
-  pub going_near : (found : List Seen) (left : List Next) → GoingOn f found next schedule left →
-      AreWithin found (length schedule + 1)
+  -- There is no room for one of them.
+  pub stopped : (found new : List Seen) (n : Next) (left ns : List Next) →
+      GoingOn f offers found next seen left → left ≡ n ∷ ns →
+      HasMet f offers found new next most n false → IsStopped f offers new next
+  stopped found new n left ns g is m =
+      let leads : LeadOn f seen.schedule g.from (n ∷ ns) =
+      subst (LeadOn f seen.schedule g.from) is g.leads in
+      subst (λ (found : List Seen). IsStopped f offers found next) (sym m.goes.same)
+      (record {
+        inside = g.trying.inside;
+        gone_on = g.trying.gone_on;
+        first = g.tried;
+        one_more = n;
+        others = ns;
+        offered = rw g.same
+            (subst (λ ks. offers (take next found) seen (g.tried ++ ks)) is g.offered);
+        all_met = rw g.same g.all_met;
+        leads = rw g.same leads.0.leads;
+        new = no_place found n.state.code m.goes.new_state;
+        before = λ i l. m.goes.trying.before i n.entry l (omega arith);
+      })
+
+  pub going_found : (found : List Seen) (left : List Next) → GoingOn f offers found next seen left →
+      AreFound f found
+  going_found found left g = g.trying.all
+
+  pub stopped_found : (found new : List Seen) (n : Next) →
+      HasMet f offers found new next most n false → AreFound f new
+  stopped_found found new n m = subst (AreFound f) (sym m.goes.same) m.goes.trying.all
+
+  pub going_near : (found : List Seen) (left : List Next) → GoingOn f offers found next seen left →
+      AreWithin found (length seen.schedule + 1)
   going_near found left g =
-      subst (λ (s : List ℕ). AreWithin found (length s + 1)) g.same
-      (near f found next g.from g.trying)
+      subst (λ (s : Seen). AreWithin found (length s.schedule + 1)) g.same
+      (near f offers found next g.from g.trying)
 
-  pub stopped_near : (found new : List Seen) (n : Next) → (seen_at found next).schedule ≡ schedule →
-      HasMet f found new next most n false →
-      AreWithin new (length schedule + 1)
+  pub stopped_near : (found new : List Seen) (n : Next) → seen_at found next ≡ seen →
+      HasMet f offers found new next most n false → AreWithin new (length seen.schedule + 1)
   stopped_near found new n same m =
-      subst (λ (s : List ℕ). AreWithin new (length s + 1)) (m.same ∙ same)
-      (near f new next m.goes.entry m.goes.trying)
+      subst (λ (found : List Seen). AreWithin found (length seen.schedule + 1)) (sym m.goes.same)
+      (subst (λ (s : Seen). AreWithin found (length s.schedule + 1)) same
+      (near f offers found next n.entry m.goes.trying))
+
+  pub stopped_full : (found new : List Seen) (n : Next) →
+      HasMet f offers found new next most n false → length new ≡ most
+  stopped_full found new n m = ap length m.goes.same ∙ m.goes.full
 
 pub no_items : {A : Type 0} (xs : List A) → length xs ≡ 0 → xs ≡ []
 no_items [] h = refl

@@ -1,6 +1,8 @@
 pub mod Orders
 pub mod Tries
 pub mod Search
+pub mod States
+pub mod Ends
 pub mod Codes
 pub mod Table
 pub mod Grown

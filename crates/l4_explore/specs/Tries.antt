@@ -7,13 +7,16 @@ pub record State : Type 0 where
   pub is_end : Bool
 
 -- A schedule is a list of numbers, its entries. `state_of` gives the state that a schedule leads
--- to, or None if it leads to none.
+-- to, or None if it leads to none. States with equal codes are equal.
+abbrev pub AreCoded : (state_of : List ℕ → Option State) → Type 0
+AreCoded state_of =
+    (s t : List ℕ) (a b : State) → state_of s ≡ Some a → state_of t ≡ Some b →
+    a.code ≡ b.code → a ≡ b
+
 pub record AreSchedules (state_of : List ℕ → Option State) : Type 0 where
   -- if the beginning of a schedule leads to no state, neither does the schedule
   pub begins : (s : List ℕ) (e : ℕ) → state_of s ≡ None → state_of (s ++ e ∷ []) ≡ None
-  -- states with equal codes are equal
-  pub coded : (s t : List ℕ) (a b : State) → state_of s ≡ Some a → state_of t ≡ Some b →
-      a.code ≡ b.code → a ≡ b
+  pub coded : AreCoded state_of
 
 -- A schedule stands for all that lead to its state. If one more entry leads from one of them to a
 -- state, it leads from this one to that state too.
@@ -30,6 +33,18 @@ deepest = 1000000
 pub record Next : Type 0 where
   pub entry : ℕ
   pub state : State
+
+-- The entry of `n` is not below `from`, and leads on from the schedule to its state.
+pub record LeadsOn (state_of : List ℕ → Option State) (s : List ℕ) (from : ℕ)
+    (n : Next) : Type 0 where
+  pub later : from ≤ n.entry
+  pub leads : state_of (s ++ n.entry ∷ []) ≡ Some n.state
+
+-- The entries rise, from `from` on, and each leads on from the schedule to its state.
+abbrev pub LeadOn : (state_of : List ℕ → Option State) (s : List ℕ) (from : ℕ) → List Next → Type 0
+LeadOn state_of s from [] = Unit {0}
+LeadOn state_of s from (n ∷ ns) =
+    LeadsOn state_of s from n × LeadOn state_of s (n.entry + 1) ns
 
 -- The entry of `n` is the first, from `from` on, that leads on from the schedule. Its state is the
 -- one that it leads to.

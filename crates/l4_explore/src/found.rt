@@ -22,7 +22,7 @@ pub struct Found {
 #[derive(Clone, Copy)]
 struct Arrival {
     from: u32,
-    entry: u16,
+    entry: u32,
     is_end: bool,
 }
 
@@ -65,6 +65,14 @@ impl Found {
         self.codes.len()
     }
 
+    /// The code of the state at a place.
+    pub fn code(&self, place: usize) -> &[u8]
+        requires { place < length self.now }
+        ensures { result.now ≡ (seen_at self.now place).state.code }
+    {
+        self.codes.code(place)
+    }
+
     /// Whether nothing is left to do in the state at a place.
     pub fn is_end(&self, place: usize) -> bool
         requires { place < length self.now }
@@ -76,7 +84,7 @@ impl Found {
     /// The schedule of the state at a place.
     ///
     /// `AllocError`: memory was refused.
-    pub fn schedule(&self, alloc: Global, place: usize) -> Result<Vec<u16>, AllocError>
+    pub fn schedule(&self, alloc: Global, place: usize) -> Result<Vec<u32>, AllocError>
         requires { place < length self.now }
         ensures { IfOk result (λ schedule. schedule.items ≡ (seen_at self.now place).schedule) }
     {
@@ -88,6 +96,20 @@ impl Found {
         }
         schedule.reverse();
         Ok(schedule)
+    }
+
+    /// How many entries the schedule of the state at a place has.
+    pub fn depth(&self, place: usize) -> usize
+        requires { place < length self.now }
+        ensures { result ≡ length (seen_at self.now place).schedule }
+    {
+        let mut depth = 0;
+        let mut place = place;
+        while let Some(arrival) = self.last_step(place) {
+            depth += 1;
+            place = arrival.from as usize;
+        }
+        depth
     }
 
     // The last step of the schedule of the state at a place. None if the schedule is empty.
@@ -122,7 +144,7 @@ impl Found {
     pub(crate) fn add(
         &mut self,
         from: usize,
-        entry: u16,
+        entry: u32,
         reached: Reached,
     ) -> Result<(), AllocError>
         requires from { from < length self.old }

@@ -1,11 +1,11 @@
 //! Breadth-first search.
 ghost use Rattle.std.specs.Prelude.{◌≡◌, ◌<◌, ◌≤◌, ◌+◌, min, false, true, IfOk, OnOk, length};
-ghost use Rattle.l4_explore.specs.Search.{depth_of, met, seen_at, AreWithin, IsCut, IsExplored, IsSearched, IsStopped};
+ghost use Rattle.l4_explore.specs.Search.{depth_of, met, seen_at, AreFound, AreWithin, IsCut, IsExplored, IsSearched, IsStopped};
 ghost use Rattle.l4_explore.specs.Tries.{deepest};
 ghost use Rattle.l4_explore.specs.Views.{next_from};
 
 use crate::found::Found;
-use crate::progress::{Progress, Unheard};
+use crate::progress::Progress;
 use crate::tries::{Choice, Tries};
 use std::alloc::{AllocError, Global};
 
@@ -18,41 +18,20 @@ pub struct Explored {
     /// The states, in the order of their schedules: the shorter ones first, those of one length by
     /// their entries.
     pub found: Found,
-    /// `found` has all states that schedules of at most this many entries lead to. If the search is
+    /// The search went on from each state that fewer than this many entries lead to. If it is
     /// whole, this is how many entries the longest schedule has.
     pub depth: usize,
-    /// Whether longer schedules lead to no more states.
+    /// Whether the search went on from all states.
     pub is_whole: bool,
 }
 
-/// Finds the first `most` states that schedules of at most `depth` entries lead to. Each is found
-/// once, with the first schedule that leads there. No search goes deeper than 1,000,000 entries.
+/// Finds the first `most` states that choices lead to, by schedules of at most `depth` entries.
+/// Each is found once, with the first schedule of choices that leads there. No search goes deeper
+/// than 1,000,000 entries. `progress` hears how far the search has come: once for each state that
+/// the search goes on from, and at last that it has ended.
 ///
 /// `AllocError`: memory was refused.
-pub fn explore<T: Tries>(
-    alloc: Global,
-    tries: &T,
-    depth: u32,
-    most: u32,
-) -> Result<Explored, AllocError>
-    requires { 0 < most }
-    ensures explored { IfOk result (λ r.
-        IsExplored (T.state_of tries.now) r.found r.depth r.is_whole) }
-    ensures few { IfOk result (λ r. length r.found ≤ most) }
-    ensures whole { IfOk result (λ r.
-        r.is_whole ≡ true → (r.depth ≡ depth_of r.found) × (r.depth < depth)) }
-    ensures cut { IfOk result (λ r.
-        r.is_whole ≡ false →
-        IsCut (T.state_of tries.now) r.found (min depth deepest) most r.depth) }
-{
-    explore_heard(alloc, tries, depth, most, &mut Unheard)
-}
-
-/// Finds the states that `explore` finds. `progress` hears how far the search has come: once for
-/// each state that the search goes on from, and at last that it has ended.
-///
-/// `AllocError`: memory was refused.
-pub fn explore_heard<T: Tries, P: Progress>(
+pub fn explore<T: Tries, P: Progress>(
     alloc: Global,
     tries: &T,
     depth: u32,
@@ -61,13 +40,13 @@ pub fn explore_heard<T: Tries, P: Progress>(
 ) -> Result<Explored, AllocError>
     requires { 0 < most }
     ensures explored { IfOk result (λ r.
-        IsExplored (T.state_of tries.now) r.found r.depth r.is_whole) }
+        IsExplored (T.state_of tries.now) (T.offers tries.now) r.found r.depth r.is_whole) }
     ensures few { IfOk result (λ r. length r.found ≤ most) }
     ensures whole { IfOk result (λ r.
         r.is_whole ≡ true → (r.depth ≡ depth_of r.found) × (r.depth < depth)) }
     ensures cut { IfOk result (λ r.
         r.is_whole ≡ false →
-        IsCut (T.state_of tries.now) r.found (min depth deepest) most r.depth) }
+        IsCut (T.state_of tries.now) (T.offers tries.now) r.found (min depth deepest) most r.depth) }
 {
     let explored = explore_on(alloc, tries, depth.min(DEEPEST), most, progress);
     progress.ended();
@@ -85,66 +64,68 @@ fn explore_on<T: Tries, P: Progress>(
     requires some { 0 < most }
     requires short { depth ≤ deepest }
     ensures explored { IfOk result (λ r.
-        IsExplored (T.state_of tries.now) r.found r.depth r.is_whole) }
+        IsExplored (T.state_of tries.now) (T.offers tries.now) r.found r.depth r.is_whole) }
     ensures few { IfOk result (λ r. length r.found ≤ most) }
     ensures whole { IfOk result (λ r.
         r.is_whole ≡ true → (r.depth ≡ depth_of r.found) × (r.depth < depth)) }
     ensures cut { IfOk result (λ r.
-        r.is_whole ≡ false → IsCut (T.state_of tries.now) r.found depth most r.depth) }
+        r.is_whole ≡ false →
+        IsCut (T.state_of tries.now) (T.offers tries.now) r.found depth most r.depth) }
 {
     let mut found = Found::new(alloc, tries.opening(alloc)?)?;
     let mut next = 0;
     while next < found.len() {
-        let schedule = found.schedule(alloc, next)?;
-        if schedule.len() >= depth as usize {
+        let reached = found.depth(next);
+        if reached >= depth as usize {
             return Ok(Explored {
                 found,
                 depth: depth as usize,
                 is_whole: false,
             });
         }
-        progress.looked_at(found.len(), schedule.len());
-        if !expand(alloc, tries, &mut found, next, &schedule, most)? {
+        progress.looked_at(found.len(), reached);
+        if !expand(alloc, tries, &mut found, next, most)? {
             return Ok(Explored {
                 found,
-                depth: schedule.len(),
+                depth: reached,
                 is_whole: false,
             });
         }
         next += 1;
     }
-    let deepest = found.schedule(alloc, found.len() - 1)?;
+    let deepest = found.depth(found.len() - 1);
     Ok(Explored {
         found,
-        depth: deepest.len(),
+        depth: deepest,
         is_whole: true,
     })
 }
 
-// Goes on from the state at `next` by all its entries. False if there is one state more than are
+// Goes on from the state at `next` by all its choices. False if there is one state more than are
 // wanted.
 fn expand<T: Tries>(
     alloc: Global,
     tries: &T,
     found: &mut Found,
     next: usize,
-    schedule: &[u16],
     most: u32,
 ) -> Result<bool, AllocError>
-    requires searched { IsSearched (T.state_of tries.now) found.old next }
+    requires searched { IsSearched (T.state_of tries.now) (T.offers tries.now) found.old next }
     requires inside { next < length found.old }
-    requires schedule { schedule.now ≡ (seen_at found.old next).schedule }
     requires few { length found.old ≤ most }
-    requires short { length schedule.now < deepest }
+    requires short { length (seen_at found.old next).schedule < deepest }
     ensures few { OnOk result (length found.new ≤ most) }
-    ensures same { OnOk result ((seen_at found.new next).schedule ≡ schedule.now) }
-    ensures near { OnOk result (AreWithin found.new (length schedule.now + 1)) }
-    ensures all { IfOk result (λ all.
-        all ≡ true → IsSearched (T.state_of tries.now) found.new (next + 1)) }
-    ensures stopped { IfOk result (λ all.
-        all ≡ false → IsStopped (T.state_of tries.now) found.new next most) }
+    ensures found { OnOk result (AreFound (T.state_of tries.now) found.new) }
+    ensures same { OnOk result (seen_at found.new next ≡ seen_at found.old next) }
+    ensures near { OnOk result (
+        AreWithin found.new (length (seen_at found.old next).schedule + 1)) }
+    ensures all { IfOk result (λ all. all ≡ true →
+        IsSearched (T.state_of tries.now) (T.offers tries.now) found.new (next + 1)) }
+    ensures stopped { IfOk result (λ all. all ≡ false →
+        IsStopped (T.state_of tries.now) (T.offers tries.now) found.new next) }
+    ensures full { IfOk result (λ all. all ≡ false → length found.new ≡ most) }
 {
-    for choice in tries.choices(alloc, schedule)? {
+    for choice in tries.choices(alloc, found, next)? {
         if !meet(found, next, choice, most)? {
             return Ok(false);
         }

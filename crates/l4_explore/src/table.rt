@@ -57,6 +57,14 @@ impl CodeTable {
         self.codes.len()
     }
 
+    /// The code at a place.
+    pub(crate) fn code(&self, place: usize) -> &[u8]
+        requires { place < length self.now }
+        ensures { result.now ≡ code_at self.now place }
+    {
+        self.codes.code(place)
+    }
+
     /// The place of a code. None if it is not among them.
     pub(crate) fn find(&self, code: &[u8]) -> Option<usize>
         ensures found { IfSome result (λ place.
@@ -79,7 +87,7 @@ impl CodeTable {
         requires { place < length self.now }
         ensures { result ≡ bytes_eq (code_at self.now place) code.now }
     {
-        self.codes.code(place) == code
+        self.code(place) == code
     }
 
     /// Adds a code at the end.

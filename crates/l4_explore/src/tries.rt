@@ -1,8 +1,10 @@
 //! What can be tried by schedules.
-ghost use Rattle.std.specs.Prelude.{ℕ, ◌≡◌, ◌<◌, List, [], Some, Option, IfOk, IsSome, length, map};
-ghost use Rattle.l4_explore.specs.Tries.{deepest, AreNexts, AreSchedules, StandsForAll, State};
+ghost use Rattle.std.specs.Prelude.{ℕ, ◌≡◌, ◌<◌, List, [], Some, Option, IfOk, length, map, take};
+ghost use Rattle.l4_explore.specs.Search.{seen_at, Seen};
+ghost use Rattle.l4_explore.specs.Tries.{deepest, AreCoded, LeadOn, Next, State};
 ghost use Rattle.l4_explore.specs.Views.{next_from, state_from};
 
+use crate::found::Found;
 use std::alloc::{AllocError, Global};
 
 /// A state that a schedule leads to.
@@ -18,7 +20,7 @@ pub struct Reached {
 #[derive(Drop)]
 pub struct Choice {
     /// The entry.
-    pub entry: u16,
+    pub entry: u32,
     /// The state.
     pub reached: Reached,
 }
@@ -29,25 +31,34 @@ pub trait Tries {
     /// The state that a schedule leads to.
     ghost state_of: { Self → List ℕ → Option State };
 
+    /// What is so of the choices of a found state, where the search has gone on from the states
+    /// before it: that they are all entries that lead on, or that they are enough for what is
+    /// looked for.
+    ghost offers: { Self → List Seen → Seen → List Next → Type 0 };
+
     /// The state of the empty schedule.
     ///
     /// `AllocError`: memory was refused.
     fn opening(&self, alloc: Global) -> Result<Reached, AllocError>
         ensures { IfOk result (λ r. state_of self.now [] ≡ Some (state_from r)) };
 
-    /// All entries that lead on from a schedule, rising, each with the state that it leads to. No
-    /// other schedule to the same state leads on by another entry. The schedule leads to a state,
-    /// and has fewer than 1,000,000 entries.
+    /// The choices by which a search goes on from the found state at a place, in the order of their
+    /// entries, each with the state that it leads to. The search has gone on from all states before
+    /// it. The schedule of the state has fewer than 1,000,000 entries.
     ///
     /// `AllocError`: memory was refused.
-    fn choices(&self, alloc: Global, schedule: &[u16]) -> Result<Vec<Choice>, AllocError>
-        requires leads { IsSome (state_of self.now schedule.now) }
-        requires short { length schedule.now < deepest }
-        ensures nexts { IfOk result (λ cs.
-            AreNexts (state_of self.now) schedule.now 0 (map next_from cs.items)) }
-        ensures stands { IfOk result (λ _. StandsForAll (state_of self.now) schedule.now) };
+    fn choices(&self, alloc: Global, found: &Found, place: usize) -> Result<Vec<Choice>, AllocError>
+        requires inside { place < length found.now }
+        requires reached { state_of self.now (seen_at found.now place).schedule
+            ≡ Some (seen_at found.now place).state }
+        requires short { length (seen_at found.now place).schedule < deepest }
+        ensures leads { IfOk result (λ cs.
+            LeadOn (state_of self.now) (seen_at found.now place).schedule 0
+            (map next_from cs.items)) }
+        ensures offered { IfOk result (λ cs.
+            offers self.now (take place found.now) (seen_at found.now place)
+            (map next_from cs.items)) };
 
-    /// If the beginning of a schedule leads to no state, neither does the schedule. States with
-    /// equal codes are equal.
-    ghost schedules: { (x : Self) → AreSchedules (state_of x) };
+    /// States with equal codes are equal.
+    ghost coded: { (x : Self) → AreCoded (state_of x) };
 }

@@ -2,3 +2,13 @@ pub mod Apart
 pub mod Coded
 pub mod Entries
 pub mod Ways
+pub mod Kept
+pub mod Led
+pub mod Listing
+pub mod Endings
+pub mod Looked
+pub mod Stuck
+pub mod Asked
+pub mod Reported
+pub mod Untimed
+pub mod Rows

@@ -26,11 +26,11 @@ use Rattle.l4_futures.proofs.Entries.{named}
 
 -- What entries lead to is reached late.
 
-record Late (m : Machine) (w v : World) : Type 0 where
-  steps : List Step
-  runs : run_late m w steps ≡ Some v
+pub record Late (m : Machine) (w v : World) : Type 0 where
+  pub steps : List Step
+  pub runs : run_late m w steps ≡ Some v
 
-by_steps : (m : Machine) (entries : List ℕ) (w v : World) → after_entries m w entries ≡ Some v → Late m w v
+pub by_steps : (m : Machine) (entries : List ℕ) (w v : World) → after_entries m w entries ≡ Some v → Late m w v
 by_steps m [] w v h = record { steps = []; runs = h }
 by_steps m (e ∷ entries) w v h =
     bind_then (after_entry m w e) (λ u. after_entries m u entries) v h λ u one rest.
@@ -38,18 +38,18 @@ by_steps m (e ∷ entries) w v h =
     let more = by_steps m entries u v rest in
     record { steps = step ∷ more.steps; runs = ap (λ o. o >>= λ x. run_late m x more.steps) goes ∙ more.runs }
 
-run_late-append : (m : Machine) (xs ys : List Step) (w v u : World) → run_late m w xs ≡ Some v → run_late m v ys ≡ Some u → run_late m w (xs ++ ys) ≡ Some u
+pub run_late-append : (m : Machine) (xs ys : List Step) (w v u : World) → run_late m w xs ≡ Some v → run_late m v ys ≡ Some u → run_late m w (xs ++ ys) ≡ Some u
 run_late-append m [] ys w v u first second = ap (λ x. run_late m x ys) (some_is w v first) ∙ second
 run_late-append m (x ∷ xs) ys w v u first second =
     bind_then (next_late m w x) (λ y. run_late m y xs) v first λ y is rest.
     ap (λ o. o >>= λ z. run_late m z (xs ++ ys)) is ∙ run_late-append m xs ys y v u rest second
 
-clocks_same : (m : Machine) (g h : List Step) (w v : World) → IsTimed m → run_late m (opening m) g ≡ Some w → run_late m (opening m) h ≡ Some v → length w.clocks ≡ length v.clocks
+pub clocks_same : (m : Machine) (g h : List Step) (w v : World) → IsTimed m → run_late m (opening m) g ≡ Some w → run_late m (opening m) h ≡ Some v → length w.clocks ≡ length v.clocks
 clocks_same m g h w v timed a b = (late_facts m g w timed a).clocks_counted ∙ sym (late_facts m h v timed b).clocks_counted
 
 -- What is possible is listed, and nothing else is.
 
-in_filter : {A B : Type 0} (f : A → Option B) (xs : List A) (i : ℕ) (x : A) (y : B) → slice_get xs i ≡ Some x → f x ≡ Some y → (j : ℕ) × (slice_get (filter_map f xs) j ≡ Some y)
+pub in_filter : {A B : Type 0} (f : A → Option B) (xs : List A) (i : ℕ) (x : A) (y : B) → slice_get xs i ≡ Some x → f x ≡ Some y → (j : ℕ) × (slice_get (filter_map f xs) j ≡ Some y)
 in_filter f [] i x y at is = cc
 in_filter f (z ∷ xs) zero x y at is = (0, ap (λ o. slice_get (cons_option o (filter_map f xs)) 0) (ap f (some_is z x at) ∙ is))
 in_filter f (z ∷ xs) (suc i) x y at is = by (f z) (in_filter f xs i x y at is)
@@ -89,11 +89,11 @@ listed m w v step goes =
     (at.0, get-map (λ (c : Choice). c.step) (possible m w) at.0 (record { entry = n.entry; step = step }) at.1)
 
 -- What is said of a choice that is listed
-record IsChoice (m : Machine) (w : World) (c : Choice) : Type 0 where
-  names : step_at m w c.entry ≡ Some c.step
-  goes : is_some (next_late m w c.step) ≡ true
+pub record IsChoice (m : Machine) (w : World) (c : Choice) : Type 0 where
+  pub names : step_at m w c.entry ≡ Some c.step
+  pub goes : is_some (next_late m w c.step) ≡ true
 
-is_choice : (m : Machine) (w : World) (j : ℕ) (c : Choice) → slice_get (possible m w) j ≡ Some c → IsChoice m w c
+pub is_choice : (m : Machine) (w : World) (j : ℕ) (c : Choice) → slice_get (possible m w) j ≡ Some c → IsChoice m w c
 is_choice m w j c at =
     let from = from_filter (choice_at m w) (range_with_len 0 (entry_count m w)) j c at in
     bind_then (step_at m w from.0) _ c from.1 λ step names rest.

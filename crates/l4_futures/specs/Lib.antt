@@ -1,3 +1,9 @@
 pub mod Codes
 pub mod Choices
+pub mod Traces
+pub mod Endings
 pub mod Ends
+pub mod Search
+pub mod Asked
+pub mod Stuck
+pub mod Reported

@@ -13,6 +13,7 @@ use crate::runs::{audit_of, is_right, machine_of};
 use l4_audit::audit::{Audit, AuditFault};
 use l4_audit::auditor::Auditor;
 use l4_endings::{FoundEndings, endings};
+use l4_explore::progress::Unheard;
 use l4_machine::{Entry, Outcome, RunFault, Walk, replay, run};
 use l4_mail::rests::RestFault;
 use l4_proc::gate::Open;
@@ -356,7 +357,7 @@ fn possible_steps_are_listed(rt: HostRuntime) {
 }
 
 fn search(alloc: Global, machine: &Machine) -> Result<FoundEndings, NoMemory> {
-    endings(alloc, machine, 100, 100)
+    endings(alloc, machine, 100, 100, &mut Unheard)
 }
 
 // The endings of a machine, looked for again if memory was refused.

@@ -1,6 +1,6 @@
 // What a listener hears of a search. How many states a machine has, and how deep these lie, was found
 // by a second emulator, which was written from the rules (bench/endings.py).
-use l4_endings::endings_heard;
+use l4_endings::endings;
 use l4_explore::progress::Progress;
 use l4_samples::{ACROSS, CALLS};
 use l4_script::machine::Machine;
@@ -50,7 +50,7 @@ fn hear(alloc: Global, text: &str, depth: u32) -> Option<Heard> {
         has_fallen: false,
         has_ended: false,
     };
-    endings_heard(alloc, &machine, depth, 10_000, &mut heard).ok()?;
+    endings(alloc, &machine, depth, 10_000, &mut heard).ok()?;
     Some(heard)
 }
 

@@ -19,7 +19,12 @@ use Rattle.l4_machine.specs.declared.outcome.RunFault.{RunFault}
 use Rattle.l4_schedules.specs.InFiles.{schedule_in_file}
 use Rattle.l4_schedules.specs.Items.{schedule_of}
 use Rattle.l4_commands.specs.Files.{expected_of, list_name, list_name_in}
+use Rattle.l4_commands.specs.declared.job.EndingsJob.{EndingsJob}
 use Rattle.l4_commands.specs.declared.job.Judged.{Judged}
+use Rattle.l4_commands.specs.declared.job.Scheduler.{Scheduler}
+use Rattle.l4_commands.specs.declared.job.Scheduler.TheVariants.{Any, Placed}
+use Rattle.l4_questions.specs.Limits.{question_fault}
+use Rattle.l4_questions.specs.declared.question.Question.{Question}
 use Rattle.l4_commands.specs.declared.job.Job.{Job}
 use Rattle.l4_commands.specs.declared.job.Job.TheVariants.{Run, Replay, Audit, Chart, Endings, Lint}
 use Rattle.l4_jobs.specs.Audits.{IsAudited, IsFaultOfTrace, IsPassed, IsTraceFault, tells_refusals}
@@ -29,7 +34,7 @@ use Rattle.l4_jobs.specs.Inputs.{FailsWith, IsRead, gives_one}
 use Rattle.l4_jobs.specs.Jobs.{IsAskedFault, IsDoneFor, IsDoneOn, IsFaultBehind, IsFaultFor, IsFaultOn}
 use Rattle.l4_jobs.specs.Outputs.{Output}
 use Rattle.l4_jobs.specs.Schedules.{IsReplayFault, IsScheduleFault, asked_schedule, fault_of_result, fault_of_run, named_schedule, replayed}
-use Rattle.l4_jobs.specs.Searches.{fault_of_question}
+use Rattle.l4_jobs.specs.Searches.{IsAnswerBy, IsDoneBy, fault_of_question, question_of}
 use Rattle.l4_jobs.specs.declared.fault.Fault.{Fault}
 use Rattle.l4_jobs.proofs.Spelled.{trace_right}
 
@@ -89,6 +94,19 @@ replay_right : (m : Machine) (rest : Option ℕ) (list trace : List ℕ) (r : Co
 replay_right m rest list trace r f done (inl is) = list_right m rest list trace (list_name list) r f done is
 replay_right m rest list trace r f done (inr is) = rest_right m rest list trace is.text (list_name list) r f done is.read is.faulty
 
+-- What a search is asked has no fault where it was done.
+
+answered_right : (scheduler : Scheduler) (q : Question) (m : Machine) (waits : Bool) (expected : Option (List Expected)) (lines unmet : List ℕ) (status : ℕ) →
+    IsAnswerBy scheduler m q waits expected lines unmet status → question_fault q ≡ None
+answered_right Any q m waits expected lines unmet status is = is.lawful
+answered_right Placed q m waits expected lines unmet status is = is.lawful
+
+searched_right : (trace : Option ℕ) (search : EndingsJob) (m : Machine) (expected : Option (List Expected)) (o : Output) →
+    IsDoneBy trace search m expected o → question_fault (question_of search) ≡ None
+searched_right None search m expected o is =
+    answered_right search.scheduler (question_of search) m search.waits expected o.lines o.said o.status is.answered
+searched_right (Some number) search m expected o is = is.answered.lawful
+
 -- On the machine of a text
 
 unread : (name : Option (List ℕ)) (text : List ℕ) (f : Fault) → IsSomeAnd name (λ n. FailsWith n (gives_one text) f) → ⊥
@@ -113,7 +131,7 @@ right_on (Chart chart) text m read expected o f (trace, given, s) (inl is) = abs
 right_on (Chart chart) text m read expected o f (trace, given, s) (inr (right, is)) =
     never_faulty true m chart.trace.now read s.charted.steps f (subst (λ t. IsTraceOf t s.charted.steps) (all_given read trace given) s.charted.reads) (inl refl) is
 right_on (Endings search) text m read expected o f s is =
-    absurd (let bad : None ≡ Some f = sym (ap (option_map fault_of_question) s.answered.lawful) ∙ is in cc)
+    absurd (let bad : None ≡ Some f = sym (ap (option_map fault_of_question) (searched_right search.trace search m expected o s)) ∙ is in cc)
 right_on (Lint file schedule) text m read expected o f s is = unread (list_name_in schedule) read f is
 
 -- By what is expected

@@ -9,6 +9,7 @@ pub mod Judged
 pub mod Linting
 pub mod Listed
 pub mod Performed
+mod Opening
 pub mod ReadAs
 pub mod Records
 pub mod Running

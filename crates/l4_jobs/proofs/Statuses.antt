@@ -2,14 +2,15 @@
 use Rattle.std.proofs.Common.{◌≡◌, ℕ, Bool, true, false, Option, Some, None, Result, Ok, Err, List, [], ◌∷◌, refl, ap, sym, inl, inr, ◌∙◌}
 use Rattle.std.specs.Prelude.{◌⊎◌, is_some, if◌then◌else◌}
 use Rattle.l4_model.specs.Machine.{Machine}
-use Rattle.l4_choices.specs.Entries.{Entry}
 use Rattle.l4_expect.specs.Expected.{Expected}
 use Rattle.l4_expect.specs.Unmet.{expected_status}
 use Rattle.l4_expect.specs.declared.judging.Scope.{Scope}
 use Rattle.l4_lint.specs.Faults.{Fault as LintFault, faults_of}
 use Rattle.l4_lint.specs.Spelling.{status_of}
-use Rattle.l4_questions.specs.Beside.{meets}
-use Rattle.l4_questions.specs.Printed.{answer_status, status_of_search}
+use Rattle.l4_questions.specs.Endings.{Ending as Found}
+use Rattle.l4_questions.specs.Printed.{meets, status_of_asked, status_of_search}
+use Rattle.l4_questions.specs.declared.question.Wanted.{Wanted}
+use Rattle.l4_questions.specs.declared.question.Wanted.TheVariants as wanted
 use Rattle.l4_script.specs.Texts.{machine_of_text}
 use Rattle.l4_script.specs.declared.text.fault.TextFault.{TextFault}
 use Rattle.l4_types.specs.declared.reports.Ending.{Ending}
@@ -20,6 +21,10 @@ use Rattle.l4_commands.specs.declared.job.EndingsJob.{EndingsJob}
 use Rattle.l4_commands.specs.declared.job.Job.{Job}
 use Rattle.l4_commands.specs.declared.job.Judged.{Judged}
 use Rattle.l4_commands.specs.declared.job.Job.TheVariants.{Run, Replay, Audit, Chart, Endings, Lint}
+use Rattle.l4_commands.specs.declared.job.Scheduler.{Scheduler}
+use Rattle.l4_commands.specs.declared.job.Scheduler.TheVariants.{Any, Placed}
+use Rattle.l4_commands.specs.declared.job.Wanted.{Wanted as Asked}
+use Rattle.l4_commands.specs.declared.job.Wanted.TheVariants as asked
 use Rattle.l4_jobs.specs.Audits.{IsAudited}
 use Rattle.l4_jobs.specs.ChartJobs.{status_of_refused}
 use Rattle.l4_jobs.specs.Expectations.{IsExpected, is_met_by, scope_of, status_by}
@@ -27,6 +32,7 @@ use Rattle.l4_jobs.specs.Inputs.{Gives}
 use Rattle.l4_jobs.specs.Jobs.{IsDone, IsDoneFor, IsDoneOn, IsStatusOf}
 use Rattle.l4_jobs.specs.Outputs.{Output}
 use Rattle.l4_jobs.specs.Runs.{status_of_ending}
+use Rattle.l4_jobs.specs.Searches.{IsAnswerBy, IsDoneBy, IsTraceOut, question_of, wanted_of}
 
 -- Something is expected exactly where a file is named.
 same_some : (name : Option (List ℕ)) (scope : Scope) (gives : Gives) (expected : Option (List Expected)) → IsExpected name scope gives expected →
@@ -56,29 +62,57 @@ whole_or_cut : (search : EndingsJob) (is_whole : Bool) (status : ℕ) → status
 whole_or_cut search true status is = inl is
 whole_or_cut search false status is = inr (inr (inl is))
 
-answered : (search : EndingsJob) (none : Bool) (asked : List (List Entry)) (is_whole : Bool) (status : ℕ) → search.none ≡ none →
-    status ≡ answer_status none asked is_whole → IsStatusOf (Endings search) status
-answered search false asked is_whole status asks is = whole_or_cut search is_whole status is
-answered search true [] is_whole status asks is = whole_or_cut search is_whole status is
-answered search true (e ∷ asked) is_whole status asks is = inr (inr (inr (is, inl asks)))
+wants_none : (a : Asked) → wanted_of a ≡ wanted.NoEnding → a ≡ asked.NoEnding
+wants_none asked.Whatever is = cc
+wants_none asked.NoEnding is = refl
+wants_none asked.AnEnding is = cc
 
-all_meet : (m : Machine) (asked : List (List Entry)) → list_all (meets None m) asked ≡ true
-all_meet m [] = refl
-all_meet m (e ∷ asked) = all_meet m asked
+wants_one : (a : Asked) → wanted_of a ≡ wanted.AnEnding → a ≡ asked.AnEnding
+wants_one asked.Whatever is = cc
+wants_one asked.NoEnding is = cc
+wants_one asked.AnEnding is = refl
 
-search_met : (search : EndingsJob) (met : Bool) (asked : List (List Entry)) (is_whole : Bool) (status : ℕ) → is_some (expected_of (Endings search)) ≡ true →
-    status ≡ expected_status met (answer_status search.none asked is_whole) → IsStatusOf (Endings search) status
-search_met search true asked is_whole status some is = answered search search.none asked is_whole status refl is
-search_met search false asked is_whole status some is = inr (inr (inr (is, inr some)))
+answered : (search : EndingsJob) (w : Wanted) (found : List Found) (is_whole : Bool) (status : ℕ) → wanted_of search.wanted ≡ w →
+    status ≡ status_of_asked w found is_whole → IsStatusOf (Endings search) status
+answered search wanted.Whatever found is_whole status asks is = whole_or_cut search is_whole status is
+answered search wanted.NoEnding [] is_whole status asks is = whole_or_cut search is_whole status is
+answered search wanted.NoEnding (e ∷ found) is_whole status asks is = inr (inr (inr (is, inl (inl (wants_none search.wanted asks)))))
+answered search wanted.AnEnding (e ∷ found) is_whole status asks is = inl is
+answered search wanted.AnEnding [] true status asks is = inr (inr (inr (is, inl (inr (wants_one search.wanted asks)))))
+answered search wanted.AnEnding [] false status asks is = inr (inr (inl is))
 
-search_status : (search : EndingsJob) (m : Machine) (expected : Option (List Expected)) (asked : List (List Entry)) (is_whole : Bool) (status : ℕ) →
+all_meet : (found : List Found) → list_all (meets None) found ≡ true
+all_meet [] = refl
+all_meet (e ∷ found) = all_meet found
+
+search_met : (search : EndingsJob) (met : Bool) (found : List Found) (is_whole : Bool) (status : ℕ) → is_some (expected_of (Endings search)) ≡ true →
+    status ≡ expected_status met (status_of_asked (wanted_of search.wanted) found is_whole) → IsStatusOf (Endings search) status
+search_met search true found is_whole status some is = answered search (wanted_of search.wanted) found is_whole status refl is
+search_met search false found is_whole status some is = inr (inr (inr (is, inr some)))
+
+search_status : (search : EndingsJob) (expected : Option (List Expected)) (found : List Found) (is_whole : Bool) (status : ℕ) →
     is_some expected ≡ is_some (expected_of (Endings search)) →
-    status ≡ expected_status (list_all (meets expected m) asked) (answer_status search.none asked is_whole) → IsStatusOf (Endings search) status
-search_status search m None asked is_whole status same is =
-    answered search search.none asked is_whole status refl
-    (is ∙ ap (λ all. expected_status all (answer_status search.none asked is_whole)) (all_meet m asked))
-search_status search m (Some lines) asked is_whole status same is =
-    search_met search (list_all (meets (Some lines) m) asked) asked is_whole status (sym same) is
+    status ≡ expected_status (list_all (meets expected) found) (status_of_asked (wanted_of search.wanted) found is_whole) → IsStatusOf (Endings search) status
+search_status search None found is_whole status same is =
+    answered search (wanted_of search.wanted) found is_whole status refl
+    (is ∙ ap (λ all. expected_status all (status_of_asked (wanted_of search.wanted) found is_whole)) (all_meet found))
+search_status search (Some lines) found is_whole status same is =
+    search_met search (list_all (meets (Some lines)) found) found is_whole status (sym same) is
+
+answer_status : (scheduler : Scheduler) (search : EndingsJob) (m : Machine) (expected : Option (List Expected)) (lines unmet : List ℕ) (status : ℕ) →
+    is_some expected ≡ is_some (expected_of (Endings search)) →
+    IsAnswerBy scheduler m (question_of search) search.waits expected lines unmet status → IsStatusOf (Endings search) status
+answer_status Any search m expected lines unmet status same is = search_status search expected _ _ status same is.told.status_is
+answer_status Placed search m expected lines unmet status same is = search_status search expected _ _ status same is.told.status_is
+
+trace_status : (search : EndingsJob) (trace : Option (List ℕ)) (o : Output) → IsTraceOut trace o → IsStatusOf (Endings search) o.status
+trace_status search (Some lines) o (printed, said, zero) = inl zero
+trace_status search None o (printed, said, one) = inr (inl one)
+
+done_by : (trace : Option ℕ) (search : EndingsJob) (m : Machine) (expected : Option (List Expected)) (o : Output) →
+    is_some expected ≡ is_some (expected_of (Endings search)) → IsDoneBy trace search m expected o → IsStatusOf (Endings search) o.status
+done_by None search m expected o same is = answer_status search.scheduler search m expected o.lines o.said o.status same is.answered
+done_by (Some number) search m expected o same is = trace_status search is.trace o is.out
 
 -- Of what a trace or a lint tells
 
@@ -107,7 +141,7 @@ status_on (Replay file schedule rest printed name) text m second expected o same
 status_on (Audit file name judged) text m second expected o same (trace, given, is) =
     audit_status (Audit file name judged) judged m trace o.lines o.status is.audited
 status_on (Chart chart) text m second expected o same (trace, given, is) = chart_status (Chart chart) _ o.status is.charted.status_is
-status_on (Endings search) text m second expected o same is = search_status search m expected _ _ o.status same is.answered.status_is
+status_on (Endings search) text m second expected o same is = done_by search.trace search m expected o same is
 status_on (Lint file schedule) text m second expected o same (list, reads, is) = list_status (Lint file schedule) _ o.status is.status_is
 
 status_for : (job : Job) (text : List ℕ) (d : Result Machine TextFault) (second expects : Gives) (o : Output) → IsDoneFor job text d second expects o →

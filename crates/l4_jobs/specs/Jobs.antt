@@ -12,6 +12,7 @@ use Rattle.l4_commands.specs.Files.{expected_of, file_of, list_name, list_name_i
 use Rattle.l4_commands.specs.declared.job.Job.{Job}
 use Rattle.l4_commands.specs.declared.job.Job.TheVariants.{Run, Replay, Audit, Chart, Endings, Lint}
 use Rattle.l4_commands.specs.declared.job.Printed.{Printed}
+use Rattle.l4_commands.specs.declared.job.Wanted.TheVariants.{NoEnding, AnEnding}
 use Rattle.l4_jobs.specs.Audits.{IsAuditDone, IsTraceFault, tells_refusals}
 use Rattle.l4_jobs.specs.ChartJobs.{IsChartDone, IsChartFault}
 use Rattle.l4_jobs.specs.Expectations.{IsExpected, fault_of_expect, scope_of}
@@ -110,17 +111,17 @@ IsFault job machine second expects f =
     ⊎ ((text : List ℕ) × machine (Ok text)
     × IsFaultFor job (machine_of_text text) second expects f)
 
--- The exit statuses. 4 stands for an ending that should not exist, or for an expectation that does
--- not hold.
+-- The exit statuses. 4 stands for an ending that should not exist, or for none where one should, or
+-- for an expectation that does not hold.
 
-abbrev pub IsNoneAsked : Job → Type 0
-IsNoneAsked (Endings search) = search.none ≡ true
-IsNoneAsked _ = ⊥
+abbrev pub IsWanted : Job → Type 0
+IsWanted (Endings search) = (search.wanted ≡ NoEnding) ⊎ (search.wanted ≡ AnEnding)
+IsWanted _ = ⊥
 
 abbrev pub IsStatusOf : Job → (status : ℕ) → Type 0
 IsStatusOf job status =
     (status ≡ 0) ⊎ (status ≡ 1) ⊎ (status ≡ 3)
-    ⊎ ((status ≡ 4) × (IsNoneAsked job ⊎ (is_some (expected_of job) ≡ true)))
+    ⊎ ((status ≡ 4) × (IsWanted job ⊎ (is_some (expected_of job) ≡ true)))
 
 -- The lines of a run or a replay are of findings that are true of its machine, and so is the status.
 -- Nothing here names a run of processors.

@@ -1,17 +1,30 @@
 -- What a search for all endings is asked, what it prints, and its faults.
-use Rattle.std.specs.Prelude.{◌≡◌, Option, None, List}
+use Rattle.std.specs.Prelude.{◌≡◌, ℕ, Bool, Option, None, Some, List, []}
 use Rattle.std.specs.Option.{option_map}
 use Rattle.l4_model.specs.Machine.{Machine}
 use Rattle.l4_expect.specs.Expected.{Expected}
-use Rattle.l4_questions.specs.Answers.{question_fault}
-use Rattle.l4_questions.specs.Beside.{IsAnsweredBeside}
+use Rattle.l4_questions.specs.Answers.{IsAnswer, IsTraceAnswer}
+use Rattle.l4_questions.specs.Limits.{question_fault}
+use Rattle.l4_questions.specs.Placed.{IsPlacedAnswer}
 use Rattle.l4_questions.specs.declared.question.Question.{Question}
 use Rattle.l4_questions.specs.declared.question.QuestionFault.{QuestionFault}
 use Rattle.l4_questions.specs.declared.question.QuestionFault.TheVariants as question
+use Rattle.l4_questions.specs.declared.question.Wanted.{Wanted}
+use Rattle.l4_questions.specs.declared.question.Wanted.TheVariants as wanted
 use Rattle.l4_commands.specs.declared.job.EndingsJob.{EndingsJob}
+use Rattle.l4_commands.specs.declared.job.Scheduler.{Scheduler}
+use Rattle.l4_commands.specs.declared.job.Scheduler.TheVariants.{Any, Placed}
+use Rattle.l4_commands.specs.declared.job.Wanted.{Wanted as Asked}
+use Rattle.l4_commands.specs.declared.job.Wanted.TheVariants as asked
+use Rattle.l4_jobs.specs.FaultLines.{fault_line}
 use Rattle.l4_jobs.specs.Outputs.{Output}
 use Rattle.l4_jobs.specs.declared.fault.Fault.{Fault}
 use Rattle.l4_jobs.specs.declared.fault.Fault.TheVariants as fault
+
+abbrev pub wanted_of : Asked → Wanted
+wanted_of asked.Whatever = wanted.Whatever
+wanted_of asked.NoEnding = wanted.NoEnding
+wanted_of asked.AnEnding = wanted.AnEnding
 
 abbrev pub question_of : EndingsJob → Question
 question_of e = record {
@@ -20,16 +33,45 @@ question_of e = record {
   stuck = e.stuck;
   with_line = e.with_line;
   never = e.never;
-  none = e.none;
+  wanted = wanted_of e.wanted;
 }
 
--- The answer is printed, and behind each ending who waits for whom, where that is asked for. Each
--- ending that is printed has to meet what is expected.
-pub record IsSearchDone (search : EndingsJob) (m : Machine) (expected : Option (List Expected))
+-- The answer is of all histories, or of the runs that processors make.
+abbrev pub IsAnswerBy : Scheduler → Machine → Question → (waits : Bool) →
+    Option (List Expected) → (lines unmet : List ℕ) → (status : ℕ) → Type 0
+IsAnswerBy Any = IsAnswer
+IsAnswerBy Placed = IsPlacedAnswer
+
+-- It is printed, and behind each ending who waits for whom, where that is asked for. Each ending
+-- that is printed has to meet what is expected.
+pub record IsAnswerDone (search : EndingsJob) (m : Machine) (expected : Option (List Expected))
     (o : Output) : Type 0 where
   pub answered :
-      IsAnsweredBeside m (question_of search) search.waits expected o.lines o.said o.status
+      IsAnswerBy search.scheduler m (question_of search) search.waits expected o.lines o.said
+      o.status
   pub unrecorded : o.list ≡ None
+
+-- A trace is printed, or else it is told that no ending has the number.
+abbrev pub IsTraceOut : (trace : Option (List ℕ)) → Output → Type 0
+IsTraceOut (Some trace) o = (o.lines ≡ trace) × (o.said ≡ []) × (o.status ≡ 0)
+IsTraceOut None o = (o.lines ≡ []) × (o.said ≡ fault_line fault.Ending) × (o.status ≡ 1)
+
+-- The trace of the ending that the answer of all histories gives this number is printed in place of
+-- all else.
+pub record IsTraceDone (search : EndingsJob) (m : Machine) (number : ℕ) (o : Output) :
+    Type 0 where
+  pub trace : Option (List ℕ)
+  pub answered : IsTraceAnswer m (question_of search) number trace
+  pub out : IsTraceOut trace o
+  pub unrecorded : o.list ≡ None
+
+abbrev pub IsDoneBy : (trace : Option ℕ) → EndingsJob → Machine → Option (List Expected) →
+    Output → Type 0
+IsDoneBy None search m expected o = IsAnswerDone search m expected o
+IsDoneBy (Some number) search m expected o = IsTraceDone search m number o
+
+abbrev pub IsSearchDone : EndingsJob → Machine → Option (List Expected) → Output → Type 0
+IsSearchDone search m expected o = IsDoneBy search.trace search m expected o
 
 abbrev pub fault_of_question : QuestionFault → Fault
 fault_of_question question.NoMemory = fault.NoMemory

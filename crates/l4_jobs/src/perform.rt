@@ -106,7 +106,7 @@ fn perform_over<
 /// 0: a run came to rest, a trace passed or was drawn whole, a search was whole, or a text has no
 /// fault.
 /// 3: a run did not come to rest, or a search was cut.
-/// 4: a search found what it should not.
+/// 4: a search found what it should not, or did not find what it should.
 /// 1: a fault was reported, or a lint printed one.
 ///
 /// The machine text is judged before the trace is read. An audit and a chart read a trace, and a

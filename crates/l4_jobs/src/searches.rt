@@ -2,19 +2,32 @@
 ghost use Rattle.std.specs.Prelude.{◌≡◌, ◌⊎◌, IfOk, IfErr, Some};
 ghost use Rattle.std.specs.Option.{option_copied};
 ghost use Rattle.l4_jobs.specs.Outputs.{output_of};
-ghost use Rattle.l4_jobs.specs.Searches.{IsSearchDone, fault_of_search, question_of};
+ghost use Rattle.l4_jobs.specs.Searches.{IsAnswerBy, IsAnswerDone, IsSearchDone, IsTraceDone};
+ghost use Rattle.l4_jobs.specs.Searches.{fault_of_search, question_of, wanted_of};
 ghost use Rattle.l4_jobs.specs.declared.fault.Fault.TheVariants.{NoMemory as OutOfMemory};
+ghost use Rattle.l4_questions.specs.Limits.{question_fault};
+ghost use Rattle.l4_questions.specs.declared.question.QuestionFault.TheVariants.{NoMemory as NoMemoryFor};
 
 use crate::done::Done;
-use crate::fault::Fault;
-use crate::job::EndingsJob;
+use crate::fault::{Fault, line_of};
+use crate::job::{EndingsJob, Scheduler, Wanted as Asked};
 use l4_expect::expectations::Expectations;
 use l4_explore::progress::Progress;
-use l4_questions::answers_beside;
 use l4_questions::beside::Beside;
-use l4_questions::question::Question;
+use l4_questions::question::{Question, QuestionFault, Wanted};
+use l4_questions::{Answer, answer, asked_trace, placed_answer};
 use l4_script::machine::Machine;
 use std::alloc::Global;
+
+fn wanted_of(asked: Asked) -> Wanted
+    ensures { result ≡ wanted_of asked }
+{
+    match asked {
+        Asked::Whatever => Wanted::Whatever,
+        Asked::NoEnding => Wanted::NoEnding,
+        Asked::AnEnding => Wanted::AnEnding,
+    }
+}
 
 pub(crate) fn question_of<'a>(search: &EndingsJob<'a>) -> Question<'a>
     ensures { result ≡ question_of search.now }
@@ -25,7 +38,92 @@ pub(crate) fn question_of<'a>(search: &EndingsJob<'a>) -> Question<'a>
         stuck: search.stuck,
         with_line: search.with_line,
         never: search.never,
-        none: search.none,
+        wanted: wanted_of(search.wanted),
+    }
+}
+
+// The answer of all histories, or of the runs that processors make.
+fn answer_by<P: Progress>(
+    alloc: Global,
+    machine: &Machine,
+    scheduler: Scheduler,
+    question: &Question<'_>,
+    beside: Beside<'_, '_>,
+    progress: &mut P,
+) -> Result<Answer, QuestionFault>
+    ensures ok { IfOk result (λ answer. IsAnswerBy scheduler machine.now question.now
+        beside.entry.waits (option_copied beside.entry.expected) answer.lines.items
+        answer.unmet.items answer.status) }
+    ensures err { IfErr result (λ fault. (fault ≡ NoMemoryFor) ⊎
+        (question_fault question.now ≡ Some fault)) }
+{
+    match scheduler {
+        Scheduler::Any => answer(alloc, machine, question, beside, progress),
+        Scheduler::Placed => placed_answer(alloc, machine, question, beside, progress),
+    }
+}
+
+// What a search comes to that prints the endings that are asked for.
+fn answer_done<'a, P: Progress>(
+    alloc: Global,
+    machine: &Machine,
+    search: &EndingsJob<'_>,
+    expected: Option<&Expectations<'_>>,
+    progress: &mut P,
+) -> Result<Done<'a>, Fault<'a>>
+    ensures ok { IfOk result (λ done.
+        IsAnswerDone search.now machine.now (option_copied expected.entry) (output_of done)) }
+    ensures err { IfErr result (λ fault. (fault ≡ OutOfMemory) ⊎
+        (fault_of_search search.now ≡ Some fault)) }
+{
+    let question = question_of(search);
+    let beside = Beside {
+        waits: search.waits,
+        expected,
+    };
+    let answer = answer_by(
+        alloc,
+        machine,
+        search.scheduler,
+        &question,
+        beside,
+        progress,
+    )?;
+    Ok(Done {
+        lines: answer.lines,
+        list: None,
+        said: answer.unmet,
+        status: answer.status,
+    })
+}
+
+// What a search comes to that prints the trace of one ending.
+fn trace_done<'a, P: Progress>(
+    alloc: Global,
+    machine: &Machine,
+    search: &EndingsJob<'_>,
+    number: u64,
+    progress: &mut P,
+) -> Result<Done<'a>, Fault<'a>>
+    ensures ok { IfOk result (λ done.
+        IsTraceDone search.now machine.now number (output_of done)) }
+    ensures err { IfErr result (λ fault. (fault ≡ OutOfMemory) ⊎
+        (fault_of_search search.now ≡ Some fault)) }
+{
+    let question = question_of(search);
+    match asked_trace(alloc, machine, &question, number, progress)? {
+        Some(lines) => Ok(Done {
+            lines,
+            list: None,
+            said: Vec::new(alloc),
+            status: 0,
+        }),
+        None => Ok(Done {
+            lines: Vec::new(alloc),
+            list: None,
+            said: line_of(alloc, &Fault::Ending)?,
+            status: 1,
+        }),
     }
 }
 
@@ -42,16 +140,8 @@ pub(crate) fn search_done<'a, P: Progress>(
     ensures err { IfErr result (λ fault. (fault ≡ OutOfMemory) ⊎
         (fault_of_search search.now ≡ Some fault)) }
 {
-    let question = question_of(search);
-    let beside = Beside {
-        waits: search.waits,
-        expected,
-    };
-    let answer = answers_beside(alloc, machine, &question, beside, progress)?;
-    Ok(Done {
-        lines: answer.lines,
-        list: None,
-        said: answer.unmet,
-        status: answer.status,
-    })
+    match search.trace {
+        None => answer_done(alloc, machine, search, expected, progress),
+        Some(number) => trace_done(alloc, machine, search, number, progress),
+    }
 }

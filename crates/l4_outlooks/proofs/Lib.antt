@@ -1,1 +1,9 @@
+pub mod Choosing
+pub mod Coding
+pub mod Counting
+pub mod Falling
 pub mod Homes
+pub mod Leading
+pub mod Opening
+pub mod Sparing
+pub mod Taking

@@ -1,1 +1,4 @@
 pub mod Touches
+pub mod Standing
+pub mod Foreseen
+pub mod Named

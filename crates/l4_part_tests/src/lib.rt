@@ -3,7 +3,8 @@
 //!
 //! Most are rows of text that drive one processor by hand: lawful and unlawful letters, sessions of
 //! several processors, retargets, clocks and stamps at 2^62. The others try ports, histories,
-//! values, texts and traces. `refused` marks calls in which bench/refusals.sh refuses memory.
+//! values, texts, traces, and a search that leaves out choices. `refused` marks calls in which
+//! bench/refusals.sh refuses memory.
 //!
 //! What a contract says needs no test. These tests show what no contract says: that a call succeeds
 //! if memory is ample, and that a definition says what was meant.
@@ -13,6 +14,8 @@
 //! ```
 #![tactic(auto)]
 
+#[cfg(test)]
+mod counters;
 #[cfg(test)]
 mod histories;
 #[cfg(test)]

@@ -21,7 +21,8 @@ use Rattle.l4_split.specs.Laws.{home_thread, thread_of}
 use Rattle.l4_split.proofs.Law.{RunFacts, run_facts}
 use Rattle.l4_in_common.specs.InCommon.{AreDeleted, AreToldAlike, HaveInCommon, thread_at}
 use Rattle.l4_in_common.proofs.InCommon.{in_common}
-use Rattle.l4_questions.specs.Asked.{has_closed_receive, is_closed, is_closed_at, is_stuck_after, sends_after, sends_in}
+use Rattle.l4_futures.specs.Stuck.{is_closed}
+use Rattle.l4_questions.specs.Placed.{has_closed_receive, is_closed_at, is_stuck_after, sends_after, sends_in}
 use Rattle.l4_questions.proofs.Begun.{Has, is_listed, is_pending}
 
 -- A receive is closed by who it is from, and not by when it began.

@@ -2,9 +2,15 @@ pub mod Following
 pub mod Printing
 pub mod Telling
 pub mod Sharing
+pub mod Listing
+pub mod Audited
+pub mod Counting
 mod Begun
 mod Alike
 mod Fits
 mod Texts
 mod Lines
+mod Statuses
 mod OfAll
+mod AllHistories
+mod Quiet

@@ -19,7 +19,8 @@ use Rattle.l4_lines.specs.Lines.{fault_of_words, fits, has_line, line_fault}
 use Rattle.l4_lines.specs.declared.lines.LineFault.{LineFault}
 use Rattle.l4_types.specs.declared.reports.Ending.{Ending}
 use Rattle.l4_reports.specs.ReportLines.{ending_at_rest, ending_line, report_text, shown_registers, state_word, thread_line, waiting_line}
-use Rattle.l4_questions.specs.Asked.{has_asked, lacks_asked, report_of_run, sends_after, sends_in, threads_in, world_after}
+use Rattle.l4_questions.specs.Asked.{has_asked, lacks_asked}
+use Rattle.l4_questions.specs.Placed.{report_of_run, sends_after, sends_in, threads_in, world_after}
 use Rattle.l4_questions.specs.Runs.{IsSpelled, are_whole_words, may_ask, thread_words, waiting_words}
 use Rattle.l4_questions.proofs.Alike.{AreCommon, HasLike, IsLike, waits_too}
 use Rattle.l4_questions.proofs.Begun.{Has}

@@ -1,5 +1,5 @@
 -- What is asked of the endings that were found is asked of all core runs that come to rest.
-use Rattle.std.proofs.Common.{◌≡◌, ℕ, zero, suc, ◌<◌, Bool, true, false, cond, Option, Some, None, List, [], ◌∷◌, ◌++◌, length, refl, ap, ap₂, sym, subst, ◌∙◌, arith}
+use Rattle.std.proofs.Common.{◌≡◌, ℕ, zero, suc, ◌<◌, Bool, true, false, cond, Option, Some, None, List, [], ◌∷◌, ◌++◌, length, map, refl, ap, ap₂, sym, subst, ◌∙◌, arith}
 use Rattle.std.specs.Prelude.{◌&&◌, filter}
 use Rattle.std.specs.List.{AllByRecursion, list_all}
 use Rattle.std.specs.Option.{option_copied}
@@ -14,12 +14,15 @@ use Rattle.l4_shifted.specs.Shifted.{IsShifted}
 use Rattle.l4_states.specs.Endings.{AreAllEndings, IsEnding, ending_at, led}
 use Rattle.l4_expect.specs.Expected.{Expected}
 use Rattle.l4_expect.specs.Unmet.{expected_status}
-use Rattle.l4_questions.specs.Answers.{IsAnswered, IsSearched}
-use Rattle.l4_questions.specs.Asked.{asked_of, has_asked, if_stuck, is_asked, is_asked_after, is_stuck_after, lacks_asked, report_of_run}
-use Rattle.l4_questions.specs.Beside.{IsAnsweredBeside, meets}
-use Rattle.l4_questions.specs.Printed.{answer_status}
+use Rattle.l4_questions.specs.Asked.{asked_of, has_asked, if_stuck, is_asked, lacks_asked}
+use Rattle.l4_questions.specs.Endings.{Ending}
+use Rattle.l4_questions.specs.Placed.{is_asked_after, is_stuck_after, placed_ending, placed_endings, report_of_run, ArePlaced, IsPlacedAnswer}
+use Rattle.l4_questions.specs.Printed.{answer_status, meets, status_of_asked}
 use Rattle.l4_questions.specs.Runs.{AreSpelled, AsksForLines, AsksNoLine, ComesToRest, IsSpelled, StandsFor}
 use Rattle.l4_questions.specs.declared.question.Question.{Question}
+use Rattle.l4_questions.specs.declared.question.Wanted.{Wanted}
+use Rattle.l4_questions.specs.declared.question.Wanted.TheVariants.{NoEnding}
+use Rattle.l4_questions.proofs.Statuses.{IsWholeAndEmpty, by_status}
 use Rattle.l4_questions.proofs.Alike.{AreCommon, are_common, stuck_alike}
 use Rattle.l4_questions.proofs.Lines.{has_alike, lacks_alike}
 
@@ -56,15 +59,15 @@ at_place P (e ∷ es) zero inside all = all.0
 at_place P (e ∷ es) (suc i) inside all = at_place P es i (omega (arith, inside)) all.1
 
 -- What a list without such elements has is not such.
-none_such : (p : List Entry → Bool) (endings : List (List Entry)) (i : ℕ) → i < length endings →
-    filter p endings ≡ [] → p (ending_at endings i) ≡ false
-none_such p [] i inside none = absurd (omega (arith, inside))
-none_such p (e ∷ es) i inside none = by i inside (p e) refl none (none_such p es)
+none_such : (f : List Entry → Ending) (p : Ending → Bool) (endings : List (List Entry)) (i : ℕ) →
+    i < length endings → filter p (map f endings) ≡ [] → p (f (ending_at endings i)) ≡ false
+none_such f p [] i inside none = absurd (omega (arith, inside))
+none_such f p (e ∷ es) i inside none = by i inside (p (f e)) refl none (none_such f p es)
   where
-    by : (i : ℕ) → i < suc (length es) → (b : Bool) → p e ≡ b →
-        cond b (e ∷ filter p es) (filter p es) ≡ [] →
-        ((i : ℕ) → i < length es → filter p es ≡ [] → p (ending_at es i) ≡ false) →
-        p (ending_at (e ∷ es) i) ≡ false
+    by : (i : ℕ) → i < suc (length es) → (b : Bool) → p (f e) ≡ b →
+        cond b (f e ∷ filter p (map f es)) (filter p (map f es)) ≡ [] →
+        ((i : ℕ) → i < length es → filter p (map f es) ≡ [] → p (f (ending_at es i)) ≡ false) →
+        p (f (ending_at (e ∷ es) i)) ≡ false
     by i inside true is none rest = cc
     by zero inside false is none rest = is
     by (suc i) inside false is none rest = rest i (omega (arith, inside)) none
@@ -95,7 +98,7 @@ stands_by : (m : Machine) (q : Question) (endings : List (List Entry)) (depth : 
     ((i : ℕ) → i < length endings → IsShifted (led m (ending_at endings i)) r.system →
     at_rest m (led m (ending_at endings i)) ≡ true →
     AreCommon m (replay_entries m (ending_at endings i)) r →
-    is_asked m q (ending_at endings i) ≡ is_asked_after m q r) →
+    is_asked q (placed_ending m (ending_at endings i)) ≡ is_asked_after m q r) →
     StandsFor m q endings r
 stands_by m q endings depth machine all r run alike =
     let among = all.whole refl r.system (length run.actions)
@@ -140,77 +143,45 @@ lines_stand_for m q endings depth machine may all spelled r run told =
     (lacks_alike m s r common both its told (option_copied q.never) may.never))
 
 pub none_asked : (m : Machine) (q : Question) (endings : List (List Entry)) (r : Run) →
-    asked_of m q endings ≡ [] → StandsFor m q endings r → is_asked_after m q r ≡ false
+    asked_of q (placed_endings m endings) ≡ [] → StandsFor m q endings r →
+    is_asked_after m q r ≡ false
 none_asked m q endings r none s =
-    sym s.asked ∙ none_such (is_asked m q) endings s.place s.inside none
+    sym s.asked ∙ none_such (placed_ending m) (is_asked q) endings s.place s.inside none
 
 -- Status 0 where no such ending should exist
 
-record IsWholeAndEmpty (asked : List (List Entry)) (is_whole : Bool) : Type 0 where
-  none : asked ≡ []
-  whole : is_whole ≡ true
-
-by_status : (asked : List (List Entry)) (is_whole : Bool) → 0 ≡ answer_status true asked is_whole →
-    IsWholeAndEmpty asked is_whole
-by_status [] true is = record { none = refl; whole = refl }
-by_status [] false is = absurd (omega (arith, is))
-by_status (e ∷ endings) is_whole is = absurd (omega (arith, is))
-
-met_status : (met : Bool) (status : ℕ) → 0 ≡ expected_status met status → 0 ≡ status
-met_status true status is = is
-met_status false status is = absurd (omega (arith, is))
-
 pub searched_none : (m : Machine) (q : Question) (endings : List (List Entry)) (states depth : ℕ)
-    (is_whole : Bool) → IsMachine m → AsksNoLine q → q.none ≡ true →
-    IsSearched m q endings states depth is_whole →
-    0 ≡ answer_status q.none (asked_of m q endings) is_whole →
+    (is_whole : Bool) → IsMachine m → AsksNoLine q →
+    ArePlaced m q endings states depth is_whole →
+    IsWholeAndEmpty (asked_of q (placed_endings m endings)) is_whole →
     (r : Run) → ComesToRest m r → is_asked_after m q r ≡ false
-searched_none m q endings states depth is_whole machine lines none searched status r run =
-    let is = by_status (asked_of m q endings) is_whole
-    (status ∙ ap (λ (b : Bool). answer_status b (asked_of m q endings) is_whole) none) in
+searched_none m q endings states depth is_whole machine lines searched is r run =
     none_asked m q endings r is.none
     (stands_for m q endings depth machine lines
     (subst (AreAllEndings m endings depth) is.whole searched.all) r run)
 
-pub answered_none : (m : Machine) (q : Question) (lines : List ℕ) → IsMachine m → AsksNoLine q →
-    q.none ≡ true → IsAnswered m q lines 0 → (r : Run) → ComesToRest m r →
+pub placed_none : (m : Machine) (q : Question) (waits : Bool) (expected : Option (List Expected))
+    (lines unmet : List ℕ) → IsMachine m → AsksNoLine q → q.wanted ≡ NoEnding →
+    IsPlacedAnswer m q waits expected lines unmet 0 → (r : Run) → ComesToRest m r →
     is_asked_after m q r ≡ false
-answered_none m q lines machine no_line none a =
-    searched_none m q a.endings a.states a.depth a.is_whole machine no_line none a.searched
-    a.status_is
-
-pub beside_none : (m : Machine) (q : Question) (waits : Bool) (expected : Option (List Expected))
-    (lines unmet : List ℕ) → IsMachine m → AsksNoLine q → q.none ≡ true →
-    IsAnsweredBeside m q waits expected lines unmet 0 → (r : Run) → ComesToRest m r →
-    is_asked_after m q r ≡ false
-beside_none m q waits expected lines unmet machine no_line none a =
-    searched_none m q a.endings a.states a.depth a.is_whole machine no_line none a.searched
-    (met_status (list_all (meets expected m) (asked_of m q a.endings))
-    (answer_status q.none (asked_of m q a.endings) a.is_whole) a.status_is)
+placed_none m q waits expected lines unmet machine no_line none a =
+    searched_none m q a.endings a.states a.depth a.is_whole machine no_line a.searched
+    (by_status q expected (placed_endings m a.endings) a.is_whole none a.told.status_is)
 
 pub lines_none : (m : Machine) (q : Question) (endings : List (List Entry)) (states depth : ℕ)
-    (is_whole : Bool) → IsMachine m → AsksForLines q → q.none ≡ true →
-    IsSearched m q endings states depth is_whole →
-    0 ≡ answer_status q.none (asked_of m q endings) is_whole → AreSpelled m endings →
+    (is_whole : Bool) → IsMachine m → AsksForLines q →
+    ArePlaced m q endings states depth is_whole →
+    IsWholeAndEmpty (asked_of q (placed_endings m endings)) is_whole → AreSpelled m endings →
     (r : Run) → ComesToRest m r → IsSpelled m r → is_asked_after m q r ≡ false
-lines_none m q endings states depth is_whole machine lines none searched status spelled r run told =
-    let is = by_status (asked_of m q endings) is_whole
-    (status ∙ ap (λ (b : Bool). answer_status b (asked_of m q endings) is_whole) none) in
+lines_none m q endings states depth is_whole machine lines searched is spelled r run told =
     none_asked m q endings r is.none
     (lines_stand_for m q endings depth machine lines
     (subst (AreAllEndings m endings depth) is.whole searched.all) spelled r run told)
 
-pub answered_lines : (m : Machine) (q : Question) (lines : List ℕ) → IsMachine m →
-    AsksForLines q → q.none ≡ true → (a : IsAnswered m q lines 0) → AreSpelled m a.endings →
+pub placed_lines : (m : Machine) (q : Question) (waits : Bool) (expected : Option (List Expected))
+    (lines unmet : List ℕ) → IsMachine m → AsksForLines q → q.wanted ≡ NoEnding →
+    (a : IsPlacedAnswer m q waits expected lines unmet 0) → AreSpelled m a.endings →
     (r : Run) → ComesToRest m r → IsSpelled m r → is_asked_after m q r ≡ false
-answered_lines m q lines machine may none a =
-    lines_none m q a.endings a.states a.depth a.is_whole machine may none a.searched a.status_is
-
-pub beside_lines : (m : Machine) (q : Question) (waits : Bool) (expected : Option (List Expected))
-    (lines unmet : List ℕ) → IsMachine m → AsksForLines q → q.none ≡ true →
-    (a : IsAnsweredBeside m q waits expected lines unmet 0) → AreSpelled m a.endings →
-    (r : Run) → ComesToRest m r → IsSpelled m r → is_asked_after m q r ≡ false
-beside_lines m q waits expected lines unmet machine may none a =
-    lines_none m q a.endings a.states a.depth a.is_whole machine may none a.searched
-    (met_status (list_all (meets expected m) (asked_of m q a.endings))
-    (answer_status q.none (asked_of m q a.endings) a.is_whole) a.status_is)
+placed_lines m q waits expected lines unmet machine may none a =
+    lines_none m q a.endings a.states a.depth a.is_whole machine may a.searched
+    (by_status q expected (placed_endings m a.endings) a.is_whole none a.told.status_is)

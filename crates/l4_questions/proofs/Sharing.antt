@@ -3,7 +3,7 @@ use Rattle.std.proofs.Common.{◌≡◌, ℕ, ◌≤◌, ◌-◌, Bool, true, fa
 use Rattle.std.specs.Prelude.{◌||◌}
 use Rattle.std.proofs.lemmas.List.{take_all}
 use Rattle.l4_model.specs.Machine.{Declaration}
-use Rattle.l4_questions.specs.Printed.{has_thread_on, share_processor}
+use Rattle.l4_questions.specs.Placed.{has_thread_on, share_processor}
 
 -- All but the first of these, as a slice has them.
 abbrev others : List Declaration → List Declaration

@@ -1,6 +1,11 @@
 pub mod Answers
 pub mod Asked
-pub mod Beside
+pub mod Endings
+pub mod Limits
+pub mod Placed
 pub mod Printed
+pub mod Quiet
 pub mod Runs
 pub mod Shown
+pub mod Waiting
+pub mod Writing

@@ -1,75 +1,84 @@
--- What is printed of endings, and the exit status.
-use Rattle.std.specs.Prelude.{Bool, true, false, ◌+◌, ◌==◌, ◌||◌, ℕ, List, [], ◌∷◌, ◌++◌, codes, decimal}
-use Rattle.std.specs.List.{list_any}
-use Rattle.l4_model.specs.Machine.{Declaration, Machine}
-use Rattle.l4_choices.specs.Entries.{Entry}
-use Rattle.l4_schedules.specs.Written.{schedule_text}
+-- What is printed of endings, what of them is not met, and the exit status.
+use Rattle.std.specs.Prelude.{Bool, true, false, ◌≡◌, ◌+◌, ℕ, if◌then◌else◌, Option, None, Some, List, [], ◌∷◌, ◌++◌, codes, decimal}
+use Rattle.std.specs.List.{list_all}
+use Rattle.l4_expect.specs.Expected.{Expected}
+use Rattle.l4_expect.specs.Unmet.{are_met, expected_status, unmet_text}
 use Rattle.l4_words.specs.Lines.{line_of_words}
-use Rattle.l4_questions.specs.Asked.{asked_of, report_after}
+use Rattle.l4_questions.specs.Asked.{asked_of}
+use Rattle.l4_questions.specs.Endings.{Ending}
 use Rattle.l4_questions.specs.declared.question.Question.{Question}
+use Rattle.l4_questions.specs.declared.question.Wanted.{Wanted}
+use Rattle.l4_questions.specs.declared.question.Wanted.TheVariants.{Whatever, NoEnding, AnEnding}
 
--- The list of a schedule is one word. An empty schedule has no word.
-abbrev pub list_words : List Entry → List (List ℕ)
-list_words [] = []
-list_words (e ∷ entries) = schedule_text (e ∷ entries) ∷ []
+-- The first line of an ending has its number.
+abbrev pub head_line : (number : ℕ) → Ending → List ℕ
+head_line number e = line_of_words (codes "ending" ∷ decimal number ∷ e.head)
 
-abbrev pub head_line : (number : ℕ) → List Entry → List ℕ
-head_line number entries = line_of_words (codes "ending" ∷ decimal number ∷ list_words entries)
+-- Then comes its report, and who waits for whom, where that is asked for.
+abbrev pub ending_text : (waits : Bool) → (number : ℕ) → Ending → List ℕ
+ending_text waits number e =
+    head_line number e ++ (e.report ++ (if waits then e.waits else []))
 
--- An ending: its number and its schedule, and then its report.
-abbrev pub ending_text : Machine → (number : ℕ) → List Entry → List ℕ
-ending_text m number entries = head_line number entries ++ report_after m entries
+-- The texts of endings in order, numbered from this one on.
+abbrev pub numbered_text : (text_of : (number : ℕ) → Ending → List ℕ) → (number : ℕ) →
+    List Ending → List ℕ
+numbered_text text_of number [] = []
+numbered_text text_of number (e ∷ endings) =
+    text_of number e ++ numbered_text text_of (number + 1) endings
 
--- Endings in order, numbered from this one on.
-abbrev pub endings_text : Machine → (number : ℕ) → List (List Entry) → List ℕ
-endings_text m number [] = []
-endings_text m number (e ∷ endings) =
-    ending_text m number e ++ endings_text m (number + 1) endings
+abbrev pub endings_text : (waits : Bool) → Question → List Ending → List ℕ
+endings_text waits q endings = numbered_text (ending_text waits) 1 (asked_of q endings)
 
--- One of these threads is on this processor, and some two of them share one.
+-- Of an ending that does not meet what is expected of its report there is its first line, and then
+-- a line for each expectation that does not hold.
 
-abbrev pub has_thread_on : (cpu : ℕ) → List Declaration → Bool
-has_thread_on cpu threads = list_any (λ (d : Declaration). d.cpu == cpu) threads
+abbrev pub meets : Option (List Expected) → Ending → Bool
+meets None e = true
+meets (Some expected) e = are_met e.report expected
 
-abbrev pub share_processor : List Declaration → Bool
-share_processor [] = false
-share_processor (d ∷ threads) = has_thread_on d.cpu threads || share_processor threads
+abbrev pub told_unmet : List Expected → (number : ℕ) → Ending → List ℕ
+told_unmet expected number e = head_line number e ++ unmet_text e.report expected
 
--- The last words of a search. Where it is whole there are no more endings, of the runs in which each
--- tick goes to the least deadline of its processor, and threads that share a processor take their
--- turns in one order.
+abbrev pub unmet_of : Option (List Expected) → (number : ℕ) → Ending → List ℕ
+unmet_of None number e = []
+unmet_of (Some expected) number e =
+    if are_met e.report expected then [] else told_unmet expected number e
 
-abbrev pub whole_words : (in_turn : Bool) → List ℕ
-whole_words false = codes "whole, least ticks"
-whole_words true = codes "whole, least ticks, in turn"
+abbrev pub all_unmet : Option (List Expected) → Question → List Ending → List ℕ
+all_unmet expected q endings = numbered_text (unmet_of expected) 1 (asked_of q endings)
 
-abbrev pub end_words : Machine → (is_whole : Bool) → List ℕ
-end_words m true = whole_words (share_processor m.threads)
-end_words m false = codes "cut"
-
--- The number of states, the depth to which all were found, and whether there are no more.
-abbrev pub last_line : Machine → (states depth : ℕ) → (is_whole : Bool) → List ℕ
-last_line m states depth is_whole =
-    line_of_words
-    (codes "states" ∷ decimal states ∷ codes "depth" ∷ decimal depth ∷ end_words m is_whole ∷ [])
-
--- The endings that are asked for, numbered from 1, and last the line about the search.
-abbrev pub answer_text : Machine → Question → (endings : List (List Entry)) → (states depth : ℕ) →
-    (is_whole : Bool) → List ℕ
-answer_text m q endings states depth is_whole =
-    endings_text m 1 (asked_of m q endings) ++ last_line m states depth is_whole
-
--- 0 where the search is whole, 3 where it was cut. Where such an ending should not exist, 4 as soon
--- as one is found.
-
+-- 0 where the search is whole, 3 where it was cut.
 abbrev pub status_of_search : (is_whole : Bool) → ℕ
 status_of_search true = 0
 status_of_search false = 3
 
-abbrev pub status_of_asked : (asked : List (List Entry)) → (is_whole : Bool) → ℕ
-status_of_asked [] is_whole = status_of_search is_whole
-status_of_asked (e ∷ endings) is_whole = 4
+-- Where no such ending should exist, 4 as soon as one is found.
+abbrev pub status_of_none : List Ending → (is_whole : Bool) → ℕ
+status_of_none [] is_whole = status_of_search is_whole
+status_of_none (e ∷ asked) is_whole = 4
 
-abbrev pub answer_status : (none : Bool) → (asked : List (List Entry)) → (is_whole : Bool) → ℕ
-answer_status true asked is_whole = status_of_asked asked is_whole
-answer_status false asked is_whole = status_of_search is_whole
+-- Where one should exist, 0 as soon as one is found, and 4 where there is none.
+abbrev pub status_of_some : List Ending → (is_whole : Bool) → ℕ
+status_of_some (e ∷ asked) is_whole = 0
+status_of_some [] true = 4
+status_of_some [] false = 3
+
+abbrev pub status_of_asked : Wanted → List Ending → (is_whole : Bool) → ℕ
+status_of_asked Whatever asked is_whole = status_of_search is_whole
+status_of_asked NoEnding asked is_whole = status_of_none asked is_whole
+status_of_asked AnEnding asked is_whole = status_of_some asked is_whole
+
+-- As soon as an ending does not meet what is expected, the status is 4.
+abbrev pub answer_status : Option (List Expected) → Question → List Ending → (is_whole : Bool) → ℕ
+answer_status expected q endings is_whole =
+    expected_status (list_all (meets expected) (asked_of q endings))
+    (status_of_asked q.wanted (asked_of q endings) is_whole)
+
+-- A search found these endings, and said so of itself last: these lines are the answer, with what
+-- is not met and the exit status.
+pub record IsTold (q : Question) (waits : Bool) (expected : Option (List Expected))
+    (endings : List Ending) (last : List ℕ) (is_whole : Bool) (lines unmet : List ℕ)
+    (status : ℕ) : Type 0 where
+  pub lines_are : lines ≡ endings_text waits q endings ++ last
+  pub unmet_are : unmet ≡ all_unmet expected q endings
+  pub status_is : status ≡ answer_status expected q endings is_whole

@@ -16,7 +16,8 @@ use Rattle.l4_words.specs.Numbers.{hexadecimal}
 use Rattle.l4_words.specs.Threads.{id_word, thread_word}
 use Rattle.l4_lines.specs.Lines.{line_fault}
 use Rattle.l4_reports.specs.ReportLines.{shown_registers, state_word}
-use Rattle.l4_questions.specs.Asked.{is_asked, is_asked_after, sends_after, threads_in, world_after}
+use Rattle.l4_questions.specs.Asked.{is_asked}
+use Rattle.l4_questions.specs.Placed.{is_asked_after, placed_ending, sends_after, threads_in, world_after}
 use Rattle.l4_questions.specs.declared.question.Question.{Question}
 
 -- A core run that comes to rest, and whose ticks go to least deadlines.
@@ -37,7 +38,7 @@ pub record StandsFor (m : Machine) (q : Question) (endings : List (List Entry))
   pub place : ℕ
   pub inside : place < length endings
   pub similar : IsShifted (led m (ending_at endings place)) r.system
-  pub asked : is_asked m q (ending_at endings place) ≡ is_asked_after m q r
+  pub asked : is_asked q (placed_ending m (ending_at endings place)) ≡ is_asked_after m q r
 
 -- No core run that comes to rest, and whose ticks go to least deadlines, is asked for.
 abbrev pub NoneIsAsked : Machine → Question → Type 0

@@ -5,7 +5,8 @@ ghost use Rattle.l4_choices.specs.Entries.{replay_entries};
 ghost use Rattle.l4_machine.specs.Entries.{entries_fault, entry_from};
 ghost use Rattle.l4_machine.specs.UnderWay.{IsRun};
 ghost use Rattle.l4_states.specs.Endings.{led};
-ghost use Rattle.l4_questions.specs.Asked.{has_closed_receive, is_closed_at, names_one};
+ghost use Rattle.l4_futures.specs.Stuck.{names_one};
+ghost use Rattle.l4_questions.specs.Placed.{has_closed_receive, is_closed_at};
 
 use l4_machine::{Entry, Walk};
 use l4_script::machine::Machine;
@@ -30,8 +31,8 @@ fn walk_along<'m>(
     Ok(walk)
 }
 
-// Whether an id names one thread alone.
-fn names_one(id: ThreadId) -> bool
+/// Whether an id names one thread alone.
+pub(crate) fn names_one(id: ThreadId) -> bool
     ensures { result ≡ names_one id }
 {
     match id.kind() {

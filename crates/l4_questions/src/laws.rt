@@ -1,23 +1,77 @@
-//! What an answer says of all core runs that come to rest, though a search looks at one of all
-//! similar ones.
+//! What an answer says of all histories, and of all core runs that come to rest, though a search
+//! looks at one of all that are alike.
 //!
 //! All of it is definitions and proofs; the functions have an empty body.
 //!
 //! ```rust
-//! law_none_is_asked(); // from here on: after status 0 of `none` no such run is asked for
+//! law_none_is_reached(); // from here on: after status 0 of `NoEnding` no ending is asked for
 //! ```
 ghost use Rattle.std.specs.Prelude.{ℕ, ◌≡◌, Bool, true, List, Option};
 ghost use Rattle.l4_model.specs.Machine.{Machine};
 ghost use Rattle.l4_core_model.specs.Runs.{IsMachine, Run};
-ghost use Rattle.l4_choices.specs.Entries.{Entry};
+ghost use Rattle.l4_model.specs.Steps.{Step};
+ghost use Rattle.l4_choices.specs.Entries.{Entry, replay_entries};
 ghost use Rattle.l4_expect.specs.Expected.{Expected};
 ghost use Rattle.l4_states.specs.Endings.{AreAllEndings};
-ghost use Rattle.l4_questions.specs.Answers.{IsAnswered};
-ghost use Rattle.l4_questions.specs.Beside.{IsAnsweredBeside};
+ghost use Rattle.l4_questions.specs.Answers.{IsAnswer, NoneIsReached, OneIsReached};
+ghost use Rattle.l4_proc.specs.declared.processor.Processor.{Processor};
+ghost use Rattle.l4_machine.specs.Gathered.{IsGathered};
+ghost use Rattle.l4_machine.specs.Outcomes.{Findings, IsFoundFor, IsOutcomeOf};
+ghost use Rattle.l4_futures.specs.Endings.{AreAllEndings as AreAllWorldEndings};
+ghost use Rattle.l4_questions.specs.Placed.{IsPlacedAnswer};
+ghost use Rattle.l4_questions.specs.Quiet.{QuietIsListed, QuietIsNotAsked};
 ghost use Rattle.l4_questions.specs.Runs.{AreSpelled, AsksForLines, AsksNoLine};
 ghost use Rattle.l4_questions.specs.Runs.{ComesToRest, IsSpelled, NoneIsAsked};
 ghost use Rattle.l4_questions.specs.Runs.{NoneSpelledIsAsked, StandsFor};
 ghost use Rattle.l4_questions.specs.declared.question.Question.{Question as AskedQuestion};
+ghost use Rattle.l4_questions.specs.declared.question.Wanted.TheVariants.{AnEnding, NoEnding};
+
+/// Status 0, where a question asks that no such ending exist, says that none does: no history of the
+/// machine comes to an ending that is asked for, whatever the scheduler does and whatever time
+/// passes. It says so of questions without lines.
+pub fn law_none_is_reached()
+    ensures { (m : Machine) (q : AskedQuestion) (waits : Bool)
+        (expected : Option (List Expected)) (lines unmet : List ℕ) → AsksNoLine q →
+        q.wanted ≡ NoEnding → IsAnswer m q waits expected lines unmet 0 → NoneIsReached m q }
+{}
+
+/// Status 0, where a question asks that such an ending exist, says that one does: a history of the
+/// machine comes to it.
+pub fn law_one_is_reached()
+    ensures { (m : Machine) (q : AskedQuestion) (waits : Bool)
+        (expected : Option (List Expected)) (lines unmet : List ℕ) →
+        q.wanted ≡ AnEnding → IsAnswer m q waits expected lines unmet 0 → OneIsReached m q }
+{}
+
+/// Where a search is whole, what a run comes to at rest is a listed ending: of each run, replay or
+/// gathering of processors whose ending is quiet, a listed trace leads to a world as good as the one
+/// that it came to, by no more steps.
+pub fn law_runs_are_listed()
+    ensures of_run { (m : Machine) (traces : List (List Step)) (depth most : ℕ) (o : Findings) →
+        IsMachine m → AreAllWorldEndings m traces depth true → IsFoundFor m most o →
+        QuietIsListed m traces o }
+    ensures of_replay { (m : Machine) (traces : List (List Step)) (depth : ℕ)
+        (entries : List Entry) (o : Findings) → IsMachine m →
+        AreAllWorldEndings m traces depth true → IsOutcomeOf m (replay_entries m entries) o →
+        QuietIsListed m traces o }
+    ensures of_gathered { (m : Machine) (traces : List (List Step)) (depth : ℕ)
+        (processors : List Processor) (o : Findings) → IsMachine m →
+        AreAllWorldEndings m traces depth true → IsGathered m processors o →
+        QuietIsListed m traces o }
+{}
+
+/// So where no history comes to an ending that is asked for, as after status 0 of
+/// `law_none_is_reached`, no run, replay or gathering that comes to rest is asked for, on any host.
+pub fn law_no_run_is_asked()
+    ensures of_run { (m : Machine) (q : AskedQuestion) (most : ℕ) (o : Findings) → IsMachine m →
+        NoneIsReached m q → IsFoundFor m most o → QuietIsNotAsked m q o }
+    ensures of_replay { (m : Machine) (q : AskedQuestion) (entries : List Entry) (o : Findings) →
+        IsMachine m → NoneIsReached m q → IsOutcomeOf m (replay_entries m entries) o →
+        QuietIsNotAsked m q o }
+    ensures of_gathered { (m : Machine) (q : AskedQuestion) (processors : List Processor)
+        (o : Findings) → IsMachine m → NoneIsReached m q → IsGathered m processors o →
+        QuietIsNotAsked m q o }
+{}
 
 /// Where a search is whole, one of its endings stands for each core run that comes to rest and
 /// whose ticks go to least deadlines: it is similar, and a question asks for it exactly where it
@@ -33,22 +87,17 @@ pub fn law_asked_of_all()
         (r : Run) → ComesToRest m r → IsSpelled m r → StandsFor m q endings r }
 {}
 
-/// Status 0, where a question asks that no such ending exist, says that none does: no core run that
-/// comes to rest, and whose ticks go to least deadlines, is asked for. With lines it says so of runs
-/// whose reports are spelled.
+/// Status 0 of a search of placed runs, where no such ending should exist, says that no core run
+/// that comes to rest, and whose ticks go to least deadlines, is asked for. With lines it says so of
+/// runs whose reports are spelled.
 pub fn law_none_is_asked()
-    ensures alone { (m : Machine) (q : AskedQuestion) (lines : List ℕ) → IsMachine m →
-        AsksNoLine q → q.none ≡ true → IsAnswered m q lines 0 → NoneIsAsked m q }
-    ensures beside { (m : Machine) (q : AskedQuestion) (waits : Bool)
+    ensures no_line { (m : Machine) (q : AskedQuestion) (waits : Bool)
         (expected : Option (List Expected)) (lines unmet : List ℕ) → IsMachine m →
-        AsksNoLine q → q.none ≡ true → IsAnsweredBeside m q waits expected lines unmet 0 →
-        NoneIsAsked m q }
-    ensures lines { (m : Machine) (q : AskedQuestion) (lines : List ℕ) → IsMachine m →
-        AsksForLines q → q.none ≡ true → (a : IsAnswered m q lines 0) →
-        AreSpelled m a.endings → NoneSpelledIsAsked m q }
-    ensures lines_beside { (m : Machine) (q : AskedQuestion) (waits : Bool)
+        AsksNoLine q → q.wanted ≡ NoEnding →
+        IsPlacedAnswer m q waits expected lines unmet 0 → NoneIsAsked m q }
+    ensures lines { (m : Machine) (q : AskedQuestion) (waits : Bool)
         (expected : Option (List Expected)) (lines unmet : List ℕ) → IsMachine m →
-        AsksForLines q → q.none ≡ true →
-        (a : IsAnsweredBeside m q waits expected lines unmet 0) →
+        AsksForLines q → q.wanted ≡ NoEnding →
+        (a : IsPlacedAnswer m q waits expected lines unmet 0) →
         AreSpelled m a.endings → NoneSpelledIsAsked m q }
 {}

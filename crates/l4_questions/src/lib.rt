@@ -1,17 +1,18 @@
 //! Questions about a machine: which of its endings are asked for, and the text that answers.
 //!
-//! `answers` searches for all endings of core runs. Of each that is asked for it prints the number,
-//! a shortest schedule and the report. Last come the number of states, the depth, and whether there
-//! are no more, of which runs.
+//! `answer` searches for all endings of a machine, whatever its scheduler does and whatever time
+//! passes, and `placed_answer` for those of the runs that a replay makes by schedules. Of each that
+//! is asked for they tell the number and the report, and last how far the search went and whether
+//! there are no more. `asked_trace` is the trace of one of them.
 //!
 //! Contracts see the bytes: they are those of all endings that the question asks for, and of no
-//! others. `l4_lines` reads the lines that it asks for. `answers_beside` also tells who waits for
-//! whom in each ending, and which endings do not meet a text of expectations. `laws` says of all core
-//! runs what an answer says of the endings that were found.
+//! others. What is asked of an ending, and what is told of it, is the same for both searches. `laws`
+//! says of all histories, and of all core runs, what an answer says of the endings that were found.
 //!
 //! ```rust
-//! let question = Question { stuck: true, none: true, ..Question::new(1_000, 100_000) };
-//! let answer = answers(alloc, &machine, &question)?; // status 0: it never gets stuck
+//! let question = Question { stuck: true, wanted: Wanted::NoEnding, ..Question::new(1_000, 100_000) };
+//! let answer = answer(alloc, &machine, &question, Beside::nothing(), &mut Unheard)?;
+//! // status 0: it never gets stuck
 //! ```
 #![tactic(auto)]
 
@@ -19,8 +20,17 @@ mod answering;
 mod asked;
 pub mod beside;
 mod closed;
+mod judged;
 pub mod laws;
+mod placed;
+mod placed_answering;
 mod printed;
 pub mod question;
+mod reached;
+mod shown;
+mod traces;
 
-pub use answering::{Answer, answers, answers_beside, answers_heard};
+pub use answering::answer;
+pub use judged::Answer;
+pub use placed_answering::placed_answer;
+pub use traces::asked_trace;

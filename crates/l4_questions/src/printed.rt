@@ -1,13 +1,15 @@
-//! The lines of an answer.
-ghost use Rattle.std.specs.Prelude.{◌≡◌, ◌++◌, OnOk, map};
+//! What is printed of endings that schedules lead to.
+ghost use Rattle.std.specs.Prelude.{◌≡◌, ◌∷◌, ◌++◌, IfOk, OnOk, codes, decimal, map};
+ghost use Rattle.l4_words.specs.Lines.{line_of_words};
 ghost use Rattle.l4_machine.specs.Entries.{entry_from};
-ghost use Rattle.l4_questions.specs.Printed.{end_words, has_thread_on, head_line, last_line};
-ghost use Rattle.l4_questions.specs.Printed.{share_processor, whole_words};
+ghost use Rattle.l4_questions.specs.Placed.{end_words, has_thread_on, list_words, states_line};
+ghost use Rattle.l4_questions.specs.Placed.{share_processor, whole_words};
 
 use l4_machine::Entry;
 use l4_schedules::writing::write_schedule;
 use l4_script::machine::{Declaration, Machine};
 use l4_types::errors::NoMemory;
+use std::alloc::Global;
 
 /// Appends the first line of an ending: its number, and the entries that lead there.
 ///
@@ -17,8 +19,8 @@ pub(crate) fn write_head(
     entries: &[Entry],
     lines: &mut Vec<u8>,
 ) -> Result<(), NoMemory>
-    ensures { OnOk result (lines.new.items ≡
-        lines.old.items ++ head_line number (map entry_from entries.now)) }
+    ensures { OnOk result (lines.new.items ≡ lines.old.items ++ line_of_words
+        (codes "ending" ∷ decimal number ∷ list_words (map entry_from entries.now))) }
 {
     let mut words = String::new(*lines.allocator());
     write!(words, "ending {number}")?;
@@ -48,28 +50,26 @@ fn share_processor(threads: &[Declaration]) -> bool
     }
 }
 
-/// Appends the last line: the number of states, the depth to which all were found, and whether
-/// there are no more, of which runs.
+/// The last line: the number of states, the depth to which all were found, and whether there are no
+/// more, of which runs.
 ///
-/// `NoMemory`: memory was refused, and a part of the line may have been appended.
-pub(crate) fn write_last(
+/// `NoMemory`: memory was refused.
+pub(crate) fn states_line(
+    alloc: Global,
     machine: &Machine,
     states: usize,
     depth: usize,
     is_whole: bool,
-    lines: &mut Vec<u8>,
-) -> Result<(), NoMemory>
-    ensures { OnOk result (lines.new.items ≡
-        lines.old.items ++ last_line machine.now states depth is_whole) }
+) -> Result<Vec<u8>, NoMemory>
+    ensures { IfOk result (λ line. line.items ≡ states_line machine.now states depth is_whole) }
 {
-    let mut words = String::new(*lines.allocator());
+    let mut line = String::new(alloc);
     writeln!(
-        words,
+        line,
         "states {states} depth {depth} {}",
         spelled_end(machine, is_whole)
     )?;
-    lines.extend_from_slice(words.as_bytes())?;
-    Ok(())
+    Ok(line.into_bytes())
 }
 
 fn spelled_whole(in_turn: bool) -> &'static str

@@ -1,22 +1,34 @@
 //! What is asked of the endings of a machine.
 ghost use Rattle.std.specs.Prelude.{◌≡◌, ◌⊎◌, ◌<◌, ◌≤◌, min, IfOk, IfErr, None, Some, false, ℕ};
 ghost use Rattle.l4_explore.specs.Tries.{deepest};
-ghost use Rattle.l4_questions.specs.Answers.{is_out_of_range, most_asked, question_fault};
+ghost use Rattle.l4_questions.specs.Limits.{is_out_of_range, most_asked, question_fault};
 ghost use Rattle.l4_questions.specs.declared.question.QuestionFault.TheVariants.{NoMemory as OutOfMemory};
+ghost use Rattle.l4_questions.specs.declared.question.Wanted.TheVariants.{Whatever};
 
 use l4_types::errors::NoMemory;
 
-/// The greatest depth, and the greatest number of states, that a question may ask for.
+/// The greatest depth, and the greatest number of states or worlds, that a question may ask for.
 pub const MOST_ASKED: u64 = 1_000_000;
+
+/// How many of the endings that are asked for should exist.
+#[derive(Clone, Copy, Debug, PartialEq, Eq)]
+pub enum Wanted {
+    /// Any number.
+    Whatever,
+    /// None: if one is found, the status is 4.
+    NoEnding,
+    /// At least one: if there is none, the status is 4.
+    AnEnding,
+}
 
 /// Which endings of a machine are asked for: those for which all of these conditions hold.
 #[derive(Clone, Copy, Debug, PartialEq, Eq)]
 pub struct Question<'a> {
-    /// The greatest number of events of a core run, 1 to 1,000,000. Any other number is the fault
-    /// `Depth`.
+    /// The greatest number of steps but ticks of a history, or of events of a core run, 1 to
+    /// 1,000,000. Any other number is the fault `Depth`.
     pub depth: u64,
-    /// The greatest number of states that are visited, 1 to 1,000,000. Any other number is the
-    /// fault `States`.
+    /// The greatest number of worlds or states that are looked at, 1 to 1,000,000. Any other number
+    /// is the fault `States`.
     pub states: u64,
     /// Only endings in which a send waits, or a thread receives from one thread alone.
     pub stuck: bool,
@@ -24,8 +36,8 @@ pub struct Question<'a> {
     pub with_line: Option<&'a str>,
     /// Only endings whose report has no such line.
     pub never: Option<&'a str>,
-    /// Whether such an ending should not exist. If one is found, the status is 4.
-    pub none: bool,
+    /// How many such endings should exist.
+    pub wanted: Wanted,
 }
 
 /// Why a question has no answer.
@@ -35,7 +47,7 @@ pub enum QuestionFault {
     NoMemory,
     /// The depth is 0 or above 1,000,000.
     Depth,
-    /// The number of states is 0 or above 1,000,000.
+    /// The number of worlds or states is 0 or above 1,000,000.
     States,
 }
 
@@ -56,7 +68,7 @@ impl<'a> Question<'a> {
           stuck = false;
           with_line = None;
           never = None;
-          none = false;
+          wanted = Whatever;
         } }
     {
         Question {
@@ -65,7 +77,7 @@ impl<'a> Question<'a> {
             stuck: false,
             with_line: None,
             never: None,
-            none: false,
+            wanted: Wanted::Whatever,
         }
     }
 

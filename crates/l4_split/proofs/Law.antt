@@ -36,7 +36,8 @@ use Rattle.l4_split.proofs.Relation.Opening.{opening_promised, opening_relates}
 use Rattle.l4_model.specs.Steps.{Tick}
 use Rattle.l4_model.specs.Conditions.{◌>>=◌}
 use Rattle.l4_model.specs.History.{reached, run}
-use Rattle.l4_split.proofs.Rest.RestIsStill.{resting_still}
+use Rattle.l4_split.proofs.Rest.RestIsStill.{resting_settled}
+use Rattle.l4_split.proofs.Rest.Settled.{IsSettled, settled_still}
 use Rattle.l4_core_model.specs.Turns.{advance, opened, turn}
 use Rattle.std.specs.List.{AllByRecursion}
 use Rattle.l4_model.specs.Still.{IsStill}
@@ -161,8 +162,12 @@ letters_lawful m r machine f =
       all = all_lawful m r.system f.world machine f.counted f.relates facts f.addressed;
     }
 
+pub rest_settled : (m : Machine) (r : Run) → IsMachine m → (f : RunFacts m r) → at_rest m r.system ≡ true → IsSettled m f.world
+rest_settled m r machine f rest =
+    resting_settled m r.system f.world machine f.counted f.relates f.promised (reached_facts m (told r.events) f.world f.reaches) rest
+
 pub rest_still : (m : Machine) (r : Run) → IsMachine m → (f : RunFacts m r) → at_rest m r.system ≡ true → IsStill m f.world
-rest_still m r machine f rest = resting_still m r.system f.world machine f.counted f.relates f.promised (reached_facts m (told r.events) f.world f.reaches) rest
+rest_still m r machine f rest = settled_still m f.world (rest_settled m r machine f rest)
 
 -- So every core run is lawful.
 pub run_lawful : (m : Machine) (r : Run) → IsMachine m → RunFacts m r → IsLawfulRun m r

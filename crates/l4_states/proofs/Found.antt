@@ -6,7 +6,8 @@ use Rattle.l4_model.specs.Machine.{Machine}
 use Rattle.l4_core_model.specs.Runs.{System, IsMachine, opening_system}
 use Rattle.l4_shifted.specs.Shifted.{IsShifted}
 use Rattle.l4_explore.specs.Tries.{State}
-use Rattle.l4_explore.specs.Search.{Seen, seen_at, IsCut, IsFound, IsExplored}
+use Rattle.l4_explore.specs.Search.{Seen, seen_at, IsFound}
+use Rattle.l4_explore.specs.States.{AreAllStates, AreCut}
 use Rattle.l4_explore.proofs.Orders.{not_after_length}
 use Rattle.l4_states.specs.Choices.{after_choices, state_in, state_after, IsLeastRun}
 use Rattle.l4_states.specs.Listed.{AreAllListed, GoesFar, IsCutOff, IsListed, LeadsSoon}
@@ -14,7 +15,7 @@ use Rattle.l4_states.proofs.Following.{state_led, code_similar, similar_state}
 use Rattle.l4_states.proofs.Chosen.{AreChosen, are_chosen, least_run}
 
 module _ (m : Machine) (machine : IsMachine m) (found : List Seen) (depth : ℕ) (is_whole : Bool)
-    (ex : IsExplored (state_after m) found depth is_whole) where
+    (ex : AreAllStates (state_after m) found depth is_whole) where
   state_of_choices : (s : List ℕ) (g : System) → after_choices m (opening_system m) s ≡ Some g →
       state_after m s ≡ Some (state_in m g)
   state_of_choices s g h = ap (option_map (state_in m)) h
@@ -130,7 +131,7 @@ module _ (m : Machine) (machine : IsMachine m) (found : List Seen) (depth : ℕ)
           absurd (new f.place f.inside
           (f.is ∙ sym (similar_state m machine s c.schedule g h at c.leads similar) ∙ is))
 
-  pub cut_off : (asked most : ℕ) → IsCut (state_after m) found asked most depth →
+  pub cut_off : (asked most : ℕ) → AreCut (state_after m) found asked most depth →
       IsCutOff m (length found) asked most depth
   cut_off asked most (inl d) =
       let s = sound (length found - 1) (omega (arith, some_found)) in

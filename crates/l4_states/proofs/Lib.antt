@@ -1,4 +1,4 @@
-mod Bytes
+pub mod Bytes
 mod Parts
 pub mod Reached
 mod Systems

@@ -17,7 +17,8 @@ ghost use Rattle.std.specs.Prelude.{ℕ, ◌≡◌, Bool, List, length};
 ghost use Rattle.l4_model.specs.Machine.{Machine};
 ghost use Rattle.l4_core_model.specs.Runs.{IsMachine};
 ghost use Rattle.l4_explore.specs.Tries.{AreSchedules, StandsForAll};
-ghost use Rattle.l4_explore.specs.Search.{IsCut, IsExplored, Seen};
+ghost use Rattle.l4_explore.specs.Search.{Seen};
+ghost use Rattle.l4_explore.specs.States.{AreAllStates, AreCut};
 ghost use Rattle.l4_states.specs.Bytes.{bytes_of};
 ghost use Rattle.l4_states.specs.Choices.{IsCoded, LeadsEarly, state_after};
 ghost use Rattle.l4_choices.specs.Entries.{Entry};
@@ -51,7 +52,7 @@ pub fn law_stands()
 /// deep. Where it is whole, it finds all such core runs.
 pub fn law_listed()
     ensures { (m : Machine) (found : List Seen) (depth : ℕ) (is_whole : Bool) → IsMachine m →
-        IsExplored (state_after m) found depth is_whole → AreAllListed m found depth is_whole }
+        AreAllStates (state_after m) found depth is_whole → AreAllListed m found depth is_whole }
 {}
 
 /// A search is cut off in one of two cases. Some state takes as many events as the search may go
@@ -59,8 +60,8 @@ pub fn law_listed()
 /// one more.
 pub fn law_cut_off()
     ensures { (m : Machine) (found : List Seen) (asked most depth : ℕ) (is_whole : Bool) →
-        IsMachine m → IsExplored (state_after m) found depth is_whole →
-        IsCut (state_after m) found asked most depth →
+        IsMachine m → AreAllStates (state_after m) found depth is_whole →
+        AreCut (state_after m) found asked most depth →
         IsCutOff m (length found) asked most depth }
 {}
 

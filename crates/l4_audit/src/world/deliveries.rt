@@ -26,7 +26,7 @@ use l4_types::steps::Name;
 /// Whether two threads are of different processors, or not declared. Where they are the sender and
 /// the receiver at hand, as in most traces, nothing is looked up.
 #[inline(always)]
-pub fn is_cross(
+pub(crate) fn is_cross(
     machine: &Machine,
     pending: &Pending,
     receiver: &Found,
@@ -93,7 +93,7 @@ fn owed_by(machine: &Machine, name: Name, send: &SendRef<'_>, receiver: GlobalId
 impl World<'_> {
     /// The send that may be delivered, and its receiver.
     #[inline(always)]
-    pub fn may_deliver(
+    pub(crate) fn may_deliver(
         &self,
         delivery: &DeliveryRef<'_>,
     ) -> Result<(Pending<'_>, Found<'_>), Reason>
@@ -119,7 +119,7 @@ impl World<'_> {
 
     /// Delivers the message of the first waiting sender that a receiver accepts, and ends its send.
     /// A retarget may be owed.
-    pub fn deliver(&mut self, delivery: &DeliveryRef<'_>) -> Result<(), StepFault>
+    pub(crate) fn deliver(&mut self, delivery: &DeliveryRef<'_>) -> Result<(), StepFault>
         ensures { Judged self.old (delivered delivery.now) result self.new }
     {
         let (pending, receiver) = self.may_deliver(delivery)?;

@@ -24,7 +24,7 @@ use tcb_arena::Waiting;
 
 impl World<'_> {
     /// Runs an instruction of a thread that concerns nobody else, or ends its script.
-    pub fn run(&mut self, place: usize, instr: &Instr)
+    pub(crate) fn run(&mut self, place: usize, instr: &Instr)
         requires { IsSomeAnd (slice_get self.old.world.threads place)
             (λ t. is_end (instr_of instr.now) ≡ false → t.context.place + 1 < 2 ^ 64) }
         ensures { self.new ≡ with_world self.old
@@ -34,7 +34,7 @@ impl World<'_> {
     }
 
     /// Begins the first phase of a thread's Ipc, at this clock of its processor.
-    pub fn start(&mut self, place: usize, instr: &Instr, permitted: bool, now: u64)
+    pub(crate) fn start(&mut self, place: usize, instr: &Instr, permitted: bool, now: u64)
         requires { CanStart self.old place (instr_of instr.now) permitted }
         ensures { self.new ≡ with_world self.old
             (starting self.old place now (instr_of instr.now)) }
@@ -43,7 +43,7 @@ impl World<'_> {
     }
 
     /// Fails the Ipc of a thread.
-    pub fn fail(&mut self, place: usize, error: IpcError)
+    pub(crate) fn fail(&mut self, place: usize, error: IpcError)
         requires { place < length self.old.world.threads }
         ensures { self.new ≡ with_world self.old
             (change self.old.world place (fails (code_of error))) }
@@ -52,7 +52,7 @@ impl World<'_> {
     }
 
     /// Gives a thread the message of a delivery.
-    pub fn receive(&mut self, place: usize, delivery: &DeliveryRef<'_>)
+    pub(crate) fn receive(&mut self, place: usize, delivery: &DeliveryRef<'_>)
         requires { place < length self.old.world.threads }
         ensures { self.new ≡ with_world self.old
             (change self.old.world place
@@ -69,7 +69,7 @@ impl World<'_> {
     }
 
     /// Ends the send of a thread, at this clock of its processor.
-    pub fn end_send(&mut self, place: usize, decision: Decision, now: u64)
+    pub(crate) fn end_send(&mut self, place: usize, decision: Decision, now: u64)
         requires { place < length self.old.world.threads }
         ensures { self.new ≡ with_world self.old
             (change self.old.world place (after_decision (decision_of decision) now)) }
@@ -78,7 +78,7 @@ impl World<'_> {
     }
 
     /// Drops the send of a deleted thread.
-    pub fn drop_send(&mut self, place: usize)
+    pub(crate) fn drop_send(&mut self, place: usize)
         requires { place < length self.old.world.threads }
         ensures { self.new ≡ with_world self.old (change self.old.world place decided) }
     {
@@ -86,7 +86,7 @@ impl World<'_> {
     }
 
     /// Puts a thread into the ordering phase, with this order.
-    pub fn give_order(&mut self, place: usize, order: PendingOrder)
+    pub(crate) fn give_order(&mut self, place: usize, order: PendingOrder)
         requires { place < length self.old.world.threads }
         ensures { self.new ≡ with_world self.old (change self.old.world place (orders order)) }
     {
@@ -94,7 +94,7 @@ impl World<'_> {
     }
 
     /// Cancels a phase of a thread, or deletes the thread.
-    pub fn ask(&mut self, place: usize, what: OrderKind)
+    pub(crate) fn ask(&mut self, place: usize, what: OrderKind)
         requires { place < length self.old.machine.threads }
         ensures { self.new ≡ with_world self.old
             (change self.old.world place (asked (order_kind_of what))) }
@@ -103,7 +103,7 @@ impl World<'_> {
     }
 
     /// Ends the order of a thread, which is done.
-    pub fn obey(&mut self, place: usize)
+    pub(crate) fn obey(&mut self, place: usize)
         requires { IsSomeAnd (slice_get self.old.world.threads place)
             (λ t. t.context.place + 1 < 2 ^ 64) }
         ensures { self.new ≡ with_world self.old (change self.old.world place obeyed) }
@@ -112,7 +112,7 @@ impl World<'_> {
     }
 
     /// Appends a sender, which stands in no list, to the list of a receiver.
-    pub fn queue(&mut self, receiver: usize, sender: usize)
+    pub(crate) fn queue(&mut self, receiver: usize, sender: usize)
         requires receiver { receiver < length self.old.world.threads }
         requires sender { sender < length self.old.world.threads }
         requires free { is_queued self.old.world.waiting sender ≡ false }
@@ -129,7 +129,7 @@ impl World<'_> {
     }
 
     /// Removes a sender from the list that it stands in, if any.
-    pub fn unqueue(&mut self, sender: usize)
+    pub(crate) fn unqueue(&mut self, sender: usize)
         requires { sender < length self.old.world.threads }
         ensures { self.new ≡ with_world self.old (unqueued self.old.world sender) }
     {
@@ -137,7 +137,7 @@ impl World<'_> {
     }
 
     /// Advances the clock of a processor.
-    pub fn set_clock(&mut self, tick: Tick)
+    pub(crate) fn set_clock(&mut self, tick: Tick)
         requires { tick.cpu < length self.old.world.clocks }
         ensures { self.new ≡ with_world self.old (record self.old.world {
           clocks = slice_set self.old.world.clocks tick.cpu tick.clock;

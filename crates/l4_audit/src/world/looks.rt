@@ -14,7 +14,7 @@ use l4_types::ids::{GlobalId, Kind, ThreadId};
 
 impl World<'_> {
     /// Whether an undecided send stands in a list.
-    pub fn is_waiting(&self, pending: &Pending) -> bool
+    pub(crate) fn is_waiting(&self, pending: &Pending) -> bool
         requires { slice_get self.now.world.threads pending.now.sender.at ≡
             Some pending.now.sender.now }
         ensures { result ≡ is_waiting self.now.world pending.now }
@@ -35,7 +35,7 @@ impl World<'_> {
 
     /// The place of the first waiting sender that a receive phase of a thread with this specifier
     /// would accept.
-    pub fn first_accepted(&self, receiver: &Found, from: ThreadId) -> Option<usize>
+    pub(crate) fn first_accepted(&self, receiver: &Found, from: ThreadId) -> Option<usize>
         requires { slice_get self.now.world.threads receiver.now.at ≡ Some receiver.now.now }
         ensures { result ≡ first_accepted self.now.machine self.now.world receiver.now from }
     {
@@ -57,7 +57,7 @@ impl World<'_> {
 
     /// Ok if no waiting send is accepted by this specifier. Else `AcceptsFirst` with the sender of
     /// the first that is.
-    pub fn accepts_none(&self, receiver: &Found, from: ThreadId) -> Result<(), Reason>
+    pub(crate) fn accepts_none(&self, receiver: &Found, from: ThreadId) -> Result<(), Reason>
         requires { slice_get self.now.world.threads receiver.now.at ≡ Some receiver.now.now }
         ensures { result_err result ≡ first_false
             (none_accepted self.now.machine
@@ -70,7 +70,7 @@ impl World<'_> {
     }
 
     /// Ok if this sender is the first acceptable one. Else `NotFirst` with the first.
-    pub fn is_first(&self, first: usize, sender: usize) -> Result<(), Reason>
+    pub(crate) fn is_first(&self, first: usize, sender: usize) -> Result<(), Reason>
         ensures { result_err result ≡ first_false
             (test (first == sender) (NotFirst (id_at self.now.machine first)) ∷ []) }
     {
@@ -81,7 +81,7 @@ impl World<'_> {
     }
 
     /// Whether nobody has this id: it is local, undeclared, or of a deleted thread.
-    pub fn is_nobody(&self, id: ThreadId) -> bool
+    pub(crate) fn is_nobody(&self, id: ThreadId) -> bool
         ensures { result ≡ is_nobody id (found_by self.now.machine self.now.world id) }
     {
         match id.kind() {
@@ -92,14 +92,14 @@ impl World<'_> {
     }
 
     /// Whether nobody has the destination of a send.
-    pub fn is_no_destination(&self, id: ThreadId) -> bool
+    pub(crate) fn is_no_destination(&self, id: ThreadId) -> bool
         ensures { result ≡ is_no_destination id (found_by self.now.machine self.now.world id) }
     {
         matches!(id.kind(), Kind::Any | Kind::AnyLocal) || self.is_nobody(id)
     }
 
-    // Whether a send of timeout zero may be refused.
-    fn is_refusable(&self, pending: &Pending) -> bool
+    /// Whether a send of timeout zero may be refused.
+    pub(crate) fn is_refusable(&self, pending: &Pending) -> bool
         ensures { result ≡ is_refusable self.now.machine pending.now.send
             (receiver_of self.now.machine self.now.world pending.now) }
     {
@@ -113,7 +113,7 @@ impl World<'_> {
     }
 
     /// Whether an undecided send may time out.
-    pub fn is_timed_out(&self, pending: &Pending) -> bool
+    pub(crate) fn is_timed_out(&self, pending: &Pending) -> bool
         requires { slice_get self.now.world.threads pending.now.sender.at ≡
             Some pending.now.sender.now }
         ensures { result ≡ is_timed_out self.now.machine self.now.world pending.now }

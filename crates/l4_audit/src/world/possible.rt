@@ -4,7 +4,7 @@ ghost use Rattle.std.specs.Option.{option_map};
 ghost use Rattle.l4_model.specs.Conditions.{act_of, found};
 ghost use Rattle.l4_model.specs.Steps.{order_of};
 ghost use Rattle.l4_types.specs.OwedView.{owed_of};
-ghost use Rattle.l4_types.specs.StepView.{step_of};
+ghost use Rattle.l4_types.specs.StepView.{delivered, step_of};
 ghost use Rattle.l4_audit.specs.Possible.{Adds, Appends, coming_name, delivery, last_name, order};
 ghost use Rattle.l4_audit.specs.Possible.{possible, possible_of, turn, where_possible};
 
@@ -22,7 +22,7 @@ use std::alloc::Global;
 impl World<'_> {
     /// Every step but ticks that is possible, in order of declaration of threads, then of the table
     /// of steps.
-    pub fn possible(&self, alloc: Global) -> Result<Vec<Step>, NoMemory>
+    pub(crate) fn possible(&self, alloc: Global) -> Result<Vec<Step>, NoMemory>
         ensures { IfOk result (λ steps. map step_of steps.items
             ≡ possible self.now.machine self.now.world) }
     {
@@ -54,7 +54,7 @@ impl World<'_> {
         self.push(Some(Step::Local(id)), steps)?;
         self.push(coming_name(thread).map(Step::Begin), steps)?;
         self.push(last_name(thread).map(Step::Queue), steps)?;
-        self.push(self.delivery(last_name(thread)), steps)?;
+        self.push(self.delivery_of(last_name(thread)), steps)?;
         self.push(Some(Step::Wait(id)), steps)?;
         self.push(last_name(thread).map(Step::SendTimeout), steps)?;
         self.push(Some(Step::ReceiveTimeout(id)), steps)?;
@@ -103,23 +103,30 @@ impl World<'_> {
         }
     }
 
-    // The delivery of a send, told as it was sent.
-    fn delivery(&self, send: Option<Name>) -> Option<Step>
+    // The delivery of a send, if the send has a name.
+    fn delivery_of(&self, send: Option<Name>) -> Option<Step>
         ensures { option_map step_of result ≡ delivery self.now.machine self.now.world send }
     {
-        let name = send?;
+        let delivery = self.delivery(send?)?;
+        Some(Step::Deliver(delivery.to_delivery()))
+    }
+
+    /// The delivery of an undecided send, told as it was sent.
+    pub fn delivery(&self, name: Name) -> Option<DeliveryRef<'_>>
+        ensures { option_map delivered result
+            ≡ delivery self.now.machine self.now.world (Some name) }
+    {
         let pending = self.undecided(name)?;
         let receiver = self.receiver_of(&pending)?;
         let message = pending.send().message();
         let to = receiver.id();
         let cross = is_cross(self.machine, &pending, &receiver, message.actual(), to);
-        let delivery = DeliveryRef {
+        Some(DeliveryRef {
             name,
             receiver: to,
             message,
             cross,
-        };
-        Some(Step::Deliver(delivery.to_delivery()))
+        })
     }
 }
 

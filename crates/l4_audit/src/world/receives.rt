@@ -17,7 +17,7 @@ use l4_types::steps::OrderKind;
 
 impl World<'_> {
     /// The thread whose receive phase may time out.
-    pub fn may_receive_timeout(&self, id: GlobalId) -> Result<Found<'_>, Reason>
+    pub(crate) fn may_receive_timeout(&self, id: GlobalId) -> Result<Found<'_>, Reason>
         ensures thread { IfOk result (λ t. found self.now.machine self.now.world id ≡ Some t) }
         ensures reason { result_err result ≡
             reason self.now.machine self.now.world (ReceiveTimeout id) }
@@ -33,7 +33,7 @@ impl World<'_> {
     }
 
     /// Times a receive phase out.
-    pub fn receive_timeout(&mut self, id: GlobalId) -> Result<(), StepFault>
+    pub(crate) fn receive_timeout(&mut self, id: GlobalId) -> Result<(), StepFault>
         ensures { Judged self.old (ReceiveTimeout id) result self.new }
     {
         let thread = self.may_receive_timeout(id)?;
@@ -43,7 +43,7 @@ impl World<'_> {
     }
 
     /// The thread whose receive phase may be refused: nobody has the id that it names.
-    pub fn may_receive_nobody(&self, id: GlobalId) -> Result<Found<'_>, Reason>
+    pub(crate) fn may_receive_nobody(&self, id: GlobalId) -> Result<Found<'_>, Reason>
         ensures thread { IfOk result (λ t. found self.now.machine self.now.world id ≡ Some t) }
         ensures reason { result_err result ≡
             reason self.now.machine self.now.world (ReceiveNobody id) }
@@ -57,7 +57,7 @@ impl World<'_> {
     }
 
     /// Refuses a receive phase: nobody has the id that it names.
-    pub fn receive_nobody(&mut self, id: GlobalId) -> Result<(), StepFault>
+    pub(crate) fn receive_nobody(&mut self, id: GlobalId) -> Result<(), StepFault>
         ensures { Judged self.old (ReceiveNobody id) result self.new }
     {
         let thread = self.may_receive_nobody(id)?;
@@ -67,7 +67,7 @@ impl World<'_> {
     }
 
     /// The thread whose receive phase may be cancelled.
-    pub fn may_receive_cancel(&self, id: GlobalId) -> Result<Found<'_>, Reason>
+    pub(crate) fn may_receive_cancel(&self, id: GlobalId) -> Result<Found<'_>, Reason>
         ensures thread { IfOk result (λ t. found self.now.machine self.now.world id ≡ Some t) }
         ensures reason { result_err result ≡
             reason self.now.machine self.now.world (ReceiveCancel id) }
@@ -79,7 +79,7 @@ impl World<'_> {
     }
 
     /// Cancels a receive phase.
-    pub fn receive_cancel(&mut self, id: GlobalId) -> Result<(), StepFault>
+    pub(crate) fn receive_cancel(&mut self, id: GlobalId) -> Result<(), StepFault>
         ensures { Judged self.old (ReceiveCancel id) result self.new }
     {
         let thread = self.may_receive_cancel(id)?;
@@ -89,7 +89,7 @@ impl World<'_> {
     }
 
     /// The thread whose order may be done, the place of its target, and what is to be done.
-    pub fn may_obey(&self, caller: GlobalId) -> Result<(Found<'_>, usize, OrderKind), Reason>
+    pub(crate) fn may_obey(&self, caller: GlobalId) -> Result<(Found<'_>, usize, OrderKind), Reason>
         ensures thread { IfOk result
             (λ x. found self.now.machine self.now.world caller ≡ Some x.0) }
         ensures order { IfOk result (λ x. IsAsked self.now.machine x.0 x.1 (order_kind_of x.2)) }
@@ -105,7 +105,7 @@ impl World<'_> {
     }
 
     /// Obeys the order of a thread.
-    pub fn obey_order(&mut self, caller: GlobalId) -> Result<(), StepFault>
+    pub(crate) fn obey_order(&mut self, caller: GlobalId) -> Result<(), StepFault>
         requires { IsPlaced self.old }
         ensures { Judged self.old (Obey caller) result self.new }
     {

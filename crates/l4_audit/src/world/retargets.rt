@@ -39,14 +39,14 @@ fn is_held_up(owed: &[Owed], sender: GlobalId, to: ThreadId) -> bool
 
 impl World<'_> {
     /// Whether no retarget is owed.
-    pub fn owes_nothing(&self) -> bool
+    pub(crate) fn owes_nothing(&self) -> bool
         ensures { result ≡ owes_nothing self.now.world }
     {
         self.owed.as_slice().is_empty()
     }
 
     /// Whether a send must wait: a retarget of its destination to its sender is owed.
-    pub fn must_wait(&self, sender: GlobalId, to: ThreadId) -> bool
+    pub(crate) fn must_wait(&self, sender: GlobalId, to: ThreadId) -> bool
         ensures { result ≡ must_wait self.now.world.owed sender to }
     {
         is_held_up(self.owed.as_slice(), sender, to)
@@ -60,7 +60,7 @@ impl World<'_> {
     }
 
     /// Appends an owed retarget, if there is one.
-    pub fn owe(&mut self, owed: Option<Owed>) -> Result<(), NoMemory>
+    pub(crate) fn owe(&mut self, owed: Option<Owed>) -> Result<(), NoMemory>
         ensures ok { OnOk result
             (self.new ≡ with_world self.old (owing (option_map owed_of owed) self.old.world)) }
         ensures err { OnErr result (self.new ≡ self.old) }
@@ -91,7 +91,7 @@ impl World<'_> {
     }
 
     /// The retarget that may be done, and its originator.
-    pub fn may_retarget(&self, name: Name) -> Result<(Owed, Found<'_>), Reason>
+    pub(crate) fn may_retarget(&self, name: Name) -> Result<(Owed, Found<'_>), Reason>
         ensures owed { IfOk result (λ x. owed_named self.now.world.owed name ≡ Some (owed_of x.0)) }
         ensures originator { IfOk result
             (λ x. found self.now.machine self.now.world x.0.originator ≡ Some x.1) }
@@ -108,7 +108,7 @@ impl World<'_> {
 
     /// Turns the originator of a delivered send to the thread that received it. The retarget is
     /// owed no longer.
-    pub fn retarget(&mut self, name: Name) -> Result<(), StepFault>
+    pub(crate) fn retarget(&mut self, name: Name) -> Result<(), StepFault>
         ensures { Judged self.old (Retarget name) result self.new }
     {
         let (owed, originator) = self.may_retarget(name)?;

@@ -20,7 +20,7 @@ use l4_types::steps::Name;
 impl World<'_> {
     /// The send that may be queued, and its receiver.
     #[inline(always)]
-    pub fn may_queue(&self, name: Name) -> Result<(Pending<'_>, Found<'_>), Reason>
+    pub(crate) fn may_queue(&self, name: Name) -> Result<(Pending<'_>, Found<'_>), Reason>
         ensures send { IfOk result
             (λ x. undecided self.now.machine self.now.world name ≡ Some x.0) }
         ensures receiver { IfOk result
@@ -41,7 +41,7 @@ impl World<'_> {
 
     /// Appends an undecided send to the list of its destination. Not while a retarget of the
     /// destination to the sender is owed.
-    pub fn queue_send(&mut self, name: Name) -> Result<(), StepFault>
+    pub(crate) fn queue_send(&mut self, name: Name) -> Result<(), StepFault>
         ensures { Judged self.old (Queue name) result self.new }
     {
         let (pending, receiver) = self.may_queue(name)?;
@@ -50,8 +50,8 @@ impl World<'_> {
         Ok(())
     }
 
-    // Decides a send without a delivery.
-    fn refuse(&mut self, sender: usize, refusal: Refusal, now: u64)
+    /// Decides a send without a delivery.
+    pub(crate) fn refuse(&mut self, sender: usize, refusal: Refusal, now: u64)
         requires { sender < length self.old.world.threads }
         ensures { self.new ≡ with_world self.old
             (change (unqueued self.old.world sender) sender
@@ -62,7 +62,7 @@ impl World<'_> {
     }
 
     /// The send that may time out. Not while it must wait.
-    pub fn may_send_timeout(&self, name: Name) -> Result<Pending<'_>, Reason>
+    pub(crate) fn may_send_timeout(&self, name: Name) -> Result<Pending<'_>, Reason>
         ensures send { IfOk result (λ p. undecided self.now.machine self.now.world name ≡ Some p) }
         ensures reason { result_err result ≡
             reason self.now.machine self.now.world (SendTimeout name) }
@@ -76,7 +76,7 @@ impl World<'_> {
     }
 
     /// Times a send out.
-    pub fn send_timeout(&mut self, name: Name) -> Result<(), StepFault>
+    pub(crate) fn send_timeout(&mut self, name: Name) -> Result<(), StepFault>
         ensures { Judged self.old (SendTimeout name) result self.new }
     {
         let pending = self.may_send_timeout(name)?;
@@ -86,7 +86,7 @@ impl World<'_> {
     }
 
     /// The send that may be refused: nobody has its destination. Not while it must wait.
-    pub fn may_send_nobody(&self, name: Name) -> Result<Pending<'_>, Reason>
+    pub(crate) fn may_send_nobody(&self, name: Name) -> Result<Pending<'_>, Reason>
         ensures send { IfOk result (λ p. undecided self.now.machine self.now.world name ≡ Some p) }
         ensures reason { result_err result ≡
             reason self.now.machine self.now.world (SendNobody name) }
@@ -99,7 +99,7 @@ impl World<'_> {
     }
 
     /// Refuses a send: nobody has its destination.
-    pub fn send_nobody(&mut self, name: Name) -> Result<(), StepFault>
+    pub(crate) fn send_nobody(&mut self, name: Name) -> Result<(), StepFault>
         ensures { Judged self.old (SendNobody name) result self.new }
     {
         let pending = self.may_send_nobody(name)?;
@@ -109,7 +109,7 @@ impl World<'_> {
     }
 
     /// The send that may be cancelled.
-    pub fn may_send_cancel(&self, name: Name) -> Result<Pending<'_>, Reason>
+    pub(crate) fn may_send_cancel(&self, name: Name) -> Result<Pending<'_>, Reason>
         ensures send { IfOk result (λ p. undecided self.now.machine self.now.world name ≡ Some p) }
         ensures reason { result_err result ≡
             reason self.now.machine self.now.world (SendCancel name) }
@@ -124,7 +124,7 @@ impl World<'_> {
     }
 
     /// Cancels a send.
-    pub fn send_cancel(&mut self, name: Name) -> Result<(), StepFault>
+    pub(crate) fn send_cancel(&mut self, name: Name) -> Result<(), StepFault>
         ensures { Judged self.old (SendCancel name) result self.new }
     {
         let pending = self.may_send_cancel(name)?;
@@ -134,7 +134,7 @@ impl World<'_> {
     }
 
     /// The send of a deleted thread that may be dropped.
-    pub fn may_drop(&self, name: Name) -> Result<Pending<'_>, Reason>
+    pub(crate) fn may_drop(&self, name: Name) -> Result<Pending<'_>, Reason>
         ensures send { IfOk result (λ p. undecided self.now.machine self.now.world name ≡ Some p) }
         ensures reason { result_err result ≡ reason self.now.machine self.now.world (Drops name) }
     {
@@ -149,7 +149,7 @@ impl World<'_> {
     }
 
     /// Drops the waiting send of a deleted thread.
-    pub fn drop_deleted(&mut self, name: Name) -> Result<(), StepFault>
+    pub(crate) fn drop_deleted(&mut self, name: Name) -> Result<(), StepFault>
         ensures { Judged self.old (Drops name) result self.new }
     {
         let pending = self.may_drop(name)?;

@@ -17,7 +17,7 @@ use l4_types::steps::{Name, OrderKind, Tick};
 impl World<'_> {
     /// The thread that may run an instruction that concerns nobody else, or end.
     #[inline(always)]
-    pub fn may_run(&self, id: GlobalId) -> Result<Found<'_>, Reason>
+    pub(crate) fn may_run(&self, id: GlobalId) -> Result<Found<'_>, Reason>
         ensures thread { IfOk result (λ t. found self.now.machine self.now.world id ≡ Some t) }
         ensures reason { result_err result ≡ reason self.now.machine self.now.world (Local id) }
     {
@@ -28,7 +28,7 @@ impl World<'_> {
     }
 
     /// Runs an instruction of a thread that concerns nobody else, or ends the thread.
-    pub fn local(&mut self, id: GlobalId) -> Result<(), StepFault>
+    pub(crate) fn local(&mut self, id: GlobalId) -> Result<(), StepFault>
         ensures { Judged self.old (Local id) result self.new }
     {
         let thread = self.may_run(id)?;
@@ -39,7 +39,7 @@ impl World<'_> {
 
     /// The thread that may begin this send.
     #[inline(always)]
-    pub fn may_begin(&self, name: Name) -> Result<Found<'_>, Reason>
+    pub(crate) fn may_begin(&self, name: Name) -> Result<Found<'_>, Reason>
         ensures thread { IfOk result
             (λ t. found self.now.machine self.now.world name.thread ≡ Some t) }
         ensures room { IfOk result (λ t. t.now.context.begun + 1 < 2 ^ 64) }
@@ -54,7 +54,7 @@ impl World<'_> {
     }
 
     /// Begins the next send of a thread.
-    pub fn begin(&mut self, name: Name) -> Result<(), StepFault>
+    pub(crate) fn begin(&mut self, name: Name) -> Result<(), StepFault>
         ensures { Judged self.old (Begin name) result self.new }
     {
         let thread = self.may_begin(name)?;
@@ -65,7 +65,7 @@ impl World<'_> {
     }
 
     /// The thread that may begin a receive phase without a send phase.
-    pub fn may_wait(&self, id: GlobalId) -> Result<Found<'_>, Reason>
+    pub(crate) fn may_wait(&self, id: GlobalId) -> Result<Found<'_>, Reason>
         ensures thread { IfOk result (λ t. found self.now.machine self.now.world id ≡ Some t) }
         ensures reason { result_err result ≡ reason self.now.machine self.now.world (Wait id) }
     {
@@ -76,7 +76,7 @@ impl World<'_> {
     }
 
     /// Begins a receive phase without a send phase.
-    pub fn wait(&mut self, id: GlobalId) -> Result<(), StepFault>
+    pub(crate) fn wait(&mut self, id: GlobalId) -> Result<(), StepFault>
         ensures { Judged self.old (Wait id) result self.new }
     {
         let thread = self.may_wait(id)?;
@@ -87,7 +87,7 @@ impl World<'_> {
     }
 
     /// The thread that may give this order, and the order.
-    pub fn may_order(
+    pub(crate) fn may_order(
         &self,
         caller: GlobalId,
         target: GlobalId,
@@ -110,7 +110,7 @@ impl World<'_> {
     }
 
     /// Gives the order of a thread: to cancel or delete another one.
-    pub fn order(
+    pub(crate) fn order(
         &mut self,
         caller: GlobalId,
         target: GlobalId,
@@ -125,7 +125,7 @@ impl World<'_> {
     }
 
     /// Whether the clock of a processor may advance to this value.
-    pub fn may_tick(&self, tick: Tick) -> Result<(), Reason>
+    pub(crate) fn may_tick(&self, tick: Tick) -> Result<(), Reason>
         ensures reason { result_err result ≡
             reason self.now.machine self.now.world (Ticks tick.cpu tick.clock) }
     {
@@ -135,7 +135,7 @@ impl World<'_> {
     }
 
     /// Advances the clock of a processor.
-    pub fn tick(&mut self, tick: Tick) -> Result<(), StepFault>
+    pub(crate) fn tick(&mut self, tick: Tick) -> Result<(), StepFault>
         ensures { Judged self.old (Ticks tick.cpu tick.clock) result self.new }
     {
         self.may_tick(tick)?;

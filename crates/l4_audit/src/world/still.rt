@@ -16,7 +16,7 @@ use l4_types::steps::CLOCKS;
 
 impl World<'_> {
     /// Advances all clocks to their last value.
-    pub fn stop_clocks(&mut self) -> Result<(), NoMemory>
+    pub(crate) fn stop_clocks(&mut self) -> Result<(), NoMemory>
         ensures { OnOk result (self.new ≡ with_world self.old (late self.old.world)) }
     {
         let cpus = self.clocks.len();
@@ -26,7 +26,7 @@ impl World<'_> {
     }
 
     /// Whether, with the clocks as they are, no retarget is owed and no thread has a possible step.
-    pub fn is_still(&self) -> bool
+    pub(crate) fn is_still(&self) -> bool
         ensures { result ≡ is_still_now self.now.machine self.now.world }
     {
         self.owes_nothing() && self.are_still()

@@ -20,7 +20,7 @@ use std::alloc::Global;
 
 impl World<'_> {
     /// The report of each thread, in order of declaration.
-    pub fn threads(&self, alloc: Global) -> Result<Vec<ThreadView>, NoMemory>
+    pub(crate) fn threads(&self, alloc: Global) -> Result<Vec<ThreadView>, NoMemory>
         ensures { IfOk result (λ views. map report_of_view views.items ≡
             view self.now.machine self.now.world) }
     {
@@ -32,7 +32,11 @@ impl World<'_> {
     }
 
     /// The sends among these that are undecided here, with their destinations.
-    pub fn waiting(&self, alloc: Global, begun: &[Name]) -> Result<Vec<(Name, ThreadId)>, NoMemory>
+    pub(crate) fn waiting(
+        &self,
+        alloc: Global,
+        begun: &[Name],
+    ) -> Result<Vec<(Name, ThreadId)>, NoMemory>
         ensures { IfOk result (λ sends. sends.items ≡
             filter_map (waiting_send self.now.machine self.now.world) begun.now) }
     {
@@ -63,7 +67,7 @@ impl World<'_> {
     }
 
     /// Each thread that waits, in order of declaration, with what it waits for.
-    pub fn waits(&self, alloc: Global) -> Result<Vec<(GlobalId, Wait)>, NoMemory>
+    pub(crate) fn waits(&self, alloc: Global) -> Result<Vec<(GlobalId, Wait)>, NoMemory>
         ensures { IfOk result (λ waits. waits.items ≡
             waits_in self.now.machine self.now.world) }
     {

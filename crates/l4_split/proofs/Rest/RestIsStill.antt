@@ -1,4 +1,4 @@
--- Where a machine is at rest, nothing but clocks can go on in the world.
+-- Where a machine is at rest, its threads are settled: nothing but clocks can go on in the world.
 use Rattle.l4_core_model.proofs.Changed.{same_nat}
 use Rattle.l4_split.proofs.Letters.Lawful.{placed}
 use Rattle.l4_split.proofs.Relation.Owing.{is_at_one, goes_away, is_beside, retargets_in}
@@ -26,11 +26,10 @@ use Rattle.l4_split.proofs.Promises.Promised.{IsSplitSend, Promised}
 use Rattle.l4_split.proofs.Relation.Relates.{senders, Relates}
 use Rattle.l4_split.proofs.Frames.Moves.{deleted_phase}
 use Rattle.l4_split.proofs.Rest.Seen.{refusable_at_home}
-use Rattle.l4_split.proofs.Rest.Settled.{IsSettledSend, there, IsSettledReceive, IsSettledThread, settled_still}
+use Rattle.l4_split.proofs.Rest.Settled.{IsSettledSend, there, IsSettledReceive, IsSettledThread, IsSettled}
 use Rattle.l4_split.proofs.Rest.Resting.{IsAtRest, own, own_agrees, own_shown, own_waits, no_deadline, none_armed, none_ending, is_at_rest, no_order, unready, known_gone}
 use Rattle.std.specs.Option.{option_map}
 use Rattle.l4_model.specs.Words.{Id, NilThread, AnyThread, AnyLocalThread, LocalThread, GlobalThread}
-use Rattle.l4_model.specs.Still.{IsStill}
 use Rattle.l4_core_model.specs.Runs.{System, at_rest, IsMachine}
 use Rattle.l4_core_model.proofs.Good.{receiving_has_none}
 use Rattle.l4_split.proofs.Sends.Waiting.{first_accepted_is}
@@ -221,13 +220,14 @@ nothing_owed m (o ∷ owed) among kept letters =
         let some : filter (goes_away m) (o ∷ owed) ≡ o ∷ filter (goes_away m) owed = rw away refl in
         cc (letters, some)
 
-pub resting_still : (m : Machine) (g : System) (w : World) → IsMachine m → length g.locals ≡ m.cpus → Relates m g w → Promised m [] (scene g) →
-    WorldFacts m w → at_rest m g ≡ true → IsStill m w
-resting_still m g w machine counted rel promised facts h =
+-- All threads of a machine at rest are settled.
+pub resting_settled : (m : Machine) (g : System) (w : World) → IsMachine m → length g.locals ≡ m.cpus → Relates m g w → Promised m [] (scene g) →
+    WorldFacts m w → at_rest m g ≡ true → IsSettled m w
+resting_settled m g w machine counted rel promised facts h =
     let rest = is_at_rest m g w machine counted rel promised h in
-    settled_still m w (record {
+    record {
       size = rel.sized_world.threads;
       nothing_owed = nothing_owed m w.owed facts.owed_among
           (λ r lt. rel.owing.kept r lt ∙ ap (λ o. cons_option o []) (rest.idle r lt).nothing_owed) (sym rel.owing.letters ∙ ap retargets_in rest.quiet);
       threads = λ i lt. settled_thread m (scene g) w i rest lt;
-    })
+    }

@@ -5,7 +5,8 @@ use Rattle.l4_commands.proofs.asked.endings_job.Goals as goal
 
 pub returns : goal.returns
 returns c =
-    let none : is_some c.wrong_line.result ≡ false = search rules in
-    endings_is (found_of c.args.matches.now) _ _ _ _ _ _ _ _ _ (sym c.in_ok-get_str.ensures) c.in_ok-number.ensures c.in_ok-number-2.ensures
-    c.in_ok-flag.ensures (sym c.get_str-2.ensures) (sym c.get_str-3.ensures) c.in_ok-flag-2.ensures c.in_ok-flag-3.ensures (sym c.get_str-4.ensures)
-    (right_by c.wrong_line.result _ c.wrong_line.ensures none)
+    let none : is_some c.endings_conflict.result ≡ false = search rules in
+    endings_is (found_of c.args.matches.now) _ _ _ _ _ _ _ _ _ _ _ (sym c.in_ok-get_str.ensures) c.in_ok-scheduler.ensures c.in_ok-number.ensures
+    c.in_ok-number-2.ensures c.in_ok-flag.ensures (sym c.get_str-2.ensures) (sym c.get_str-3.ensures) c.in_ok-wanted.ensures c.in_ok-flag-2.ensures
+    (sym c.get_str-4.ensures) c.in_ok-traced.ensures
+    (right_by c.endings_conflict.result _ c.endings_conflict.ensures none)

@@ -1,12 +1,13 @@
 use Rattle.std.proofs.Common.{◌≤◌, length, map}
+use Rattle.l4_explore.specs.Search.{seen_at}
 use Rattle.l4_explore.specs.Views.{next_from}
 use Rattle.l4_explore.proofs.Trying.{GoingOn}
 use Rattle.l4_explore.proofs.search.expand.Given as goal
 
--- What was found so far, and the entries that are left.
+-- What was found so far, and the choices that are left.
 abbrev pub invariant-loop-choice : goal.invariant-loop-choice
 invariant-loop-choice g l = record {
-  going : GoingOn (g.T.Tries.state_of l.tries) l.found l.next l.schedule
-      (map next_from l.choice-iterator.rest.items);
+  going : GoingOn (g.T.Tries.state_of l.tries) (g.T.Tries.offers l.tries) l.found l.next
+      (seen_at l.fn.found l.next) (map next_from l.choice-iterator.rest.items);
   few : length l.found ≤ l.most;
 }

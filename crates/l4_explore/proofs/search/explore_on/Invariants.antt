@@ -4,7 +4,7 @@ use Rattle.l4_explore.proofs.search.explore_on.Given as goal
 
 abbrev pub invariant-loop-next : goal.invariant-loop-next
 invariant-loop-next g l = record {
-  searched : IsSearched (g.T.Tries.state_of l.tries) l.found l.next;
+  searched : IsSearched (g.T.Tries.state_of l.tries) (g.T.Tries.offers l.tries) l.found l.next;
   few : length l.found ≤ l.most;
   deep : AreWithin l.found l.depth;
   shallow : (i : ℕ) → i < l.next → length (seen_at l.found i).schedule < l.depth;

@@ -1,5 +1,5 @@
 use Rattle.std.proofs.Common.{◌<◌, ◌≤◌, length, ap, sym, ◌∙◌, arith}
-use Rattle.l4_questions.specs.Asked.{is_closed_at}
+use Rattle.l4_questions.specs.Placed.{is_closed_at}
 use Rattle.l4_questions.proofs.Following.{none_at_all, none_more, one_of}
 use Rattle.l4_questions.proofs.closed.is_any_closed.Goals as goal
 

@@ -6,7 +6,7 @@ use Rattle.l4_audit.proofs.world.World.delivery.Goals as goal
 pub is_cross-cross-requires-clause-sender : goal.is_cross-cross-requires-clause-sender
 is_cross-cross-requires-clause-sender c =
     let a = c.args.self.now in
-    rw (ap (λ (x : Audited). x.machine) c.self.view_is) (sender_is_found a.machine a.world c.in_ok-name.name c.in_ok-pending.pending (sym c.undecided.ensures ∙ c.in_ok-pending.was))
+    rw (ap (λ (x : Audited). x.machine) c.self.view_is) (sender_is_found a.machine a.world c.args.name c.in_ok-pending.pending (sym c.undecided.ensures ∙ c.in_ok-pending.was))
 
 pub is_cross-cross-requires-clause-receiver : goal.is_cross-cross-requires-clause-receiver
 is_cross-cross-requires-clause-receiver c =

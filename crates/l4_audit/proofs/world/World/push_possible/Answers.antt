@@ -21,7 +21,7 @@ returns c =
     push_then f _ _ _ _ _ (drop 1 all) c.in_ok-push.ensures (ap (λ x. Some (Local x)) id)
     (push_then f _ _ _ _ _ (drop 2 all) c.in_ok-push-2.ensures (mapped step_of Begin _ _ _ (λ x y p. search rules) c.map.ensures.cases ∙ ap (option_map Begin) c.coming_name.ensures)
     (push_then f _ _ _ _ _ (drop 3 all) c.in_ok-push-3.ensures (mapped step_of Queue _ _ _ (λ x y p. search rules) c.map-2.ensures.cases ∙ ap (option_map Queue) c.last_name.ensures)
-    (push_then f _ _ _ _ _ (drop 4 all) c.in_ok-push-4.ensures (c.delivery.ensures ∙ ap (delivery m w) c.last_name-2.ensures)
+    (push_then f _ _ _ _ _ (drop 4 all) c.in_ok-push-4.ensures (c.delivery_of.ensures ∙ ap (delivery m w) c.last_name-2.ensures)
     (push_then f _ _ _ _ _ (drop 5 all) c.in_ok-push-5.ensures (ap (λ x. Some (Wait x)) id)
     (push_then f _ _ _ _ _ (drop 6 all) c.in_ok-push-6.ensures (mapped step_of SendTimeout _ _ _ (λ x y p. search rules) c.map-3.ensures.cases ∙ ap (option_map SendTimeout) c.last_name-3.ensures)
     (push_then f _ _ _ _ _ (drop 7 all) c.in_ok-push-7.ensures (ap (λ x. Some (ReceiveTimeout x)) id)

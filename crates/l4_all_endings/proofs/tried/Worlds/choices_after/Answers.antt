@@ -1,0 +1,27 @@
+use Rattle.std.proofs.Common.{ap, subst, sym, ◌∙◌}
+use Rattle.l4_futures.specs.Choices.{tried}
+use Rattle.l4_all_endings.specs.Tried.{entries_of, nexts_at, AreOpen}
+use Rattle.l4_all_endings.proofs.Leading.{by_entries, tried_open}
+use Rattle.l4_all_endings.proofs.tried.Worlds.choices_after.Goals as goal
+
+pub choices_by-requires-clause-possible : goal.choices_by-requires-clause-possible
+choices_by-requires-clause-possible c =
+    let m = c.args.self.now.machine.now in
+    let o = c.in_ok-outlook.outlook in
+    subst (AreOpen m o.world)
+    (sym (c.deref.ensures.value ∙ c.in_ok-tried.ensures
+    ∙ ap (λ n. entries_of (tried n o.world)) c.in_ok-outlook.ensures.machine))
+    (tried_open m o.world)
+
+pub returns : goal.returns
+returns c =
+    let m = c.args.self.now.machine.now in
+    let o = c.in_ok-outlook.outlook in
+    record {
+      world = o.world;
+      leads = c.in_ok-outlook.ensures.leads;
+      are = c.in_ok-choices.ensures
+          ∙ ap (nexts_at m o.world) (c.deref.ensures.value ∙ c.in_ok-tried.ensures
+          ∙ ap (λ n. entries_of (tried n o.world)) c.in_ok-outlook.ensures.machine)
+          ∙ sym (by_entries m o.world (tried m o.world));
+    }

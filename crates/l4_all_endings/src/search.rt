@@ -1,0 +1,79 @@
+//! The search for all endings.
+ghost use Rattle.std.specs.Prelude.{◌≡◌, ◌++◌, ◌<◌, min, IfOk, OnOk, length, map};
+ghost use Rattle.l4_explore.specs.Search.{seen_at};
+ghost use Rattle.l4_explore.specs.Tries.{deepest};
+ghost use Rattle.l4_futures.specs.Endings.{AreAllEndings, HasLooked};
+ghost use Rattle.l4_futures.specs.Search.{ends_of};
+ghost use Rattle.l4_futures.specs.Traces.{trace_along};
+ghost use Rattle.l4_all_endings.specs.Tried.{schedules_from, AreLed};
+
+use crate::tried::Worlds;
+use l4_explore::found::Found;
+use l4_explore::progress::Progress;
+use l4_explore::search::{DEEPEST, explore};
+use l4_outlooks::know_times;
+use l4_script::machine::Machine;
+use l4_types::errors::NoMemory;
+use std::alloc::Global;
+
+/// What a search of all worlds has found.
+#[derive(Drop)]
+pub struct FoundEndings {
+    /// Each ending by the entries of a shortest history that comes to it (`trace_of`). The shorter
+    /// ones come first.
+    pub endings: Vec<Vec<u32>>,
+    /// The number of worlds looked at, no two of them as good as each other.
+    pub worlds: usize,
+    /// Each ending to which a history of at most this many steps but ticks comes was found. Where
+    /// the search is whole, the longest history that it needed is as long.
+    pub depth: usize,
+    /// Whether longer histories come to no other endings.
+    pub is_whole: bool,
+}
+
+/// The endings of a machine, whatever its scheduler does and whatever time passes: all to which
+/// histories of at most `depth` steps come, ticks not counted. Endings that are as good as each
+/// other are listed once.
+///
+/// It looks at no more than `most` worlds. No search goes deeper than 1,000,000 steps. A search that
+/// is not whole was cut off: it came to a world by as many steps as it may take, or there is one
+/// world more.
+///
+/// `NoMemory`: memory was refused.
+pub fn all_endings<P: Progress>(
+    alloc: Global,
+    machine: &Machine,
+    depth: u32,
+    most: u32,
+    progress: &mut P,
+) -> Result<FoundEndings, NoMemory>
+    requires { 0 < most }
+    ensures all { IfOk result (λ r. AreAllEndings machine.now
+        (map (trace_along machine.now) (schedules_from r.endings.items)) r.depth r.is_whole) }
+    ensures looked { IfOk result (λ r.
+        HasLooked machine.now (min depth deepest) most r.worlds r.depth r.is_whole) }
+    ensures led { IfOk result (λ r. AreLed machine.now (schedules_from r.endings.items)) }
+{
+    know_times(machine);
+    let worlds = Worlds::new(alloc, machine)?;
+    let explored = explore(alloc, &worlds, depth.min(DEEPEST), most, progress)?;
+    Ok(FoundEndings {
+        endings: ends(alloc, &explored.found)?,
+        worlds: explored.found.len(),
+        depth: explored.depth,
+        is_whole: explored.is_whole,
+    })
+}
+
+// The entries to the worlds in which nothing can go on.
+fn ends(alloc: Global, found: &Found) -> Result<Vec<Vec<u32>>, NoMemory>
+    ensures { IfOk result (λ ends. schedules_from ends.items ≡ ends_of found.now) }
+{
+    let mut ends = Vec::new(alloc);
+    for place in 0..found.len() {
+        if found.is_end(place) {
+            ends.push(found.schedule(alloc, place)?)?;
+        }
+    }
+    Ok(ends)
+}

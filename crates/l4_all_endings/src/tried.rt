@@ -1,0 +1,146 @@
+//! The worlds of a machine, as a search tries them.
+ghost use Rattle.std.specs.Prelude.{◌≡◌, ◌+◌, ◌^◌, ◌<◌, IfOk, IsSome, Some, length, map};
+ghost use Rattle.l4_explore.specs.Views.{next_from, state_from};
+ghost use Rattle.l4_explore.specs.Tries.{AreCoded};
+ghost use Rattle.l4_futures.specs.Choices.{after_entry, world_after};
+ghost use Rattle.l4_futures.specs.Search.{state_after, state_in, AreTried};
+ghost use Rattle.l4_outlooks.specs.Foreseen.{IsLed};
+ghost use Rattle.l4_outlooks.specs.Standing.{left_alone};
+ghost use Rattle.l4_all_endings.specs.Tried.{next_at, nexts_at, AreChoicesAfter, AreOpen};
+
+use l4_explore::found::Found;
+use l4_explore::tries::{Choice, Reached, Tries};
+use l4_outlooks::{Alone, Outlook, know_times};
+use l4_script::machine::Machine;
+use l4_types::errors::NoMemory;
+use std::alloc::{AllocError, Global};
+
+/// The worlds of a machine, and which steps of its threads are tried alone.
+#[derive(Drop)]
+pub(crate) struct Worlds<'m> {
+    machine: &'m Machine,
+    alone: Alone,
+    ghost coded: { AreCoded (state_after machine.now) },
+    ghost known: { alone ≡ left_alone machine.now },
+}
+
+impl<'m> Worlds<'m> {
+    /// The worlds of a machine.
+    #[tactic(auto, using(crate::proofs::Leading::coded))]
+    pub(crate) fn new(alloc: Global, machine: &'m Machine) -> Result<Worlds<'m>, NoMemory>
+        ensures { IfOk result (λ worlds. worlds.machine.now ≡ machine.now) }
+    {
+        know_times(machine);
+        let alone = Alone::new(alloc, machine)?;
+        Ok(Worlds { machine, alone })
+    }
+
+    // The choices of the world that these entries lead to.
+    fn choices_after(&self, alloc: Global, entries: &[u32]) -> Result<Vec<Choice>, NoMemory>
+        requires leads { IsSome (world_after self.now.machine.now entries.now) }
+        requires few { length entries.now + 1 < 2 ^ 20 }
+        ensures { IfOk result (λ choices.
+            AreChoicesAfter self.now.machine.now entries.now (map next_from choices.items)) }
+    {
+        let outlook = outlook_after(alloc, self.machine, entries)?;
+        let tried = outlook.choices(alloc, &self.alone)?;
+        let choices = choices_by(alloc, self.machine, entries, outlook, &tried)?;
+        Ok(choices)
+    }
+}
+
+impl<'m> Tries for Worlds<'m> {
+    ghost state_of = { λ w. state_after w.machine.now };
+
+    ghost offers = { λ w. AreTried w.machine.now };
+
+    ghost coded = { λ w. w.coded };
+
+    fn opening(&self, alloc: Global) -> Result<Reached, AllocError> {
+        let Ok(outlook) = Outlook::new(alloc, self.machine) else {
+            return Err(AllocError);
+        };
+        reached(alloc, &outlook)
+    }
+
+    fn choices(
+        &self,
+        alloc: Global,
+        found: &Found,
+        place: usize,
+    ) -> Result<Vec<Choice>, AllocError> {
+        let entries = found.schedule(alloc, place)?;
+        let Ok(choices) = self.choices_after(alloc, &entries) else {
+            return Err(AllocError);
+        };
+        Ok(choices)
+    }
+}
+
+// The state of a world.
+fn reached(alloc: Global, outlook: &Outlook<'_>) -> Result<Reached, AllocError>
+    ensures { IfOk result (λ reached.
+        state_from reached ≡ state_in outlook.now.machine outlook.now.world) }
+{
+    Ok(Reached {
+        code: outlook.code(alloc)?,
+        is_end: outlook.is_end(),
+    })
+}
+
+// The world that entries lead to.
+fn outlook_after<'m>(
+    alloc: Global,
+    machine: &'m Machine,
+    entries: &[u32],
+) -> Result<Outlook<'m>, NoMemory>
+    requires leads { IsSome (world_after machine.now entries.now) }
+    requires few { length entries.now < 2 ^ 20 }
+    ensures { IfOk result (IsLed machine.now entries.now) }
+{
+    let mut outlook = Outlook::new(alloc, machine)?;
+    for entry in entries {
+        outlook.take(*entry)?;
+    }
+    Ok(outlook)
+}
+
+// The state that one more entry leads to.
+fn choice_by(alloc: Global, outlook: Outlook<'_>, entry: u32) -> Result<Choice, NoMemory>
+    requires possible { IsSome (after_entry outlook.machine outlook.world entry) }
+    requires room { outlook.taken + 1 < 2 ^ 20 }
+    ensures { IfOk result (λ choice.
+        next_at outlook.entry.machine outlook.entry.world entry ≡ Some (next_from choice)) }
+{
+    let mut behind = outlook;
+    behind.take(entry)?;
+    let reached = reached(alloc, &behind)?;
+    Ok(Choice { entry, reached })
+}
+
+// The states that each of these entries leads to from the world of `outlook`, to which `entries`
+// lead.
+fn choices_by(
+    alloc: Global,
+    machine: &Machine,
+    entries: &[u32],
+    outlook: Outlook<'_>,
+    tried: &[u32],
+) -> Result<Vec<Choice>, NoMemory>
+    requires led { IsLed machine.now entries.now outlook }
+    requires few { length entries.now + 1 < 2 ^ 20 }
+    requires possible { AreOpen machine.now outlook.world tried.now }
+    ensures { IfOk result (λ choices.
+        map next_from choices.items ≡ nexts_at machine.now outlook.entry.world tried.now) }
+{
+    let mut choices = Vec::new(alloc);
+    let Some((last, others)) = tried.split_last() else {
+        return Ok(choices);
+    };
+    for entry in others {
+        let again = outlook_after(alloc, machine, entries)?;
+        choices.push(choice_by(alloc, again, *entry)?)?;
+    }
+    choices.push(choice_by(alloc, outlook, *last)?)?;
+    Ok(choices)
+}

@@ -1,0 +1,115 @@
+-- Where a search ends, what it has found is what it says.
+use Rattle.std.proofs.Common.{◌≡◌, ℕ, ◌+◌, ◌-◌, ◌<◌, ◌≤◌, true, false, ◌⊎◌, inl, inr, List, length, Option, refl, ap, arith}
+use Rattle.std.proofs.Math.Nat.{eq-or-lt_of_le}
+use Rattle.std.proofs.lemmas.Bool.{cases_lt}
+use Rattle.l4_explore.specs.Orders.{IsBefore}
+use Rattle.l4_explore.specs.Tries.{State}
+use Rattle.l4_explore.specs.Search.{Seen, seen_at, depth_of, AreFound, AreWithin, IsCutByDepth, IsCutByStates, IsExplored, IsGoneOn, IsSearched, IsStopped, Offers}
+use Rattle.l4_explore.proofs.Orders.{before_length}
+
+-- None is deeper than the last one.
+pub within_last : (found : List Seen) →
+    ((i j : ℕ) → i < j → j < length found →
+    IsBefore (seen_at found i).schedule (seen_at found j).schedule) →
+    AreWithin found (depth_of found)
+within_last found rising i l = by (eq-or-lt_of_le {n = i} {m = length found - 1} (omega arith))
+  where
+    by : (i ≡ length found - 1) ⊎ (i < length found - 1) →
+        length (seen_at found i).schedule ≤ depth_of found
+    by (inl e) =
+        let same = ap (λ j. length (seen_at found j).schedule) e in omega (arith, same)
+    by (inr m) =
+        before_length (seen_at found i).schedule (seen_at found (length found - 1)).schedule
+        (rising i (length found - 1) m (omega arith))
+
+-- Nor is an earlier one deeper than a later one.
+no_deeper : (f : List ℕ → Option State) (found : List Seen) (i j : ℕ) → AreFound f found → i ≤ j →
+    j < length found → length (seen_at found i).schedule ≤ length (seen_at found j).schedule
+no_deeper f found i j all le l = by (eq-or-lt_of_le le)
+  where
+    by : (i ≡ j) ⊎ (i < j) →
+        length (seen_at found i).schedule ≤ length (seen_at found j).schedule
+    by (inl e) = let same = ap (λ k. length (seen_at found k).schedule) e in omega (arith, same)
+    by (inr m) =
+        before_length (seen_at found i).schedule (seen_at found j).schedule (all.rising i j m l)
+
+module _ (f : List ℕ → Option State) (offers : Offers) (found : List Seen) (next depth : ℕ) where
+  -- None is left that was not gone on from.
+  pub exhausted : IsSearched f offers found next → length found ≤ next → depth ≡ depth_of found →
+      IsExplored f offers found depth true
+  exhausted s none deepest = record {
+    all = s.all;
+    gone_on = λ i l why. s.gone_on i (omega (arith, l, none));
+    near = λ i l. let w = within_last found s.all.rising i l in omega (arith, w, deepest);
+  }
+
+  -- The next one is as deep as it was to go.
+  module _ (s : IsSearched f offers found next) (inside : next < length found)
+      (full : depth ≤ length (seen_at found next).schedule)
+      (deep : AreWithin found depth) where
+    pub cut_by_depth : IsExplored f offers found depth false
+    cut_by_depth = record {
+      all = s.all;
+      gone_on = λ i l why. by i l why (cases_lt i next);
+      near = λ i l. let d = deep i l in omega (arith, d);
+    }
+      where
+        by : (i : ℕ) → i < length found →
+            (length (seen_at found i).schedule < depth) ⊎ (false ≡ true) →
+            (i < next) ⊎ (next ≤ i) → IsGoneOn offers found i
+        by i l why (inl less) = s.gone_on i less
+        by i l (inl short) (inr le) =
+            let d = no_deeper f found next i s.all le l in absurd (omega (arith, d, short, full))
+        by i l (inr whole) (inr le) = cc
+
+    pub is_cut_by_depth : IsCutByDepth found depth depth
+    is_cut_by_depth = record {
+      all = refl;
+      deep =
+          let d = deep (length found - 1) (omega (arith, inside)) in
+          let n = no_deeper f found next (length found - 1) s.all (omega (arith, inside))
+          (omega (arith, inside)) in
+          omega (arith, d, n, full);
+    }
+
+  -- There is one more than are wanted.
+  module _ (most reached : ℕ) (s : IsStopped f offers found next) (all : AreFound f found)
+      (same : length (seen_at found next).schedule ≡ reached) where
+    pub cut_by_states : AreWithin found (reached + 1) → IsExplored f offers found reached false
+    cut_by_states near = record {
+      all = all;
+      gone_on = λ i l why. by i l why (cases_lt i next);
+      near = near;
+    }
+      where
+        by : (i : ℕ) → i < length found →
+            (length (seen_at found i).schedule < reached) ⊎ (false ≡ true) →
+            (i < next) ⊎ (next ≤ i) → IsGoneOn offers found i
+        by i l why (inl less) = s.gone_on i less
+        by i l (inl short) (inr le) =
+            let d = no_deeper f found next i all le l in absurd (omega (arith, d, short, same))
+        by i l (inr whole) (inr le) = cc
+
+    pub is_cut_by_states : reached < depth → length found ≡ most →
+        IsCutByStates f offers found depth most reached
+    is_cut_by_states shallow full = record {
+      shallow = shallow;
+      full = full;
+      place = next;
+      far = same;
+      stopped = s;
+    }
+
+-- Nothing is deeper than it was to go where the one that was tried is not as deep.
+pub deep_enough : (found : List Seen) (near depth : ℕ) → near < depth → AreWithin found (near + 1) →
+    AreWithin found depth
+deep_enough found near depth l w i m = let d = w i m in omega arith
+
+-- No schedule of those that were tried is longer than that of the last of them.
+pub all_shallow : (f : List ℕ → Option State) (offers : Offers) (found : List Seen)
+    (next depth : ℕ) → IsSearched f offers found (next + 1) →
+    length (seen_at found next).schedule < depth → (i : ℕ) → i < next + 1 →
+    length (seen_at found i).schedule < depth
+all_shallow f offers found next depth s short i l =
+    let d = no_deeper f found i next s.all (omega arith) (omega (arith, s.within)) in
+    omega (arith, d, short)

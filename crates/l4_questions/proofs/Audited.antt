@@ -1,0 +1,114 @@
+-- What an audit tells of the world that a trace comes to.
+use Rattle.std.proofs.Common.{◌≡◌, ℕ, ◌≤◌, Bool, true, false, Option, Some, None, Result, Ok, Err, List, [], ◌∷◌, ◌++◌, length, map, refl, ap, ap₂, sym, ◌∙◌, arith, take, subst}
+use Rattle.std.specs.Prelude.{◌||◌, OnOk, codes, decimal, is_some, filter_map, option_map, zip}
+use Rattle.std.specs.List.{cons_option, list_any}
+use Rattle.std.proofs.lemmas.List.{length-map, take_all}
+use Rattle.l4_model.specs.Words.{GlobalId, Id}
+use Rattle.l4_model.specs.Conditions.{found_by}
+use Rattle.l4_model.specs.Machine.{Declaration, Machine}
+use Rattle.l4_model.specs.World.{Receive, Send, Thread, World, receive_now}
+use Rattle.l4_model.specs.Steps.{Step}
+use Rattle.l4_model.specs.History.{IsFirstFault, IsHistory, reached, view}
+use Rattle.l4_model.proofs.Worlds.{reached_facts}
+use Rattle.l4_audit.specs.Auditing.{Auditing, waiting_send}
+use Rattle.l4_audit.specs.Audits.{IsReached}
+use Rattle.l4_audit.specs.Waits.{is_expected, send_wait, wait_in, waiting_thread, waits_in}
+use Rattle.l4_audit.specs.declared.waits.Wait.{Wait}
+use Rattle.l4_audit.proofs.Auditing.{waiting_begun}
+use Rattle.l4_futures.specs.Endings.{length_of}
+use Rattle.l4_futures.specs.Stuck.{is_closed, is_stuck_thread, is_stuck_world}
+use Rattle.l4_reports.specs.ReportLines.{report_text}
+use Rattle.l4_types.specs.declared.reports.Ending.TheVariants.{Quiet}
+use Rattle.l4_waits.specs.Lines.{waits_text}
+use Rattle.l4_questions.specs.Answers.{ending_after, ending_in, ending_or_none}
+use Rattle.l4_questions.specs.Endings.{Ending}
+use Rattle.l4_questions.specs.Waiting.{is_stuck_wait, report_by}
+
+-- A thread that waits for ever is one of those that wait.
+
+abbrev stuck_by : Option Wait → Bool
+stuck_by None = false
+stuck_by (Some wait) = is_stuck_wait wait
+
+one_wait : (id : GlobalId) (o : Option Wait) (rest : List (GlobalId × Wait)) →
+    list_any (λ x. is_stuck_wait x.1) (cons_option (option_map (λ wait. (id, wait)) o) rest)
+    ≡ (stuck_by o || list_any (λ x. is_stuck_wait x.1) rest)
+one_wait id None rest = refl
+one_wait id (Some wait) rest = refl
+
+sends : (expected : Bool) (to : Id) → is_stuck_wait (send_wait expected to) ≡ true
+sends true to = refl
+sends false to = refl
+
+waits_alike : (m : Machine) (w : World) (o : Option Send) (r : Option Receive) →
+    stuck_by (wait_in m w o r) ≡ (is_some o || is_closed r)
+waits_alike m w (Some send) r = sends (is_expected m send.message.shown (found_by m w send.to)) send.to
+waits_alike m w None (Some receive) = refl
+waits_alike m w None None = refl
+
+any_thread : (m : Machine) (w : World) (ids : List GlobalId) (ts : List Thread) →
+    length ts ≡ length ids →
+    list_any (λ x. is_stuck_wait x.1)
+    (filter_map (λ p. waiting_thread m w p.0 p.1) (zip ids ts))
+    ≡ list_any is_stuck_thread ts
+any_thread m w [] [] same = refl
+any_thread m w [] (t ∷ ts) same = cc
+any_thread m w (id ∷ ids) [] same = cc
+any_thread m w (id ∷ ids) (t ∷ ts) same =
+    let others : length ts ≡ length ids = omega (arith, same) in
+    one_wait id (wait_in m w t.send (receive_now t.phase))
+    (filter_map (λ p. waiting_thread m w p.0 p.1) (zip ids ts))
+    ∙ ap₂ (λ (one more : Bool). one || more)
+    (waits_alike m w t.send (receive_now t.phase)) (any_thread m w ids ts others)
+
+any_stuck : (m : Machine) (w : World) → length w.threads ≡ length m.threads →
+    list_any (λ x. is_stuck_wait x.1) (waits_in m w) ≡ is_stuck_world w
+any_stuck m w same =
+    any_thread m w (map (λ (d : Declaration). d.id) m.threads) w.threads
+    (same ∙ sym (length-map m.threads (λ (d : Declaration). d.id)))
+
+-- No step of a history is refused.
+pub never_refused : (m : Machine) (h : List Step) (place : ℕ) → IsHistory m h →
+    IsFirstFault m h place → ⊥
+never_refused m h place is first =
+    let whole : length h ≤ length h = omega arith in
+    let all = subst (IsHistory m) (sym (take_all (length h) h whole)) is in
+    omega (arith, first.within, first.is_longest (length h) whole all)
+
+-- What is told of a trace is what is told of the world that its audit has come to.
+
+told_as : {X : Type 0} (f : Ending → X) (m : Machine) (h : List Step) (a : Auditing) →
+    IsReached m h a → f (ending_after m h) ≡ f (ending_in m h a.at.world)
+told_as f m h a is = ap (λ o. f (ending_or_none m h o)) is.reached_by
+
+pub report_is : (m : Machine) (h : List Step) (a : Auditing) → IsReached m h a →
+    report_by a ≡ (ending_after m h).report
+report_is m h a is =
+    let w = a.at.world in
+    ap (λ x. report_text (view x w) (filter_map (waiting_send x w) a.begun) Quiet) is.machine
+    ∙ ap (λ s. report_text (view m w) s Quiet)
+    (ap (filter_map (waiting_send m w)) is.begun ∙ waiting_begun m w h)
+    ∙ sym (told_as (λ e. e.report) m h a is)
+
+pub stuck_is : (m : Machine) (h : List Step) (a : Auditing) (waits : List (GlobalId × Wait)) →
+    IsReached m h a → waits ≡ waits_in a.at.machine a.at.world →
+    list_any (λ x. is_stuck_wait x.1) waits ≡ (ending_after m h).is_stuck
+stuck_is m h a waits is found =
+    let w = a.at.world in
+    ap (list_any (λ x. is_stuck_wait x.1)) (found ∙ ap (λ x. waits_in x w) is.machine)
+    ∙ any_stuck m w (reached_facts m h w is.reached_by).threads_counted
+    ∙ sym (told_as (λ e. e.is_stuck) m h a is)
+
+waits_are : (m : Machine) (h : List Step) (a : Auditing) (old new : List ℕ) →
+    IsReached m h a → new ≡ old ++ waits_text a.at.machine a.at.world →
+    new ≡ old ++ (ending_after m h).waits
+waits_are m h a old new is written =
+    written ∙ ap (λ x. old ++ waits_text x a.at.world) is.machine
+    ∙ ap (λ (text : List ℕ). old ++ text) (sym (told_as (λ e. e.waits) m h a is))
+
+pub waits_if_ok : {A E : Type 0} (r : Result A E) (m : Machine) (h : List Step) (a : Auditing)
+    (old new : List ℕ) → IsReached m h a →
+    OnOk r (new ≡ old ++ waits_text a.at.machine a.at.world) →
+    OnOk r (new ≡ old ++ (ending_after m h).waits)
+waits_if_ok (Ok x) m h a old new is written = waits_are m h a old new is written
+waits_if_ok (Err e) m h a old new is written = tt

@@ -1,0 +1,54 @@
+-- What status 0 says where no ending should exist.
+use Rattle.std.proofs.Common.{◌≡◌, ℕ, Bool, true, false, Option, List, [], ◌∷◌, refl, ap, ◌∙◌, arith}
+use Rattle.std.specs.List.{list_all}
+use Rattle.l4_expect.specs.Expected.{Expected}
+use Rattle.l4_expect.specs.Unmet.{expected_status}
+use Rattle.l4_questions.specs.Asked.{asked_of}
+use Rattle.l4_questions.specs.Endings.{Ending}
+use Rattle.l4_questions.specs.Printed.{answer_status, meets, status_of_asked, status_of_none, status_of_some}
+use Rattle.l4_questions.specs.declared.question.Question.{Question}
+use Rattle.l4_questions.specs.declared.question.Wanted.{Wanted}
+use Rattle.l4_questions.specs.declared.question.Wanted.TheVariants.{AnEnding, NoEnding}
+
+pub record IsWholeAndEmpty (asked : List Ending) (is_whole : Bool) : Type 0 where
+  pub none : asked ≡ []
+  pub whole : is_whole ≡ true
+
+none_found : (asked : List Ending) (is_whole : Bool) → 0 ≡ status_of_none asked is_whole →
+    IsWholeAndEmpty asked is_whole
+none_found [] true is = record { none = refl; whole = refl }
+none_found [] false is = absurd (omega (arith, is))
+none_found (e ∷ asked) is_whole is = absurd (omega (arith, is))
+
+met_status : (met : Bool) (status : ℕ) → 0 ≡ expected_status met status → 0 ≡ status
+met_status true status is = is
+met_status false status is = absurd (omega (arith, is))
+
+pub by_status : (q : Question) (expected : Option (List Expected)) (endings : List Ending)
+    (is_whole : Bool) → q.wanted ≡ NoEnding → 0 ≡ answer_status expected q endings is_whole →
+    IsWholeAndEmpty (asked_of q endings) is_whole
+by_status q expected endings is_whole none is =
+    none_found (asked_of q endings) is_whole
+    (met_status (list_all (meets expected) (asked_of q endings)) _ is
+    ∙ ap (λ (wanted : Wanted). status_of_asked wanted (asked_of q endings) is_whole) none)
+
+-- What it says where one should exist: some ending is asked for.
+
+pub record IsFirstOf (asked : List Ending) : Type 0 where
+  pub first : Ending
+  pub others : List Ending
+  pub is : asked ≡ first ∷ others
+
+some_found : (asked : List Ending) (is_whole : Bool) → 0 ≡ status_of_some asked is_whole →
+    IsFirstOf asked
+some_found (e ∷ asked) is_whole is = record { first = e; others = asked; is = refl }
+some_found [] true is = absurd (omega (arith, is))
+some_found [] false is = absurd (omega (arith, is))
+
+pub some_by_status : (q : Question) (expected : Option (List Expected)) (endings : List Ending)
+    (is_whole : Bool) → q.wanted ≡ AnEnding → 0 ≡ answer_status expected q endings is_whole →
+    IsFirstOf (asked_of q endings)
+some_by_status q expected endings is_whole one is =
+    some_found (asked_of q endings) is_whole
+    (met_status (list_all (meets expected) (asked_of q endings)) _ is
+    ∙ ap (λ (wanted : Wanted). status_of_asked wanted (asked_of q endings) is_whole) one)

@@ -1,0 +1,46 @@
+use Rattle.std.proofs.Common.{◌≡◌, ℕ, List, ap, subst, ◌∙◌, arith}
+use Rattle.std.specs.Option.{option_copied}
+use Rattle.l4_states.specs.Endings.{AreEndings}
+use Rattle.l4_endings.specs.Tried.{told}
+use Rattle.l4_questions.specs.Placed.{placed_endings}
+use Rattle.l4_questions.specs.Printed.{IsTold}
+use Rattle.l4_questions.specs.Writing.{AreWritten}
+use Rattle.l4_questions.proofs.placed_answering.placed_answer.Goals as goal
+
+pub returns-clause-ok : goal.returns-clause-ok
+returns-clause-ok g c =
+    let m = c.args.machine.now in
+    let q = c.args.question.now in
+    let waits = c.args.beside.waits in
+    let expected = option_copied c.args.beside.expected in
+    let found = c.in_ok-found.found in
+    let endings = told found.endings.items in
+    let limits = c.in_ok-depth.ensures.ok in
+    let answer = c.in_ok-into_answer.field-0 in
+    let written = subst (λ es.
+    AreWritten q waits expected (placed_endings m (told es)) c.in_ok-written.written)
+    c.as_slice.ensures.value c.in_ok-written.ensures in
+    record {
+      lawful = limits.0;
+      endings = endings;
+      states = found.states;
+      depth = found.depth;
+      is_whole = found.is_whole;
+      searched = record {
+        all = c.in_ok-found.ensures.all;
+        found =
+            subst (λ (n : ℕ). AreEndings m endings found.states q.depth n found.depth found.is_whole)
+            limits.2
+            (subst (λ (n : ℕ). AreEndings m endings found.states n c.in_ok-depth.most found.depth
+            found.is_whole) limits.4 c.in_ok-found.ensures.found);
+        few = omega (arith, c.in_ok-found.ensures.few, limits.2);
+        whole = λ is.
+            let far = c.in_ok-found.ensures.whole is in
+            (omega (arith, far.0, limits.1), far.1);
+      };
+      told =
+          subst (λ (last : List ℕ). IsTold q waits expected (placed_endings m endings) last
+          found.is_whole answer.lines.items answer.unmet.items answer.status)
+          (c.as_slice-2.ensures.value ∙ c.in_ok-last.ensures)
+          (c.in_ok-into_answer.ensures waits expected (placed_endings m endings) written);
+    }

@@ -1,0 +1,65 @@
+//! The answer to a question about the runs that processors make by schedules.
+ghost use Rattle.std.specs.Prelude.{◌≡◌, ◌⊎◌, IfErr, IfOk, Some};
+ghost use Rattle.std.specs.Option.{option_copied};
+ghost use Rattle.l4_endings.specs.Tried.{told};
+ghost use Rattle.l4_questions.specs.Limits.{question_fault};
+ghost use Rattle.l4_questions.specs.Placed.{placed_endings, IsPlacedAnswer};
+ghost use Rattle.l4_questions.specs.Writing.{AreWritten};
+ghost use Rattle.l4_questions.specs.declared.question.QuestionFault.TheVariants.{NoMemory as OutOfMemory};
+
+use crate::beside::Beside;
+use crate::judged::{Answer, Written};
+use crate::placed::PlacedEnding;
+use crate::printed::states_line;
+use crate::question::{Question, QuestionFault};
+use l4_endings::endings;
+use l4_explore::progress::Progress;
+use l4_machine::Entry;
+use l4_script::machine::Machine;
+use l4_types::errors::NoMemory;
+use std::alloc::Global;
+
+// What is written of endings. It replays one at a time.
+fn written(
+    alloc: Global,
+    machine: &Machine,
+    question: &Question<'_>,
+    beside: Beside<'_, '_>,
+    endings: &[Vec<Entry>],
+) -> Result<Written, NoMemory>
+    ensures { IfOk result (AreWritten question.now beside.entry.waits
+        (option_copied beside.entry.expected) (placed_endings machine.now (told endings.now))) }
+{
+    let mut written = Written::new(alloc);
+    for entries in endings {
+        let shown = PlacedEnding::new(alloc, machine, entries.as_slice())?;
+        written.write(alloc, question, beside, shown)?;
+    }
+    Ok(written)
+}
+
+/// The answer to a question: the endings that it asks for, numbered from 1, shorter schedules
+/// first. They are among the endings of all core runs of at most `depth` events, each once, with a
+/// shortest schedule. Only their schedules and lines are kept. `progress` hears how far the search
+/// has come.
+///
+/// `Depth`: the depth is 0 or above 1,000,000. `States`: so is the number of states. `NoMemory`:
+/// memory was refused.
+pub fn placed_answer<P: Progress>(
+    alloc: Global,
+    machine: &Machine,
+    question: &Question<'_>,
+    beside: Beside<'_, '_>,
+    progress: &mut P,
+) -> Result<Answer, QuestionFault>
+    ensures ok { IfOk result (λ answer. IsPlacedAnswer machine.now question.now beside.entry.waits
+        (option_copied beside.entry.expected) answer.lines.items answer.unmet.items answer.status) }
+    ensures err { IfErr result (λ fault. (fault ≡ OutOfMemory) ⊎
+        (question_fault question.now ≡ Some fault)) }
+{
+    let (depth, most) = question.limits()?;
+    let found = endings(alloc, machine, depth, most, progress)?;
+    let written = written(alloc, machine, question, beside, found.endings.as_slice())?;
+    let last = states_line(alloc, machine, found.states, found.depth, found.is_whole)?;
+    Ok(written.into_answer(question, last.as_slice(), found.is_whole)?)
+}

@@ -1,0 +1,36 @@
+use Rattle.std.proofs.Common.{◌≡◌, ◌<◌, ℕ, false, List, length, Option, None, Some, IfSome, IfNone, ap, sym, ◌∙◌, arith}
+use Rattle.l4_explore.specs.Codes.{code_at}
+use Rattle.l4_explore.specs.Search.{has_code, seen_at, Seen}
+use Rattle.l4_explore.specs.Grown.{seen_of}
+use Rattle.l4_explore.specs.Views.{nodes_from, AreArrivals}
+use Rattle.l4_explore.specs.declared.found.Arrival.{Arrival}
+use Rattle.l4_explore.proofs.Growing.{code_there, has_none, length-seen}
+use Rattle.l4_explore.proofs.found.Found.place_of.Goals as goal
+
+module _ (codes : List (List ℕ)) (arrivals : List Arrival) (are : AreArrivals codes arrivals)
+    (code : List ℕ) where
+  at : (found : Option ℕ) →
+      IfSome found (λ place. (place < length codes) × (code_at codes place ≡ code)) →
+      IfSome found (λ place. (place < length (seen_of (nodes_from codes arrivals)))
+      × ((seen_at (seen_of (nodes_from codes arrivals)) place).state.code ≡ code))
+  at None there = there
+  at (Some place) there = (
+    omega (arith, there.0, length-seen codes arrivals are),
+    code_there codes arrivals are place there.0 ∙ there.1,
+  )
+
+  nowhere : (found : Option ℕ) →
+      IfNone found ((place : ℕ) → place < length codes → code_at codes place ≡ code → ⊥) →
+      IfNone found (has_code (seen_of (nodes_from codes arrivals)) code ≡ false)
+  nowhere None absent = has_none codes arrivals are code absent
+  nowhere (Some place) absent = absent
+
+pub returns-clause-found : goal.returns-clause-found
+returns-clause-found c = rw (← c.self.view_is)
+    (at c.self.inside.codes c.self.inside.arrivals.items c.self.invariant c.args.code.now
+    c.find.result c.find.ensures.found)
+
+pub returns-clause-absent : goal.returns-clause-absent
+returns-clause-absent c = rw (← c.self.view_is)
+    (nowhere c.self.inside.codes c.self.inside.arrivals.items c.self.invariant c.args.code.now
+    c.find.result c.find.ensures.absent)

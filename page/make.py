@@ -29,6 +29,7 @@ SCRIPT = [
     "reading.js",
     "places.js",
     "words.js",
+    "circle.js",
     "address.js",
     "program.js",
     "session.js",

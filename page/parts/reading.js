@@ -105,7 +105,10 @@ function marksOf(out) {
             isDoubt: kind === "always" || kind === "perhaps",
         }));
 }
-const markText = ({ kind, word, hint }) => `${kind}${word ? ` \`${word}\`` : ""}: ${hint}`;
+function markText({ kind, word, hint, isDoubt }) {
+    const named = word ? `\`${word}\`: ` : "";
+    return isDoubt ? `${kind}${word ? ` \`${word}\`` : ""}: ${hint}` : `${named}${hint} (${kind})`;
+}
 
 // The items of a list that was typed, or recorded.
 function listOf(text) {

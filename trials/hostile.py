@@ -1,5 +1,5 @@
 """Gives the program machine texts, traces, schedules and expectations that somebody spoilt, has spoilt texts and lists linted and spoilt traces drawn,
-records runs, goes on behind schedules and asks for endings, and judges its status and its lines."""
+records runs and replays, goes on behind schedules, asks what may happen behind them and for endings, and judges its status and its lines."""
 
 import collections
 import os
@@ -21,6 +21,8 @@ BEHIND = rb"(?:waits \S+ \S+ (?:send|receive)\n)*(?:(?:circle|deadlock)(?: \S+)+
 PASSED = re.compile(rb"passed \d+ (?:quiet|spent)\n" + BEHIND)
 ENDINGS = re.compile(rb"(^|\n)(worlds \d+ steps \d+ (whole|cut)|states \d+ depth \d+ (whole, least ticks(, in turn)?|cut))\n$")
 ITEM = re.compile(rb"schedule item (\d+): (?:`[ -~]*`: )?[ -~]+")
+# Each item that may be next, with the steps that it would tell.
+NEXTS = re.compile(rb"(?:next (?:\d+:\d+|[ct]\d+)\n(?:(?!next )[^\n]+\n){0,3})*")
 # What a report does not meet, and which ending that is of.
 UNMET = re.compile(r"(?:(?:ending \d+ (?:steps \d+|\S*)|line \d+: (?:wanted|never): [ -~]+; found: [ -~]+)\n)+")
 QUIET, FAULT, USAGE, SPENT, FOUND = 0, 1, 2, 3, 4
@@ -131,6 +133,25 @@ def ending_audited(program, name, trace, dice, seen):
         judged([program, "audit", name, trace], seen, re.compile(rb"passed \d+ quiet\n").fullmatch)
 
 
+def goes_on(program, name, items, dice, seen):
+    """What may happen next is told, and a replay of one of these items behind the list adds the steps that are told of it."""
+    told = judged([program, "replay", name, "--schedule=" + items, "--next"], seen, NEXTS.fullmatch)
+    if not told:
+        return
+    item, _, steps = dice.choice(told.decode().split("next ")[1:]).partition("\n")
+    trace, longer = (judged([program, "replay", name, "--schedule=" + told], collections.Counter(), lambda out: True) for told in (items, f"{items},{item}".lstrip(",")))
+    if longer != trace + steps.encode():
+        sys.exit(f"{name} --schedule={items}: the replay of {item} behind it tells other steps than --next")
+
+
+def recorded(program, words, name, listed, seen):
+    """What is recorded is replayed as the same."""
+    told = judged([program, *words, "--record", listed], seen, lambda out: True)
+    if told is not None and told != judged([program, "replay", name, "--schedule=@" + listed], collections.Counter(), lambda out: True):
+        sys.exit(f"{words}: the replay of {listed} is another run")
+    return told
+
+
 def is_linted(out, fault):
     """Whether these are lines of faults, of which the first is what `run` said of the text; or of doubts, where it said nothing."""
     *lines, last = out.split(b"\n")
@@ -218,7 +239,7 @@ def write(name, told):
 
 def main(program, folder, count, part):
     name, trace, listed, wanted = (f"{folder}/hostile-{part}.{kind}" for kind in ("l4", "trace", "list", "expected"))
-    abouts = ("texts", "lint", "traces", "schedules", "rests", "items", "lists", "charts", "endings", "expectations")
+    abouts = ("texts", "lint", "traces", "schedules", "rests", "nexts", "items", "lists", "charts", "endings", "expectations")
     seen = {about: collections.Counter() for about in abouts}
     dice = random.Random(SEED + part)
     for done in range(count):
@@ -231,7 +252,8 @@ def main(program, folder, count, part):
         write(name, text)
         judged([program, "replay", name, "--schedule=" + schedule(dice)], seen["schedules"], lambda out: True)
         rest = ["--then-rest", *dice.choice([[], ["--turns", dice.choice(["0", "7", "300", "1000001"])]])]
-        judged([program, "replay", name, "--schedule=" + schedule(dice), *rest], seen["rests"], lambda out: True)
+        recorded(program, ["replay", name, "--schedule=" + schedule(dice), *rest], name, listed, seen["rests"])
+        goes_on(program, name, schedule(dice), dice, seen["nexts"])
         items_linted(program, name, schedule(dice), seen["items"])
         write(listed, list_file(dice))
         judged([program, "replay", name, "--schedule=@" + listed], seen["lists"], lambda out: True)
@@ -242,9 +264,7 @@ def main(program, folder, count, part):
         write(wanted, expected(dice, report))
         of = dice.choice([["run", name, "--turns", TURNS], ["replay", name, "--schedule=0,1,0"], ["endings", name, "--depth=6", "--states=50"], ["endings", name, "--placed", "--depth=6", "--states=50"]])
         judged([program, *of, "--expect=" + wanted], seen["expectations"], lambda out: True, others=(FOUND,))
-        told = judged([program, "run", name, "--turns", TURNS, "--record", listed], collections.Counter(), lambda out: True)
-        if told != judged([program, "replay", name, "--schedule=@" + listed], collections.Counter(), lambda out: True):
-            sys.exit(f"{name}: the replay of {listed} is another run")
+        told = recorded(program, ["run", name, "--turns", TURNS], name, listed, collections.Counter())
         write(trace, spoilt(dice, told or b"tick 0 1\n"))
         behind = [word for word in ("--waits", "--counts") if dice.random() < 0.3]
         judged([program, "audit", name, trace, *behind], seen["traces"], PASSED.fullmatch)

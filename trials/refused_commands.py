@@ -18,7 +18,7 @@ import tempfile
 from refusals import LIMIT, OTHERS, imports
 
 NO_MEMORY = b"l4run: no memory\n"
-# A run of one processor that is recorded, which no case has, and the name that the commands write to.
+# A run of one processor and a replay that are recorded, which no case has, and the name that the commands write to.
 RECORDED = "call_gets_its_answer.l4"
 RECORD = "record"
 
@@ -31,7 +31,8 @@ def blocks(case):
 
 def commands(cases):
     """Of each verb with each set of options and each status the shortest command: its words, and what it reads."""
-    found = {("run", "--record"): (["run", RECORDED, "--record", RECORD], "")}
+    replay = ["replay", RECORDED, "--schedule", "0", "--then-rest", "--record", RECORD]
+    found = {("run", "--record"): (["run", RECORDED, "--record", RECORD], ""), ("replay", "--record"): (replay, "")}
     for case in sorted(cases.glob("*.l4")):
         for line, *lines in blocks(case):
             words = shlex.split(line)

@@ -9,7 +9,7 @@ import random
 import subprocess
 import sys
 
-from second import expectations, explained, machines, model, processors, randoms, traces, waits
+from second import expectations, explained, machines, model, processors, randoms, searches, traces, waits
 
 SEED = 20_261_125
 QUIET, FAULT, SPENT, UNMET = 0, 1, 3, 4
@@ -25,6 +25,7 @@ class Case:
         self.program = program
         self.machine_file, self.trace_file = f"{folder}/second-{part}.l4", f"{folder}/second-{part}.trace"
         self.expectations_file = f"{folder}/second-{part}.expected"
+        self.record_file = f"{folder}/second-{part}.list"
         self.text = self.schedule = ""
 
     def take(self, text, schedule):
@@ -118,21 +119,51 @@ def expected(case, dice, replay, report, counts):
     counts[f"expectations with status {said[2]}"] += 1
 
 
+ITEMS_A_LINE = 16
+
+
+def recorded(entries):
+    """The record of a replay by these entries."""
+    items = list(map(str, entries))
+    lines = [",".join(items[at : at + ITEMS_A_LINE]) for at in range(0, len(items), ITEMS_A_LINE)]
+    return "; l4run replay FILE --schedule @NAME\n" + ",\n".join(lines) + "\n"
+
+
 def rested(case, dice, machine, entries, counts):
-    """Compares what becomes of a replay that goes on by itself after a beginning of its schedule."""
+    """Compares what becomes of a replay that goes on by itself after a beginning of its schedule, and what is recorded of it."""
     beginning, turns = entries[: dice.randint(0, len(entries))], dice.choice([1, 2, dice.randint(3, 40), 4000])
     replay = processors.Replay(machine)
     for entry in beginning:
         replay.take(entry)
     before = len(replay.history)
-    replay.go_on(turns)
+    rest = replay.go_on(turns)
     case.take(case.text, ",".join(map(str, beginning)))
-    at_rest = replay.is_at_rest()
+    at_rest, trace = replay.is_at_rest(), traces.text(replay.history)
     flags = ["--then-rest", "--turns", str(turns)]
-    case.replay("rest", traces.text(replay.history), at_rest, *flags)
+    case.replay("rest", trace, at_rest, *flags, "--record", case.record_file)
     case.replay("report of the rest", model.world_of(machine, replay.history).report(at_rest), at_rest, *flags, "--report")
+    with open(case.record_file) as file:
+        record = file.read()
+    if record != recorded([*beginning, *rest]):
+        sys.exit(f"the machine:\n{case.text}\nthe schedule:\n{case.schedule}\nand {turns} turns: recorded is\n{record}")
+    case.take(case.text, f"@{case.record_file}")
+    case.replay("record", trace, at_rest)
     counts["steps of rests"] += len(replay.history) - before
     counts["rests that are quiet" if at_rest else "rests that are spent"] += 1
+
+
+def nexts(case, dice, machine, entries, counts):
+    """Compares what may happen next behind a beginning of a schedule."""
+    beginning = entries[: dice.randint(0, len(entries))]
+    before, text = searches.walk(machine, beginning), ""
+    for choice in before.choices():
+        told = searches.walk(machine, (*beginning, choice)).history[len(before.history) :]
+        text += f"next {choice}\n" + traces.text(told)
+        counts["choices that may be next"] += 1
+        counts[f"choices that may be next, with {len(told)} steps"] += 1
+    case.take(case.text, ",".join(map(str, beginning)))
+    words = ["replay", case.machine_file, "--schedule", case.schedule, "--next"]
+    case.compare("what may happen next", words, text, "", QUIET)
 
 
 def tried(case, dice, kind, counts):
@@ -155,6 +186,7 @@ def tried(case, dice, kind, counts):
             counts[f"audits of {what}: {ending}"] += 1
     waited(case, dice, machine, replay, counts)
     rested(case, dice, machine, entries, counts)
+    nexts(case, dice, machine, entries, counts)
     counts["machines"] += 1
     counts[f"machines of profile {machine.profile}"] += 1
     counts[f"machines of {machine.format.bits} bits"] += 1

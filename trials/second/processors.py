@@ -530,29 +530,32 @@ class Replay:
                 self.tick(processor, clock)
 
     def go_on(self, turns):
-        """Goes on in rounds of a turn of each processor, rising, until so many turns are used up or nothing goes on. A tick is a turn."""
-        while turns > 0:
+        """Goes on in rounds of a turn of each processor, rising, until so many turns are used up or nothing goes on. A tick is a turn. Answers the
+        entries by which a replay does the same."""
+        entries = []
+        while turns > len(entries):
             done = self.round() or self.all_ticks()
             if not done:
-                return
-            turns -= done
+                break
+            entries += done
+        return entries
 
     def round(self):
-        """A turn of each processor, by the letters that are there when it comes to it. Answers how many had something to do."""
-        done = 0
+        """A turn of each processor, by the letters that are there when it comes to it. Answers the turns of those that had something to do."""
+        done = []
         for processor in self.processors:
             if self.is_busy(processor.cpu):
                 self.turn(processor)
-                done += 1
+                done.append(Turn(processor.cpu))
         return done
 
     def all_ticks(self):
-        """Each clock below the least deadline of all goes on to it. Answers how many did."""
+        """Each clock below the least deadline of all goes on to it. Answers their ticks."""
         least = min((processor.least_deadline() for processor in self.processors if processor.deadlines), default=0)
         late = [processor for processor in self.processors if processor.clock < least <= LAST_CLOCK]
         for processor in late:
             self.tick(processor, least)
-        return len(late)
+        return [TickTo(processor.cpu, least) for processor in late]
 
     def tick(self, processor, clock):
         processor.clock = clock

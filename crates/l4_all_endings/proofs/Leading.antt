@@ -159,34 +159,16 @@ open_on_way m entries i o inside leads led = by (world_after m entries) refl
         subst (λ n. IsSome (after_entry n o.world (get_or entries i 0))) (sym led.machine)
         (on_way m entries (opening m) o.world v i inside led.leads is)
 
--- The world that the same entries lead to once more
-pub record AreSame (m : Machine) (o a : Foreseen) : Type 0 where
-  pub machine : a.machine ≡ m
-  pub world : a.world ≡ o.world
+-- Among several
 
-pub same_world : (m : Machine) (entries : List ℕ) (o a : Foreseen) → IsLed m entries o → IsLed m entries a → AreSame m o a
-same_world m entries o a first again = record { machine = again.machine; world = some_is a.world o.world (sym again.leads ∙ first.leads) }
-
-open_before : (m : Machine) (w : World) (others rest : List ℕ) (i : ℕ) → i < length others → AreOpen m w (others ++ rest) → IsSome (after_entry m w (get_or others i 0))
+pub open_before : (m : Machine) (w : World) (others rest : List ℕ) (i : ℕ) → i < length others → AreOpen m w (others ++ rest) → IsSome (after_entry m w (get_or others i 0))
 open_before m w [] rest i inside all = absurd (omega (arith, inside))
 open_before m w (e ∷ es) rest zero inside all = all.0
 open_before m w (e ∷ es) rest (suc i) inside all = open_before m w es rest i (omega (arith, inside)) all.1
 
-pub again_open : (m : Machine) (entries tried others rest : List ℕ) (i : ℕ) (o a : Foreseen) → i < length others → tried ≡ others ++ rest → AreOpen m o.world tried → IsLed m entries o → IsLed m entries a → IsSome (after_entry a.machine a.world (get_or others i 0))
-again_open m entries tried others rest i o a inside is all first again =
-    let same = same_world m entries o a first again in
-    subst (λ n. IsSome (after_entry n a.world (get_or others i 0))) (sym same.machine)
-    (subst (λ w. IsSome (after_entry m w (get_or others i 0))) (sym same.world)
-    (open_before m o.world others rest i inside (subst (AreOpen m o.world) is all)))
-
 pub open_last : (m : Machine) (w : World) (others : List ℕ) (last : ℕ) → AreOpen m w (others ++ last ∷ []) → IsSome (after_entry m w last)
 open_last m w [] last all = all.0
 open_last m w (e ∷ es) last all = open_last m w es last all.1
-
-pub again_next : (m : Machine) (entries : List ℕ) (e : ℕ) (n : Next) (o a : Foreseen) → IsLed m entries o → IsLed m entries a → next_at a.machine a.world e ≡ Some n → next_at m o.world e ≡ Some n
-again_next m entries e n o a first again is =
-    let same = same_world m entries o a first again in
-    subst (λ w. next_at m w e ≡ Some n) same.world (subst (λ k. next_at k a.world e ≡ Some n) same.machine is)
 
 -- One state more
 pub one_next : (m : Machine) (w : World) (others : List ℕ) (i e : ℕ) (old new : List Found) (choice : Found) → i < length others → e ≡ get_or others i 0 → next_at m w e ≡ Some (next_from choice) → new ≡ old ++ choice ∷ [] →

@@ -44,7 +44,7 @@ impl<'m> Worlds<'m> {
     {
         let outlook = outlook_after(alloc, self.machine, entries)?;
         let tried = outlook.choices(alloc, &self.alone)?;
-        let choices = choices_by(alloc, self.machine, entries, outlook, &tried)?;
+        let choices = choices_by(alloc, outlook, &tried)?;
         Ok(choices)
     }
 }
@@ -118,28 +118,20 @@ fn choice_by(alloc: Global, outlook: Outlook<'_>, entry: u32) -> Result<Choice, 
     Ok(Choice { entry, reached })
 }
 
-// The states that each of these entries leads to from the world of `outlook`, to which `entries`
-// lead.
-fn choices_by(
-    alloc: Global,
-    machine: &Machine,
-    entries: &[u32],
-    outlook: Outlook<'_>,
-    tried: &[u32],
-) -> Result<Vec<Choice>, NoMemory>
-    requires led { IsLed machine.now entries.now outlook }
-    requires few { length entries.now + 1 < 2 ^ 20 }
-    requires possible { AreOpen machine.now outlook.world tried.now }
-    ensures { IfOk result (λ choices.
-        map next_from choices.items ≡ nexts_at machine.now outlook.entry.world tried.now) }
+// The states that each of these entries leads to from a world.
+fn choices_by(alloc: Global, outlook: Outlook<'_>, tried: &[u32]) -> Result<Vec<Choice>, NoMemory>
+    requires possible { AreOpen outlook.machine outlook.world tried.now }
+    requires room { outlook.taken + 1 < 2 ^ 20 }
+    ensures { IfOk result (λ choices. map next_from choices.items
+        ≡ nexts_at outlook.entry.machine outlook.entry.world tried.now) }
 {
     let mut choices = Vec::new(alloc);
     let Some((last, others)) = tried.split_last() else {
         return Ok(choices);
     };
     for entry in others {
-        let again = outlook_after(alloc, machine, entries)?;
-        choices.push(choice_by(alloc, again, *entry)?)?;
+        let copy = outlook.try_clone(alloc)?;
+        choices.push(choice_by(alloc, copy, *entry)?)?;
     }
     choices.push(choice_by(alloc, outlook, *last)?)?;
     Ok(choices)

@@ -14,7 +14,8 @@ fn has_trace(job: &Job<'_>) -> bool {
         Job::Run { printed, .. } | Job::Replay { printed, .. } => {
             !printed.report && !printed.extras.any()
         }
-        Job::Audit { .. } | Job::Chart(_) | Job::Endings(_) | Job::Lint { .. } => false,
+        Job::Next { .. } | Job::Audit { .. } | Job::Lint { .. } => false,
+        Job::Chart(_) | Job::Endings(_) => false,
     }
 }
 

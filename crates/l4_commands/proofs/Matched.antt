@@ -12,7 +12,7 @@ use Rattle.clap.specs.declared.error.kind.ErrorKind.{ErrorKind}
 use Rattle.clap.specs.declared.error.kind.ErrorKind.TheVariants.{OutOfMemory}
 use Rattle.clap.specs.declared.parser.matches.Found.{Found}
 use Rattle.clap.proofs.WalkLemmas.{first_value-rows, one_text-rows}
-use Rattle.l4_commands.specs.Asked.{ToRun, ToReplay, ToAudit, ToChart, ToSearch, ToLint, number_of, number_in, flag_of, flag_in, extras_in, judged_in, printed_in, are_both, flags_in, form_of, has_turns_alone, is_search_wrong, scheduler_in, traced_by, traced_in, wanted_in, is_input_of, is_over_file, are_turns_alone, is_run_wrong, is_same, line_told, lines_told, or_else, usage_text, lists_input, names_input, run_in, rest_in, rest_turns, replay_in, audit_in, chart_in, endings_in, lint_in, IsRefusal, Tells}
+use Rattle.l4_commands.specs.Asked.{JobTexts, ToRun, ToReplay, ToTellNext, ToAudit, ToChart, ToSearch, ToLint, number_of, number_in, flag_of, flag_in, extras_in, judged_in, printed_in, are_both, flags_in, form_of, has_turns_alone, is_search_wrong, scheduler_in, traced_by, traced_in, wanted_in, is_input_of, is_over_file, are_turns_alone, is_run_wrong, is_same, line_told, lines_told, or_else, usage_text, lists_input, names_input, run_in, rest_in, rest_turns, replay_in, plain_replay_in, next_in, is_replay_wrong, has_flag, audit_in, chart_in, endings_in, lint_in, IsRefusal, Tells}
 use Rattle.l4_commands.specs.Files.{list_name}
 use Rattle.l4_commands.specs.declared.asked.Conflict.{Conflict}
 use Rattle.l4_commands.specs.declared.asked.Flags.{Flags}
@@ -122,12 +122,32 @@ pub turns_alone : (f : Found) (goes_on : Option Bool) (given : Option Text) (is 
 turns_alone f goes_on given is p q same =
     same ∙ ap₂ are_turns_alone (exactly goes_on _ p) (sym (text_is f (codes "turns") _ q))
 
-pub replay_is : (f : Found) (file schedule : Text) (rest : Option ℕ) (printed : Printed) (expected : Option Text) →
+pub plain_replay_is : (f : Found) (file schedule : Text) (rest : Option ℕ) (printed : Printed) (record_to expected : Option Text) →
     first_value f (codes "file") ≡ Some file → first_value f (codes "schedule") ≡ Some schedule → rest_in (rows_of f) ≡ Some rest →
-    printed_in (rows_of f) ≡ Some printed → first_value f (codes "expect") ≡ expected →
-    replay_in (rows_of f) ≡ Some (ToReplay file schedule rest printed expected)
-replay_is f file schedule rest printed expected p q s r wants =
-    rw (text_is f (codes "file") _ p, text_is f (codes "schedule") _ q, s, r, text_is f (codes "expect") _ wants) refl
+    printed_in (rows_of f) ≡ Some printed → first_value f (codes "record") ≡ record_to → first_value f (codes "expect") ≡ expected →
+    plain_replay_in (rows_of f) ≡ Some (ToReplay file schedule rest printed record_to expected)
+plain_replay_is f file schedule rest printed record_to expected p q s r to wants =
+    rw (text_is f (codes "file") _ p, text_is f (codes "schedule") _ q, s, r, text_is f (codes "record") _ to, text_is f (codes "expect") _ wants) refl
+
+pub next_is : (f : Found) (file schedule : Text) → first_value f (codes "file") ≡ Some file → first_value f (codes "schedule") ≡ Some schedule →
+    next_in (rows_of f) ≡ Some (ToTellNext file schedule)
+next_is f file schedule p q = rw (text_is f (codes "file") _ p, text_is f (codes "schedule") _ q) refl
+
+-- A replay asks for what may happen next, or for its own history.
+by_next : (wrong next : Bool) (one other : Option JobTexts) → wrong ≡ false → (if wrong then None else (if next then one else other)) ≡ (if next then one else other)
+by_next wrong next one other right = rw right refl
+
+pub replay_tells_next : (f : Found) → is_replay_wrong (rows_of f) ≡ false → has_flag (codes "next") (rows_of f) ≡ true →
+    replay_in (rows_of f) ≡ next_in (rows_of f)
+replay_tells_next f right next =
+    by_next (is_replay_wrong (rows_of f)) (has_flag (codes "next") (rows_of f)) _ _ right
+    ∙ ap (λ b. if b then next_in (rows_of f) else plain_replay_in (rows_of f)) next
+
+pub replay_is_plain : (f : Found) → is_replay_wrong (rows_of f) ≡ false → has_flag (codes "next") (rows_of f) ≡ false →
+    replay_in (rows_of f) ≡ plain_replay_in (rows_of f)
+replay_is_plain f right next =
+    by_next (is_replay_wrong (rows_of f)) (has_flag (codes "next") (rows_of f)) _ _ right
+    ∙ ap (λ b. if b then next_in (rows_of f) else plain_replay_in (rows_of f)) next
 
 pub judged_is : (f : Found) (report explain : Bool) (extras : Extras) → flag_in (codes "report") (rows_of f) ≡ Some report →
     flag_in (codes "explain") (rows_of f) ≡ Some explain → extras_in (rows_of f) ≡ Some extras →

@@ -15,20 +15,20 @@ use Rattle.l4_lines.specs.declared.lines.LineFault.TheVariants.{Unknown, Deleted
 use Rattle.l4_commands.specs.Commands.{faults_of, l4run_app}
 use Rattle.l4_commands.specs.Files.{is_input, list_name}
 use Rattle.l4_commands.specs.declared.asked.Conflict.{Conflict}
-use Rattle.l4_commands.specs.declared.asked.Conflict.TheVariants.{InputTwice, ScheduleOfRun, RecordAndExpect, TurnsAlone, OverItsFile, TwoForms, Line, NoneAndSome, TraceBeside}
+use Rattle.l4_commands.specs.declared.asked.Conflict.TheVariants.{InputTwice, ScheduleOfRun, RecordAndExpect, TurnsAlone, NextBeside, OverItsFile, TwoForms, Line, NoneAndSome, TraceBeside}
 use Rattle.l4_commands.specs.declared.asked.Flags.{Flags}
 use Rattle.l4_commands.specs.declared.job.ChartForm.{ChartForm}
 use Rattle.l4_commands.specs.declared.job.ChartForm.TheVariants.{Lines, Ascii, Svg, Html, Mermaid}
 use Rattle.l4_commands.specs.declared.job.Extras.{Extras}
 use Rattle.l4_commands.specs.declared.job.Job.{Job}
-use Rattle.l4_commands.specs.declared.job.Job.TheVariants.{Run, Replay, Audit, Chart, Endings, Lint}
+use Rattle.l4_commands.specs.declared.job.Job.TheVariants.{Run, Replay, Next, Audit, Chart, Endings, Lint}
 use Rattle.l4_commands.specs.declared.job.Judged.{Judged}
 use Rattle.l4_commands.specs.declared.job.Printed.{Printed}
 use Rattle.l4_commands.specs.declared.job.Scheduler.{Scheduler}
 use Rattle.l4_commands.specs.declared.job.Scheduler.TheVariants.{Any, Placed}
 use Rattle.l4_commands.specs.declared.job.Wanted.{Wanted}
 use Rattle.l4_commands.specs.declared.job.Wanted.TheVariants.{Whatever, NoEnding, AnEnding}
-use Rattle.l4_commands.specs.declared.texts.TheConstants.{INPUT_TWICE, SCHEDULE_OF_RUN, RECORD_AND_EXPECT, TURNS_ALONE, OVER_ITS_FILE, TWO_FORMS, UNKNOWN_LINE, DELETED_LINE, NUMBER_LINE, NONE_AND_SOME, TRACE_BESIDE}
+use Rattle.l4_commands.specs.declared.texts.TheConstants.{INPUT_TWICE, SCHEDULE_OF_RUN, RECORD_AND_EXPECT, TURNS_ALONE, NEXT_BESIDE, OVER_ITS_FILE, TWO_FORMS, UNKNOWN_LINE, DELETED_LINE, NUMBER_LINE, NONE_AND_SOME, TRACE_BESIDE}
 use Rattle.l4_commands.specs.declared.words.WordsFault.{WordsFault}
 use Rattle.l4_commands.specs.declared.words.WordsFault.TheVariants.{Help, Usage, NoMemory}
 
@@ -37,7 +37,8 @@ pub data JobTexts : Type 0 where
   ToRun : (file : Text) (turns : ℕ) (printed : Printed)
       (record_to expected : Option Text) → JobTexts
   ToReplay : (file schedule : Text) (rest : Option ℕ) (printed : Printed)
-      (expected : Option Text) → JobTexts
+      (record_to expected : Option Text) → JobTexts
+  ToTellNext : (file schedule : Text) → JobTexts
   ToAudit : (file trace : Text) (judged : Judged) → JobTexts
   ToChart : (file trace : Text) (first last : ℕ) (threads : Option Text) (form : ChartForm)
       (width : ℕ) → JobTexts
@@ -49,8 +50,9 @@ pub data JobTexts : Type 0 where
 abbrev pub asked_by : Job → JobTexts
 asked_by (Run file turns printed record_to expected) =
     ToRun file.now turns printed (option_copied record_to) (option_copied expected)
-asked_by (Replay file schedule rest printed expected) =
-    ToReplay file.now schedule.now rest printed (option_copied expected)
+asked_by (Replay file schedule rest printed record_to expected) =
+    ToReplay file.now schedule.now rest printed (option_copied record_to) (option_copied expected)
+asked_by (Next file schedule) = ToTellNext file.now schedule.now
 asked_by (Audit file trace judged) = ToAudit file.now trace.now judged
 asked_by (Chart c) = ToChart c.file.now c.trace.now c.first c.last (option_copied c.threads)
     c.form c.width
@@ -122,6 +124,7 @@ usage_text InputTwice = INPUT_TWICE.now
 usage_text ScheduleOfRun = SCHEDULE_OF_RUN.now
 usage_text RecordAndExpect = RECORD_AND_EXPECT.now
 usage_text TurnsAlone = TURNS_ALONE.now
+usage_text NextBeside = NEXT_BESIDE.now
 usage_text OverItsFile = OVER_ITS_FILE.now
 usage_text TwoForms = TWO_FORMS.now
 usage_text (Line line fault) = line_text line.now (reason fault)
@@ -132,13 +135,26 @@ usage_text TraceBeside = TRACE_BESIDE.now
 abbrev pub has_value : (name : Text) → List Row → Bool
 has_value name rows = is_some (first_of name rows)
 
+-- A flag is given.
+
+abbrev pub is_on : Option Bool → Bool
+is_on None = false
+is_on (Some given) = given
+
+abbrev pub has_flag : (name : Text) → List Row → Bool
+has_flag name rows = is_on (flag_in name rows)
+
+-- Of a record over the machine text, or beside what is expected.
+abbrev pub record_told : List Row → Option Text
+record_told rows =
+    if is_over_file rows then Some OVER_ITS_FILE.now
+    else (if are_both (first_of (codes "record") rows) (first_of (codes "expect") rows)
+    then Some RECORD_AND_EXPECT.now else None)
+
 -- Of a run whose arguments exclude each other, or that has a schedule, which it does not take.
 abbrev pub run_told : List Row → Option Text
 run_told rows =
-    if is_over_file rows then Some OVER_ITS_FILE.now
-    else (if has_value (codes "schedule") rows then Some SCHEDULE_OF_RUN.now
-    else (if are_both (first_of (codes "record") rows) (first_of (codes "expect") rows)
-    then Some RECORD_AND_EXPECT.now else None))
+    if has_value (codes "schedule") rows then Some SCHEDULE_OF_RUN.now else record_told rows
 
 abbrev pub is_run_wrong : List Row → Bool
 is_run_wrong rows = is_some (run_told rows)
@@ -166,14 +182,6 @@ rest_in rows = do
   goes_on ← flag_in (codes "then-rest") rows
   rest_turns goes_on (first_of (codes "turns") rows) (number_in (codes "turns") rows)
 
-abbrev pub replay_in : List Row → Option JobTexts
-replay_in rows = do
-  file ← first_of (codes "file") rows
-  schedule ← first_of (codes "schedule") rows
-  rest ← rest_in rows
-  printed ← printed_in rows
-  Some (ToReplay file schedule rest printed (first_of (codes "expect") rows))
-
 -- Whether `--turns` is given without `--then-rest`.
 abbrev pub are_turns_alone : (goes_on : Option Bool) → (given : Option Text) → Bool
 are_turns_alone (Some false) (Some given) = true
@@ -182,6 +190,44 @@ are_turns_alone goes_on given = false
 abbrev pub has_turns_alone : List Row → Bool
 has_turns_alone rows = are_turns_alone (flag_in (codes "then-rest") rows)
     (first_of (codes "turns") rows)
+
+-- What may happen next is printed in place of what the others print, judge or record.
+abbrev pub is_next_beside : List Row → Bool
+is_next_beside rows =
+    has_flag (codes "next") rows
+    && (has_flag (codes "then-rest") rows || has_value (codes "turns") rows
+    || has_flag (codes "report") rows || has_flag (codes "waits") rows
+    || has_flag (codes "counts") rows || has_value (codes "record") rows
+    || has_value (codes "expect") rows)
+
+-- Of a replay whose arguments exclude each other.
+abbrev pub replay_told : List Row → Option Text
+replay_told rows =
+    if is_next_beside rows then Some NEXT_BESIDE.now
+    else (if has_turns_alone rows then Some TURNS_ALONE.now else record_told rows)
+
+abbrev pub is_replay_wrong : List Row → Bool
+is_replay_wrong rows = is_some (replay_told rows)
+
+abbrev pub next_in : List Row → Option JobTexts
+next_in rows = do
+  file ← first_of (codes "file") rows
+  schedule ← first_of (codes "schedule") rows
+  Some (ToTellNext file schedule)
+
+abbrev pub plain_replay_in : List Row → Option JobTexts
+plain_replay_in rows = do
+  file ← first_of (codes "file") rows
+  schedule ← first_of (codes "schedule") rows
+  rest ← rest_in rows
+  printed ← printed_in rows
+  Some (ToReplay file schedule rest printed (first_of (codes "record") rows)
+      (first_of (codes "expect") rows))
+
+abbrev pub replay_in : List Row → Option JobTexts
+replay_in rows =
+    if is_replay_wrong rows then None
+    else (if has_flag (codes "next") rows then next_in rows else plain_replay_in rows)
 
 abbrev pub audit_in : List Row → Option JobTexts
 audit_in rows = do
@@ -233,15 +279,6 @@ or_else (Some text) other = Some text
 abbrev pub lines_told : List Row → Option Text
 lines_told rows =
     or_else (line_told (first_of (codes "with") rows)) (line_told (first_of (codes "never") rows))
-
--- A flag is given.
-
-abbrev pub is_on : Option Bool → Bool
-is_on None = false
-is_on (Some given) = given
-
-abbrev pub has_flag : (name : Text) → List Row → Bool
-has_flag name rows = is_on (flag_in name rows)
 
 -- `--none` and `--some` exclude each other. `--trace` is printed in place of what the others print
 -- or judge, and a placed search has no trace.
@@ -353,9 +390,6 @@ asked_of words = option_and_then asked_in (subcommand_of l4run_app words)
 abbrev pub excludes : Option Flags → Bool
 excludes None = false
 excludes (Some flags) = is_none (form_of flags)
-
-abbrev pub replay_told : List Row → Option Text
-replay_told rows = if has_turns_alone rows then Some TURNS_ALONE.now else None
 
 abbrev pub chart_told : List Row → Option Text
 chart_told rows = if excludes (flags_in rows) then Some TWO_FORMS.now else None

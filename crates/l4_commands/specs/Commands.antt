@@ -50,9 +50,11 @@ replay_rules =
     ∷ needed (codes "schedule")
     ∷ flag (codes "then-rest")
     ∷ number (codes "turns") []
+    ∷ flag (codes "next")
     ∷ flag (codes "report")
     ∷ flag (codes "waits")
     ∷ flag (codes "counts")
+    ∷ value (codes "record")
     ∷ value (codes "expect")
     ∷ []
 

@@ -6,7 +6,7 @@ use Rattle.std.specs.Str.{bytes_eq}
 use Rattle.l4_commands.specs.declared.job.ChartForm.{ChartForm}
 use Rattle.l4_commands.specs.declared.job.ChartForm.TheVariants.{Lines, Ascii}
 use Rattle.l4_commands.specs.declared.job.Job.{Job}
-use Rattle.l4_commands.specs.declared.job.Job.TheVariants.{Run, Replay, Audit, Chart, Endings, Lint}
+use Rattle.l4_commands.specs.declared.job.Job.TheVariants.{Run, Replay, Next, Audit, Chart, Endings, Lint}
 
 -- The name that stands for the standard input: `-`. A file of that name is `./-`.
 abbrev pub is_input : (name : List ℕ) → Bool
@@ -22,7 +22,8 @@ list_name (first ∷ name) = if first == 64 then Some name else None
 
 abbrev pub file_of : Job → List ℕ
 file_of (Run file turns printed record_to expected) = file.now
-file_of (Replay file schedule rest printed expected) = file.now
+file_of (Replay file schedule rest printed record_to expected) = file.now
+file_of (Next file schedule) = file.now
 file_of (Audit file trace judged) = file.now
 file_of (Chart chart) = chart.file.now
 file_of (Endings search) = search.file.now
@@ -34,7 +35,8 @@ list_name_in (Some schedule) = list_name schedule.now
 
 abbrev pub second_file_of : Job → Option (List ℕ)
 second_file_of (Run file turns printed record_to expected) = None
-second_file_of (Replay file schedule rest printed expected) = list_name schedule.now
+second_file_of (Replay file schedule rest printed record_to expected) = list_name schedule.now
+second_file_of (Next file schedule) = list_name schedule.now
 second_file_of (Audit file trace judged) = Some trace.now
 second_file_of (Chart chart) = Some chart.trace.now
 second_file_of (Endings search) = None
@@ -42,19 +44,23 @@ second_file_of (Lint file schedule) = list_name_in schedule
 
 abbrev pub expected_of : Job → Option (List ℕ)
 expected_of (Run file turns printed record_to expected) = option_map (λ name. name.now) expected
-expected_of (Replay file schedule rest printed expected) = option_map (λ name. name.now) expected
+expected_of (Replay file schedule rest printed record_to expected) =
+    option_map (λ name. name.now) expected
 expected_of (Endings search) = option_map (λ name. name.now) search.expected
 expected_of _ = None
 
--- The name of the file that a job records its run in.
+-- The name of the file that a job records its run or its replay in.
 abbrev pub record_of : Job → Option (List ℕ)
 record_of (Run file turns printed record_to expected) = option_map (λ name. name.now) record_to
+record_of (Replay file schedule rest printed record_to expected) =
+    option_map (λ name. name.now) record_to
 record_of _ = None
 
 -- The job without a record, and of which nothing is expected.
 abbrev pub alone : Job → Job
 alone (Run file turns printed record_to expected) = Run file turns printed None None
-alone (Replay file schedule rest printed expected) = Replay file schedule rest printed None
+alone (Replay file schedule rest printed record_to expected) =
+    Replay file schedule rest printed None None
 alone (Endings search) = Endings (record search { expected = None })
 alone job = job
 

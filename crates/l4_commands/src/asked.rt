@@ -5,13 +5,13 @@ ghost use Rattle.std.specs.Option.{option_copied};
 ghost use Rattle.clap.specs.Words.{first_of, rows_of, found_of, subcommand_rows_of};
 ghost use Rattle.l4_commands.specs.Asked.{asked_by, asked_in, flag_in, number_in};
 ghost use Rattle.l4_commands.specs.Asked.{extras_in, judged_in, printed_in, is_over_file, is_same};
-ghost use Rattle.l4_commands.specs.Asked.{run_in, replay_in, audit_in, flags_in};
+ghost use Rattle.l4_commands.specs.Asked.{run_in, replay_in, plain_replay_in, next_in, audit_in, flags_in};
 ghost use Rattle.l4_commands.specs.Asked.{form_of, chart_in, endings_in, lint_in, excludes};
 ghost use Rattle.l4_commands.specs.Asked.{scheduler_in, wanted_in, wanted_by, traced_in, has_flag, has_value};
-ghost use Rattle.l4_commands.specs.Asked.{is_none_and_some, is_trace_beside, endings_told};
+ghost use Rattle.l4_commands.specs.Asked.{is_none_and_some, is_next_beside, is_trace_beside, endings_told};
 ghost use Rattle.l4_commands.specs.Asked.{are_turns_alone, has_turns_alone, rest_in, is_input_of};
 ghost use Rattle.l4_commands.specs.Asked.{are_both, are_two, lists_input, names_input, names_input_twice};
-ghost use Rattle.l4_commands.specs.Asked.{usage_text, run_told, replay_told, chart_told, line_told, lines_told, told_in};
+ghost use Rattle.l4_commands.specs.Asked.{usage_text, record_told, run_told, replay_told, chart_told, line_told, lines_told, told_in};
 
 use crate::job::{
     ChartForm, ChartJob, EndingsJob, Extras, INPUT, Job, Judged, Printed, Scheduler, Wanted,
@@ -114,20 +114,27 @@ fn is_recorded_and_expected(matches: &ArgMatches<'_>) -> bool
     are_both(matches.get_str("record"), matches.get_str("expect"))
 }
 
-// Which arguments of `run` exclude each other, or the one that it does not take.
-fn run_conflict<'a>(matches: &ArgMatches<'a>) -> Option<Conflict<'a>>
-    ensures { option_map usage_text result ≡ run_told (rows_of (found_of matches.now)) }
+// Why there can be no such record.
+fn record_conflict<'a>(matches: &ArgMatches<'a>) -> Option<Conflict<'a>>
+    ensures { option_map usage_text result ≡ record_told (rows_of (found_of matches.now)) }
 {
     if is_over_file(matches) {
         return Some(Conflict::OverItsFile);
-    }
-    if has_value(matches, "schedule") {
-        return Some(Conflict::ScheduleOfRun);
     }
     if is_recorded_and_expected(matches) {
         return Some(Conflict::RecordAndExpect);
     }
     None
+}
+
+// Which arguments of `run` exclude each other, or the one that it does not take.
+fn run_conflict<'a>(matches: &ArgMatches<'a>) -> Option<Conflict<'a>>
+    ensures { option_map usage_text result ≡ run_told (rows_of (found_of matches.now)) }
+{
+    if has_value(matches, "schedule") {
+        return Some(Conflict::ScheduleOfRun);
+    }
+    record_conflict(matches)
 }
 
 // The job of the matches of `run`.
@@ -178,14 +185,57 @@ fn has_turns_alone(matches: &ArgMatches<'_>) -> bool
     are_turns_alone(flag(matches, "then-rest"), matches.get_str("turns"))
 }
 
-// Whether `replay` has turns without a rest.
+// Whether `replay` is given `--next` beside what it is printed in place of.
+fn is_next_beside(matches: &ArgMatches<'_>) -> bool
+    ensures { result ≡ is_next_beside (rows_of (found_of matches.now)) }
+{
+    has_flag(matches, "next")
+        && (has_flag(matches, "then-rest")
+            || has_value(matches, "turns")
+            || has_flag(matches, "report")
+            || has_flag(matches, "waits")
+            || has_flag(matches, "counts")
+            || has_value(matches, "record")
+            || has_value(matches, "expect"))
+}
+
+// Which arguments of `replay` exclude each other.
 fn replay_conflict<'a>(matches: &ArgMatches<'a>) -> Option<Conflict<'a>>
     ensures { option_map usage_text result ≡ replay_told (rows_of (found_of matches.now)) }
 {
+    if is_next_beside(matches) {
+        return Some(Conflict::NextBeside);
+    }
     if has_turns_alone(matches) {
         return Some(Conflict::TurnsAlone);
     }
-    None
+    record_conflict(matches)
+}
+
+// The job of the matches of `replay` with `--next`.
+fn next_job<'a>(matches: &ArgMatches<'a>) -> Option<Job<'a>>
+    ensures { IfSome result (λ job.
+        next_in (rows_of (found_of matches.now)) ≡ Some (asked_by job)) }
+{
+    let file = matches.get_str("file")?;
+    let schedule = matches.get_str("schedule")?;
+    Some(Job::Next { file, schedule })
+}
+
+// The job of the matches of `replay` without `--next`.
+fn plain_replay_job<'a>(matches: &ArgMatches<'a>) -> Option<Job<'a>>
+    ensures { IfSome result (λ job.
+        plain_replay_in (rows_of (found_of matches.now)) ≡ Some (asked_by job)) }
+{
+    let record_to = matches.get_str("record");
+    Some(Job::Replay {
+        file: matches.get_str("file")?,
+        schedule: matches.get_str("schedule")?,
+        then_rest: rest(matches)?,
+        printed: printed(matches)?,
+        record_to,
+        expected: matches.get_str("expect"),
+    })
 }
 
 // The job of the matches of `replay`.
@@ -193,13 +243,13 @@ fn replay_job<'a>(matches: &ArgMatches<'a>) -> Option<Job<'a>>
     ensures { IfSome result (λ job.
         replay_in (rows_of (found_of matches.now)) ≡ Some (asked_by job)) }
 {
-    Some(Job::Replay {
-        file: matches.get_str("file")?,
-        schedule: matches.get_str("schedule")?,
-        then_rest: rest(matches)?,
-        printed: printed(matches)?,
-        expected: matches.get_str("expect"),
-    })
+    if replay_conflict(matches).is_some() {
+        return None;
+    }
+    if has_flag(matches, "next") {
+        return next_job(matches);
+    }
+    plain_replay_job(matches)
 }
 
 // The job of the matches of `audit`.
@@ -273,10 +323,12 @@ pub enum Conflict<'a> {
     InputTwice,
     /// `run` is given `--schedule`, which only `replay` takes.
     ScheduleOfRun,
-    /// `run` is given both `--record` and `--expect`.
+    /// Both `--record` and `--expect` are given.
     RecordAndExpect,
     /// `replay` is given `--turns` without `--then-rest`.
     TurnsAlone,
+    /// `replay` is given `--next` beside what it is printed in place of.
+    NextBeside,
     /// `--record` names the file of the machine text.
     OverItsFile,
     /// `chart` is given more than one form.

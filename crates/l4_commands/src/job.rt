@@ -170,8 +170,18 @@ pub enum Job<'a> {
         then_rest: Option<u64>,
         /// What is printed.
         printed: Printed,
+        /// The name of the file that its schedule is written to, with the items of the rest, if one
+        /// is. A replay of that schedule repeats this one. It is never the file of the machine text.
+        record_to: Option<&'a str>,
         /// The name of the file with what is expected of its report.
         expected: Option<&'a str>,
+    },
+    /// Tell what may happen next behind a schedule on the machine text in a file.
+    Next {
+        /// The name of the file with the machine text.
+        file: &'a str,
+        /// The schedule, as of `Job::Replay`.
+        schedule: &'a str,
     },
     /// Audit the trace in a file against the machine text in another.
     Audit {
@@ -202,10 +212,10 @@ impl<'a> Job<'a> {
         ensures { result.now ≡ file_of self.now }
     {
         match *self {
-            Job::Run { file, .. } | Job::Replay { file, .. } | Job::Audit { file, .. } => file,
+            Job::Run { file, .. } | Job::Replay { file, .. } | Job::Next { file, .. } => file,
+            Job::Audit { file, .. } | Job::Lint { file, .. } => file,
             Job::Chart(chart) => chart.file,
             Job::Endings(search) => search.file,
-            Job::Lint { file, .. } => file,
         }
     }
 
@@ -217,6 +227,7 @@ impl<'a> Job<'a> {
         match *self {
             Job::Run { .. } | Job::Endings(_) | Job::Lint { schedule: None, .. } => None,
             Job::Replay { schedule, .. }
+            | Job::Next { schedule, .. }
             | Job::Lint {
                 schedule: Some(schedule),
                 ..
@@ -233,7 +244,7 @@ impl<'a> Job<'a> {
         match *self {
             Job::Run { expected, .. } | Job::Replay { expected, .. } => expected,
             Job::Endings(search) => search.expected,
-            Job::Audit { .. } | Job::Chart(_) | Job::Lint { .. } => None,
+            Job::Next { .. } | Job::Audit { .. } | Job::Chart(_) | Job::Lint { .. } => None,
         }
     }
 
@@ -242,7 +253,7 @@ impl<'a> Job<'a> {
         ensures { option_map (λ name. name.now) result ≡ record_of self.now }
     {
         match *self {
-            Job::Run { record_to, .. } => record_to,
+            Job::Run { record_to, .. } | Job::Replay { record_to, .. } => record_to,
             _ => None,
         }
     }
@@ -275,6 +286,7 @@ impl<'a> Job<'a> {
                 schedule,
                 then_rest,
                 printed,
+                record_to: None,
                 expected: None,
             },
             Job::Endings(search) => Job::Endings(EndingsJob {

@@ -92,6 +92,12 @@ const EXPECT: Argument = Argument {
     help: "Tells what of the file NAME does not hold of the report, with status 4",
 };
 
+const RECORD: Argument = Argument {
+    name: "record",
+    takes: Takes::File("NAME"),
+    help: "Writes a schedule by which `replay` does the same to the file NAME, not FILE",
+};
+
 // The turns of a run where none are given.
 const TURNS: &str = "100000";
 
@@ -109,11 +115,7 @@ processor",
     REPORT,
     WAITS,
     COUNTS,
-    Argument {
-        name: "record",
-        takes: Takes::File("NAME"),
-        help: "Writes a schedule by which `replay` does the same to the file NAME, not FILE",
-    },
+    RECORD,
     EXPECT,
     Argument {
         name: "schedule",
@@ -154,9 +156,15 @@ them",
         },
         help: "Turns of `--then-rest`, as those of `run` [default: 100000]",
     },
+    Argument {
+        name: "next",
+        takes: Takes::Nothing,
+        help: "Prints what may happen behind the list in place of all else: items, and their steps",
+    },
     REPORT,
     WAITS,
     COUNTS,
+    RECORD,
     EXPECT,
 ];
 

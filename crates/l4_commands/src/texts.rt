@@ -2,7 +2,7 @@
 
 /// The version of the program and of the kit that proves it, and the profiles and formats that it
 /// reads.
-pub const VERSION: &str = "0.35
+pub const VERSION: &str = "0.36
 rattle-kit-13b logic dac8208d650f15bf
 profiles 1 and 2, words of 64 and 32 bits";
 
@@ -65,7 +65,17 @@ With `--then-rest` it goes on where the list ends, so that the boring end need n
 rounds of one turn of
 each processor, the lowest first, and where a round does nothing, to the next deadline of all. It \
 ends where nothing is
-left to do, or where the turns are used up.
+left to do, or where the turns are used up. With `--record ping.list` all items, those of the rest \
+too, go to that file.
+
+With `--next` it prints what may happen behind the list, in place of the steps: behind `0,0,0` here
+
+  next c0
+  begin 1.1#1
+  queue 1.1#1
+  deliver 1.1#1 2.1 1.1 1.1 70001 a
+
+Each item that is possible has a line, and each step that it would tell. The status is 0 then.
 
 Statuses and faults are those of `run`; with status 3 the list, or the turns, were used up first. \
 Faults are also
@@ -187,6 +197,13 @@ For more information, try '--help'.
 pub const TURNS_ALONE: &str =
     "error: '--turns' of 'replay' goes with '--then-rest'; turns alone are of 'l4run run FILE \
 --turns N'
+
+For more information, try '--help'.
+";
+
+pub const NEXT_BESIDE: &str =
+    "error: '--next' goes with none of '--then-rest', '--turns', '--report', '--waits', '--counts', \
+'--record' and '--expect'
 
 For more information, try '--help'.
 ";

@@ -13,8 +13,8 @@ use crate::asked::{Conflict, excluded, job_of_matches};
 use crate::commands::l4run_command;
 use crate::job::Job;
 use crate::texts::{
-    DELETED_LINE, INPUT_TWICE, NONE_AND_SOME, NUMBER_LINE, OVER_ITS_FILE, RECORD_AND_EXPECT,
-    SCHEDULE_OF_RUN, TRACE_BESIDE, TURNS_ALONE, TWO_FORMS, UNKNOWN_LINE,
+    DELETED_LINE, INPUT_TWICE, NEXT_BESIDE, NONE_AND_SOME, NUMBER_LINE, OVER_ITS_FILE,
+    RECORD_AND_EXPECT, SCHEDULE_OF_RUN, TRACE_BESIDE, TURNS_ALONE, TWO_FORMS, UNKNOWN_LINE,
 };
 use clap::error::ErrorKind;
 use clap::{ArgMatches, Error};
@@ -94,6 +94,7 @@ fn conflict_text(alloc: Global, conflict: Conflict<'_>) -> Result<String, AllocE
         Conflict::ScheduleOfRun => String::from_str(alloc, SCHEDULE_OF_RUN),
         Conflict::RecordAndExpect => String::from_str(alloc, RECORD_AND_EXPECT),
         Conflict::TurnsAlone => String::from_str(alloc, TURNS_ALONE),
+        Conflict::NextBeside => String::from_str(alloc, NEXT_BESIDE),
         Conflict::OverItsFile => String::from_str(alloc, OVER_ITS_FILE),
         Conflict::TwoForms => String::from_str(alloc, TWO_FORMS),
         Conflict::Line(line, fault) => line_text(alloc, line, reason(fault)),

@@ -8,7 +8,7 @@ use Rattle.l4_model.specs.Steps.{Step}
 use Rattle.l4_model.specs.History.{refused_place}
 use Rattle.l4_model.proofs.Faults.{tells_first_fault}
 use Rattle.l4_core_model.specs.Runs.{Run as CoreRun}
-use Rattle.l4_choices.specs.Entries.{Entry}
+use Rattle.l4_choices.specs.Entries.{Entry, replay_entries}
 use Rattle.l4_expect.specs.Expected.{Expected, expectations_of}
 use Rattle.l4_expect.specs.declared.expectations.ExpectFault.{ExpectFault}
 use Rattle.l4_expect.specs.declared.judging.Scope.{Scope}
@@ -16,6 +16,7 @@ use Rattle.l4_trace.specs.Lines.{IsTraceOf}
 use Rattle.l4_script.specs.Texts.{machine_of_text}
 use Rattle.l4_script.specs.declared.text.fault.TextFault.{TextFault}
 use Rattle.l4_machine.specs.declared.outcome.RunFault.{RunFault}
+use Rattle.l4_next.specs.Nexts.{nexts_fault}
 use Rattle.l4_schedules.specs.InFiles.{schedule_in_file}
 use Rattle.l4_schedules.specs.Items.{schedule_of}
 use Rattle.l4_commands.specs.Files.{expected_of, list_name, list_name_in}
@@ -26,12 +27,13 @@ use Rattle.l4_commands.specs.declared.job.Scheduler.TheVariants.{Any, Placed}
 use Rattle.l4_questions.specs.Limits.{question_fault}
 use Rattle.l4_questions.specs.declared.question.Question.{Question}
 use Rattle.l4_commands.specs.declared.job.Job.{Job}
-use Rattle.l4_commands.specs.declared.job.Job.TheVariants.{Run, Replay, Audit, Chart, Endings, Lint}
+use Rattle.l4_commands.specs.declared.job.Job.TheVariants.{Run, Replay, Next, Audit, Chart, Endings, Lint}
 use Rattle.l4_jobs.specs.Audits.{IsAudited, IsFaultOfTrace, IsPassed, IsTraceFault, tells_refusals}
 use Rattle.l4_jobs.specs.ChartJobs.{fault_of_threads}
 use Rattle.l4_jobs.specs.Expectations.{IsExpected, scope_of}
 use Rattle.l4_jobs.specs.Inputs.{FailsWith, IsRead, gives_one}
 use Rattle.l4_jobs.specs.Jobs.{IsAskedFault, IsDoneFor, IsDoneOn, IsFaultBehind, IsFaultFor, IsFaultOn}
+use Rattle.l4_jobs.specs.Nexts.{IsNextDone, IsNextFault}
 use Rattle.l4_jobs.specs.Outputs.{Output}
 use Rattle.l4_jobs.specs.Schedules.{IsReplayFault, IsScheduleFault, asked_schedule, fault_of_result, fault_of_run, named_schedule, replayed}
 use Rattle.l4_jobs.specs.Searches.{IsAnswerBy, IsDoneBy, fault_of_question, question_of}
@@ -118,13 +120,34 @@ same_list : (m : Machine) (rest : Option ℕ) (schedule : List ℕ) (name : Opti
 same_list m rest schedule None list read r reads is = is
 same_list m rest schedule (Some name) list read r reads is = ap (λ t. replayed m rest (schedule_in_file m t)) (sym (all_given read list reads)) ∙ is
 
+-- What may happen next was told, so the schedule has no fault and has room for an entry more.
+
+same_entries : (m : Machine) (list read text other : List ℕ) (name : Option (List ℕ)) (entries others : List Entry) → IsRead name (gives_one read) text →
+    IsRead name (gives_one read) other → named_schedule m name list text ≡ Ok entries → named_schedule m name list other ≡ Ok others → entries ≡ others
+same_entries m list read text other None entries others reads given is are = let same : Ok entries ≡ Ok others = sym is ∙ are in cc
+same_entries m list read text other (Some name) entries others reads given is are =
+    let alike = all_given read text reads ∙ sym (all_given read other given) in
+    let same : Ok entries ≡ Ok others = sym is ∙ ap (schedule_in_file m) alike ∙ are in
+    cc
+
+next_right : (m : Machine) (list text read : List ℕ) (o : Output) (f : Fault) → IsRead (list_name list) (gives_one read) text → IsNextDone m list text o →
+    IsNextFault m list (gives_one read) f → ⊥
+next_right m list text read o f reads s (inl is) =
+    let done = ap (replayed m None) s.asked in
+    list_right m None list read (list_name list) (replay_entries m s.entries) f
+    (same_list m None list (list_name list) text read (replay_entries m s.entries) reads done) is
+next_right m list text read o f reads s (inr is) =
+    let same = same_entries m list read text is.text (list_name list) s.entries is.entries reads is.read s.asked is.asked in
+    absurd (let bad : None ≡ Some f = sym (ap (option_map fault_of_run) (sym (ap (nexts_fault m) same) ∙ s.lawful)) ∙ is.faulty in cc)
+
 right_on : (job : Job) (text : List ℕ) (m : Machine) (read : List ℕ) (expected : Option (List Expected)) (o : Output) (f : Fault) →
     IsDoneOn job text m (gives_one read) expected o → IsFaultOn job m (gives_one read) f → ⊥
 right_on (Run file turns printed record_to name) text m read expected o f s is =
     absurd (let bad : None ≡ Some f = sym (ap (option_map fault_of_run) s.is.lawful) ∙ is in cc)
-right_on (Replay file schedule rest printed name) text m read expected o f (list, reads, s) is =
+right_on (Replay file schedule rest printed record_to name) text m read expected o f (list, reads, s) is =
     replay_right m rest schedule.now read s.run f
     (same_list m rest schedule.now (list_name schedule.now) list read s.run reads s.is) is
+right_on (Next file schedule) text m read expected o f (list, reads, s) is = next_right m schedule.now list read o f reads s is
 right_on (Audit file name judged) text m read expected o f (trace, given, s) is =
     audited_right judged m name.now read o.lines o.status f (subst (λ t. IsAudited judged m t o.lines o.status) (all_given read trace given) s.audited) is
 right_on (Chart chart) text m read expected o f (trace, given, s) (inl is) = absurd (let bad : None ≡ Some f = sym (ap fault_of_threads s.charted.chosen) ∙ is in cc)
@@ -151,7 +174,8 @@ right_for : (job : Job) (text : List ℕ) (d : Result Machine TextFault) (read a
 right_for job text (Ok m) read asked o f (expected, wants, is) faulty = expected_right job text m read asked (expected_of job) expected o f wants is faulty
 right_for (Lint file schedule) text (Err t) read asked o f is faulty = faulty
 right_for (Run file turns printed record_to name) text (Err t) read asked o f is faulty = is
-right_for (Replay file schedule rest printed name) text (Err t) read asked o f is faulty = is
+right_for (Replay file schedule rest printed record_to name) text (Err t) read asked o f is faulty = is
+right_for (Next file schedule) text (Err t) read asked o f is faulty = is
 right_for (Audit file name judged) text (Err t) read asked o f is faulty = is
 right_for (Chart chart) text (Err t) read asked o f is faulty = is
 right_for (Endings search) text (Err t) read asked o f is faulty = is

@@ -10,7 +10,7 @@ use Rattle.l4_script.specs.declared.text.fault.TextFault.{TextFault}
 use Rattle.l4_script.specs.declared.text.fault.TextFaultKind.TheVariants.{NoMemory as NoMemoryKind}
 use Rattle.l4_commands.specs.Files.{expected_of, file_of}
 use Rattle.l4_commands.specs.declared.job.Job.{Job}
-use Rattle.l4_commands.specs.declared.job.Job.TheVariants.{Run, Replay, Audit, Chart, Endings, Lint}
+use Rattle.l4_commands.specs.declared.job.Job.TheVariants.{Run, Replay, Next, Audit, Chart, Endings, Lint}
 use Rattle.l4_jobs.specs.Expectations.{IsExpected, fault_of_expect, scope_of}
 use Rattle.l4_jobs.specs.Inputs.{FailsWith, Gives}
 use Rattle.l4_jobs.specs.Jobs.{IsAskedFault, IsDone, IsDoneFor, IsDoneOn, IsFault, IsFaultBehind, IsFaultFor, IsFaultOn, IsFaultyDone}
@@ -89,7 +89,8 @@ fault_parsed job d e second expects (Err f) is (inr faulty) = inr (subst (λ r. 
 on_as : (job : Job) (read all : List ℕ) (m : Machine) (second : Gives) (expected : Option (List Expected)) (o : Output) → IsReadAs read all →
     IsDoneOn job read m second expected o → IsDoneOn job all m second expected o
 on_as (Run file turns printed record_to name) read all m second expected o same is = is
-on_as (Replay file schedule rest printed name) read all m second expected o same is = is
+on_as (Replay file schedule rest printed record_to name) read all m second expected o same is = is
+on_as (Next file schedule) read all m second expected o same is = is
 on_as (Audit file name judged) read all m second expected o same is = is
 on_as (Chart chart) read all m second expected o same is = is
 on_as (Endings search) read all m second expected o same is = is
@@ -100,7 +101,8 @@ for_as : (job : Job) (read all : List ℕ) (d : Result Machine TextFault) (secon
 for_as job read all (Ok m) second expects o same (expected, wants, is) = (expected, wants, on_as job read all m second expected o same is)
 for_as (Lint file schedule) read all (Err t) second expects o same is = linted_as read all o same is
 for_as (Run file turns printed record_to name) read all (Err t) second expects o same is = is
-for_as (Replay file schedule rest printed name) read all (Err t) second expects o same is = is
+for_as (Replay file schedule rest printed record_to name) read all (Err t) second expects o same is = is
+for_as (Next file schedule) read all (Err t) second expects o same is = is
 for_as (Audit file name judged) read all (Err t) second expects o same is = is
 for_as (Chart chart) read all (Err t) second expects o same is = is
 for_as (Endings search) read all (Err t) second expects o same is = is

@@ -9,7 +9,7 @@ use Rattle.l4_script.specs.Texts.{machine_of_text}
 use Rattle.l4_script.specs.declared.text.fault.TextFault.{TextFault}
 use Rattle.l4_commands.specs.Files.{alone}
 use Rattle.l4_commands.specs.declared.job.Job.{Job}
-use Rattle.l4_commands.specs.declared.job.Job.TheVariants.{Run, Replay, Audit, Chart, Endings, Lint}
+use Rattle.l4_commands.specs.declared.job.Job.TheVariants.{Run, Replay, Next, Audit, Chart, Endings, Lint}
 use Rattle.l4_commands.specs.declared.job.Printed.{Printed}
 use Rattle.l4_jobs.specs.Expectations.{is_met_by}
 use Rattle.l4_jobs.specs.Inputs.{Gives}
@@ -72,7 +72,8 @@ run_true printed m IsAsked record_to expected o is = record {
 true_on : (job : Job) (text : List ℕ) (m : Machine) (second : Gives) (expected : Option (List Expected)) (o : Output) → machine_of_text text ≡ Ok m →
     IsDoneOn job text m second expected o → IsTrueFor job text o.lines o.status
 true_on (Run file turns printed record_to name) text m second expected o declares is = (m, declares, run_true printed m _ _ expected o is)
-true_on (Replay file schedule rest printed name) text m second expected o declares (list, reads, is) = (m, declares, run_true printed m _ _ expected o is)
+true_on (Replay file schedule rest printed record_to name) text m second expected o declares (list, reads, is) = (m, declares, run_true printed m _ _ expected o is)
+true_on (Next file schedule) text m second expected o declares is = tt
 true_on (Audit file name judged) text m second expected o declares is = tt
 true_on (Chart chart) text m second expected o declares is = tt
 true_on (Endings search) text m second expected o declares is = tt
@@ -82,7 +83,8 @@ true_for : (job : Job) (text : List ℕ) (d : Result Machine TextFault) (second 
     IsDoneFor job text d second expects o → IsTrueFor job text o.lines o.status
 true_for job text (Ok m) second expects o declares (expected, wants, is) = true_on job text m second expected o declares is
 true_for (Run file turns printed record_to name) text (Err t) second expects o declares is = absurd is
-true_for (Replay file schedule rest printed name) text (Err t) second expects o declares is = absurd is
+true_for (Replay file schedule rest printed record_to name) text (Err t) second expects o declares is = absurd is
+true_for (Next file schedule) text (Err t) second expects o declares is = tt
 true_for (Audit file name judged) text (Err t) second expects o declares is = tt
 true_for (Chart chart) text (Err t) second expects o declares is = tt
 true_for (Endings search) text (Err t) second expects o declares is = tt
@@ -110,7 +112,8 @@ performed_true job machine second expects s status (inr (o, is, wrote)) right = 
 
 true_alone : (job : Job) (text lines : List ℕ) (status : ℕ) → IsTrueFor (alone job) text lines status → IsTrueFor job text lines status
 true_alone (Run file turns printed record_to name) text lines status is = is
-true_alone (Replay file schedule rest printed name) text lines status is = is
+true_alone (Replay file schedule rest printed record_to name) text lines status is = is
+true_alone (Next file schedule) text lines status is = is
 true_alone (Audit file name judged) text lines status is = is
 true_alone (Chart chart) text lines status is = is
 true_alone (Endings search) text lines status is = is

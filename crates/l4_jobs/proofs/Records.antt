@@ -15,7 +15,7 @@ use Rattle.l4_jobs.specs.Extras.{behind}
 use Rattle.l4_jobs.specs.Outputs.{Output}
 use Rattle.l4_jobs.specs.Records.{IsRepeatedBy, unrecorded}
 use Rattle.l4_jobs.specs.Runs.{IsRecord, IsRunDone, IsWritten, lines_of_outcome, report_of, status_of_ending}
-use Rattle.l4_jobs.specs.Schedules.{IsReplayAsked, IsRunAsked, asked_schedule, named_schedule, replayed}
+use Rattle.l4_jobs.specs.Schedules.{IsReplayAsked, asked_schedule, named_schedule, replayed}
 
 by_name : (m : Machine) (list text name : List ℕ) → list_name list ≡ Some name → asked_schedule m list text ≡ named_schedule m (Some name) list text
 by_name m list text name is = ap (λ o. named_schedule m o list text) is
@@ -66,9 +66,9 @@ only printed m list text expected o other a b =
     (b.said ∙ ap (λ (f : Findings). unmet_by expected (report_of f)) found ∙ sym a.said)
     (b.status_is ∙ ap (λ (f : Findings). status_by expected (report_of f) (status_of_ending f.ending)) found ∙ sym a.status_is)
 
-pub repeated : (printed : Printed) (m : Machine) (turns : ℕ) (name : List ℕ) (expected : Option (List Expected)) (o : Output)
-    (d : IsRunDone printed m (IsRunAsked m turns) (Some name) expected o) (list other : List ℕ) → list_name list ≡ Some other →
+pub repeated : (printed : Printed) (m : Machine) (IsAsked : Run → Type 0) (name : List ℕ) (expected : Option (List Expected)) (o : Output)
+    (d : IsRunDone printed m IsAsked (Some name) expected o) (list other : List ℕ) → list_name list ≡ Some other →
     IsRepeatedBy printed m list d.recorded.0 expected o
-repeated printed m turns name expected o d list other is =
+repeated printed m IsAsked name expected o d list other is =
     let first = again printed m list d.recorded.0 other expected o d.findings is d.recorded.2 d.written d.said d.status_is in
     record { again = first; alone = λ p done. only printed m list d.recorded.0 expected (unrecorded o) p first done }

@@ -8,7 +8,9 @@ use Rattle.l4_core_model.specs.Runs.{Run}
 use Rattle.l4_choices.specs.Entries.{Entry, replay_entries}
 use Rattle.l4_expect.specs.Expected.{Expected}
 use Rattle.l4_machine.specs.Entries.{entries_fault, turns_fault}
-use Rattle.l4_machine.specs.Outcomes.{Findings, IsFoundFor, IsOutcomeOf, in_order}
+use Rattle.l4_machine.specs.Outcomes.{Findings, IsCompactReplay, IsFoundFor, IsOutcomeOf, in_order, steps_of}
+use Rattle.l4_machine.specs.declared.outcome.CompactOutcome.{CompactOutcome}
+use Rattle.l4_rounds.specs.ThenRest.{HaveRest, rest_fault, then_rest}
 use Rattle.l4_machine.specs.declared.outcome.RunFault.{RunFault}
 use Rattle.l4_machine.specs.declared.outcome.RunFault.TheVariants.{NoMemory as RunOutOfMemory, Turns}
 use Rattle.l4_schedules.specs.InFiles.{schedule_in_file}
@@ -19,8 +21,8 @@ use Rattle.l4_commands.specs.declared.job.Printed.{Printed}
 use Rattle.l4_jobs.specs.Expectations.{status_by, unmet_by}
 use Rattle.l4_jobs.specs.Inputs.{Gives, IsRead}
 use Rattle.l4_jobs.specs.Outputs.{Output}
-use Rattle.l4_jobs.specs.Runs.{IsRecord, IsRecorded, IsRunDone, IsWritten, report_of, status_of_ending}
-use Rattle.l4_jobs.specs.Schedules.{IsOutcomeOfAny, IsReplayAsked, IsReplayFault, IsRunAsked, asked_schedule, fault_of_result, fault_of_run, gone_on, replayed}
+use Rattle.l4_jobs.specs.Runs.{IsRecord, IsRecorded, IsRunDone, IsWritten, list_for, report_of, status_of_ending}
+use Rattle.l4_jobs.specs.Schedules.{IsReplayAsked, IsReplayFault, IsRunAsked, asked_schedule, fault_of_result, fault_of_run, gone_on, replayed, unless_fault}
 use Rattle.l4_jobs.specs.declared.fault.Fault.{Fault}
 use Rattle.l4_jobs.specs.declared.fault.Fault.TheVariants as fault
 
@@ -63,18 +65,20 @@ asked_run_done printed m turns record_to expected f o right found is =
     let asked : IsRunAsked m turns (in_order found.run) = record { lawful = lawful turns right; run = found.run; is = found.is; sorted = refl } in
     run_done printed m (IsRunAsked m turns) record_to expected (in_order found.run) f o asked found.outcome is
 
-pub asked_replay_done : (printed : Printed) (m : Machine) (rest : Option ℕ) (list text : List ℕ) (entries : List Entry) (expected : Option (List Expected)) (f : Findings)
-    (o : Output) → asked_schedule m list text ≡ Ok entries → IsOutcomeOfAny m (gone_on m rest entries) f → IsOf printed m None expected f o →
-    IsRunDone printed m (IsReplayAsked m rest list text) None expected o
-asked_replay_done printed m rest list text entries expected f o asked outcome is = by (gone_on m rest entries) refl outcome
-  where
-    by : (g : Result Run RunFault) → gone_on m rest entries ≡ g → IsOutcomeOfAny m g f → IsRunDone printed m (IsReplayAsked m rest list text) None expected o
-    by (Ok r) at outcome = run_done printed m (IsReplayAsked m rest list text) None expected r f o (ap (replayed m rest) asked ∙ at) outcome is
-    by (Err e) at outcome = absurd outcome
+pub asked_replay_done : (printed : Printed) (m : Machine) (rest : Option ℕ) (list text : List ℕ) (entries : List Entry) (record_to : Option (List ℕ))
+    (expected : Option (List Expected)) (r : Run) (f : Findings) (o : Output) → asked_schedule m list text ≡ Ok entries → gone_on m rest entries ≡ Ok r →
+    IsOutcomeOf m r f → IsOf printed m record_to expected f o → IsRunDone printed m (IsReplayAsked m rest list text) record_to expected o
+asked_replay_done printed m rest list text entries record_to expected r f o asked goes outcome is =
+    run_done printed m (IsReplayAsked m rest list text) record_to expected r f o (ap (replayed m rest) asked ∙ goes) outcome is
 
-pub any_possible : (m : Machine) (g : Result Run RunFault) (o : Findings) → IsOutcomeOfAny m g o → IsHistory m o.history
-any_possible m (Ok r) o is = is.is_true.possible
-any_possible m (Err f) o is = absurd is
+pub replay_possible : (m : Machine) (entries : List Entry) (o : CompactOutcome) → IsCompactReplay m entries o → IsHistory m (steps_of o.history)
+replay_possible m entries o is = is.is_true.possible
+
+-- The entries of the rest
+pub rest_is : (m : Machine) (entries all : List Entry) (turns : ℕ) → HaveRest m entries turns all → rest_fault m entries turns ≡ None →
+    gone_on m (Some turns) entries ≡ Ok (replay_entries m all)
+rest_is m entries all turns rest lawful =
+    ap (λ f. unless_fault f (then_rest m entries turns)) lawful ∙ ap (λ (r : Run). Ok r) (sym rest.replayed)
 
 -- A record is read back.
 pub is_record : (m : Machine) (f : Findings) (entries : List Entry) (text : List ℕ) → m.cpus ≤ 16 → IsOutcomeOf m (replay_entries m entries) f →
@@ -85,6 +89,12 @@ is_record m f entries text few replayed are recorded = record {
   reads = ap (schedule_in_file m) recorded ∙ recorded_back m entries few are;
   of_replay = replayed;
 }
+
+pub is_recorded : (m : Machine) (f : Findings) (entries : List Entry) (name : Option (List ℕ)) (list : Option (List ℕ × List ℕ)) → m.cpus ≤ 16 →
+    IsOutcomeOf m (replay_entries m entries) f → entries_fault m entries ≡ None →
+    list ≡ list_for name entries → IsRecorded name m f list
+is_recorded m f entries None list few outcome are is = is
+is_recorded m f entries (Some name) list few outcome are is = (recorded_text entries, is, is_record m f entries (recorded_text entries) few outcome are refl)
 
 -- Why a replay goes on no further
 pub rest_refused : {X : Type 0} (m : Machine) (rest : Option ℕ) (list text : List ℕ) (gives : Gives) (entries : List Entry) (r : Result X Fault)

@@ -20,7 +20,7 @@ use Rattle.l4_commands.specs.Files.{expected_of}
 use Rattle.l4_commands.specs.declared.job.EndingsJob.{EndingsJob}
 use Rattle.l4_commands.specs.declared.job.Job.{Job}
 use Rattle.l4_commands.specs.declared.job.Judged.{Judged}
-use Rattle.l4_commands.specs.declared.job.Job.TheVariants.{Run, Replay, Audit, Chart, Endings, Lint}
+use Rattle.l4_commands.specs.declared.job.Job.TheVariants.{Run, Replay, Next, Audit, Chart, Endings, Lint}
 use Rattle.l4_commands.specs.declared.job.Scheduler.{Scheduler}
 use Rattle.l4_commands.specs.declared.job.Scheduler.TheVariants.{Any, Placed}
 use Rattle.l4_commands.specs.declared.job.Wanted.{Wanted as Asked}
@@ -136,8 +136,9 @@ status_on : (job : Job) (text : List ℕ) (m : Machine) (second : Gives) (expect
     is_some expected ≡ is_some (expected_of job) → IsDoneOn job text m second expected o → IsStatusOf job o.status
 status_on (Run file turns printed record_to name) text m second expected o same is =
     run_status (Run file turns printed record_to name) expected _ _ o.status same is.status_is
-status_on (Replay file schedule rest printed name) text m second expected o same (list, reads, is) =
-    run_status (Replay file schedule rest printed name) expected _ _ o.status same is.status_is
+status_on (Replay file schedule rest printed record_to name) text m second expected o same (list, reads, is) =
+    run_status (Replay file schedule rest printed record_to name) expected _ _ o.status same is.status_is
+status_on (Next file schedule) text m second expected o same (list, reads, is) = inl is.status_is
 status_on (Audit file name judged) text m second expected o same (trace, given, is) =
     audit_status (Audit file name judged) judged m trace o.lines o.status is.audited
 status_on (Chart chart) text m second expected o same (trace, given, is) = chart_status (Chart chart) _ o.status is.charted.status_is
@@ -150,7 +151,8 @@ status_for job text (Ok m) second expects o (expected, wants, is) =
     status_on job text m second expected o (same_some (expected_of job) (scope_of job) expects expected wants) is
 status_for (Lint file schedule) text (Err t) second expects o is = lint_status (Lint file schedule) (faults_of text) o.status is.status_is
 status_for (Run file turns printed record_to name) text (Err t) second expects o is = absurd is
-status_for (Replay file schedule rest printed name) text (Err t) second expects o is = absurd is
+status_for (Replay file schedule rest printed record_to name) text (Err t) second expects o is = absurd is
+status_for (Next file schedule) text (Err t) second expects o is = absurd is
 status_for (Audit file name judged) text (Err t) second expects o is = absurd is
 status_for (Chart chart) text (Err t) second expects o is = absurd is
 status_for (Endings search) text (Err t) second expects o is = absurd is

@@ -10,7 +10,7 @@ use Rattle.l4_script.specs.declared.text.fault.TextFaultKind.{TextFaultKind}
 use Rattle.l4_script.specs.declared.text.fault.TextFaultKind.TheVariants.{NoMemory as NoMemoryKind}
 use Rattle.l4_commands.specs.Files.{expected_of, file_of, list_name, list_name_in, record_of}
 use Rattle.l4_commands.specs.declared.job.Job.{Job}
-use Rattle.l4_commands.specs.declared.job.Job.TheVariants.{Run, Replay, Audit, Chart, Endings, Lint}
+use Rattle.l4_commands.specs.declared.job.Job.TheVariants.{Run, Replay, Next, Audit, Chart, Endings, Lint}
 use Rattle.l4_commands.specs.declared.job.Printed.{Printed}
 use Rattle.l4_commands.specs.declared.job.Wanted.TheVariants.{NoEnding, AnEnding}
 use Rattle.l4_jobs.specs.Audits.{IsAuditDone, IsTraceFault, tells_refusals}
@@ -18,6 +18,7 @@ use Rattle.l4_jobs.specs.ChartJobs.{IsChartDone, IsChartFault}
 use Rattle.l4_jobs.specs.Expectations.{IsExpected, fault_of_expect, scope_of}
 use Rattle.l4_jobs.specs.Inputs.{FailsWith, Gives, IsRead}
 use Rattle.l4_jobs.specs.Lints.{IsLinted, IsListLinted}
+use Rattle.l4_jobs.specs.Nexts.{IsNextDone, IsNextFault}
 use Rattle.l4_jobs.specs.Outputs.{Output}
 use Rattle.l4_jobs.specs.Runs.{IsRunDone, IsWritten, status_of_ending}
 use Rattle.l4_jobs.specs.Schedules.{IsReplayAsked, IsReplayFault, IsRunAsked, fault_of_turns}
@@ -32,9 +33,13 @@ abbrev pub IsDoneOn : Job → (text : List ℕ) → Machine → (second : Gives)
 IsDoneOn (Run file turns printed record_to name) text m second expected o =
     IsRunDone printed m (IsRunAsked m turns)
     (record_of (Run file turns printed record_to name)) expected o
-IsDoneOn (Replay file schedule rest printed name) text m second expected o =
+IsDoneOn (Replay file schedule rest printed record_to name) text m second expected o =
     (list : List ℕ) × IsRead (list_name schedule.now) second list
-    × IsRunDone printed m (IsReplayAsked m rest schedule.now list) None expected o
+    × IsRunDone printed m (IsReplayAsked m rest schedule.now list)
+    (record_of (Replay file schedule rest printed record_to name)) expected o
+IsDoneOn (Next file schedule) text m second expected o =
+    (list : List ℕ) × IsRead (list_name schedule.now) second list
+    × IsNextDone m schedule.now list o
 IsDoneOn (Audit file name judged) text m second expected o =
     (trace : List ℕ) × second (Ok trace) × IsAuditDone judged m trace o
 IsDoneOn (Chart chart) text m second expected o =
@@ -72,8 +77,9 @@ text_fault line kind = fault.Text line kind
 
 abbrev pub IsFaultOn : Job → Machine → (second : Gives) → Fault → Type 0
 IsFaultOn (Run file turns printed record_to name) m second f = fault_of_turns turns ≡ Some f
-IsFaultOn (Replay file schedule rest printed name) m second f =
+IsFaultOn (Replay file schedule rest printed record_to name) m second f =
     IsReplayFault m rest schedule.now second f
+IsFaultOn (Next file schedule) m second f = IsNextFault m schedule.now second f
 IsFaultOn (Audit file name judged) m second f =
     IsTraceFault (tells_refusals judged) m name.now second f
 IsFaultOn (Chart chart) m second f = IsChartFault chart m second f
@@ -135,6 +141,6 @@ pub record IsTrueShown (printed : Printed) (m : Machine) (lines : List ℕ) (sta
 abbrev pub IsTrueFor : Job → (text lines : List ℕ) → (status : ℕ) → Type 0
 IsTrueFor (Run file turns printed record_to name) text lines status =
     (m : Machine) × (machine_of_text text ≡ Ok m) × IsTrueShown printed m lines status
-IsTrueFor (Replay file schedule rest printed name) text lines status =
+IsTrueFor (Replay file schedule rest printed record_to name) text lines status =
     (m : Machine) × (machine_of_text text ≡ Ok m) × IsTrueShown printed m lines status
 IsTrueFor _ text lines status = Unit {0}

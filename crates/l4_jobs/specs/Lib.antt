@@ -6,6 +6,7 @@ pub mod FaultLines
 pub mod Inputs
 pub mod Jobs
 pub mod Lints
+pub mod Nexts
 pub mod Outputs
 pub mod Performing
 pub mod Reading

@@ -2,6 +2,7 @@
 use Rattle.std.specs.Prelude.{ℕ, Option, List}
 use Rattle.std.specs.Option.{option_map}
 use Rattle.l4_jobs.specs.declared.done.Done.{Done}
+use Rattle.l4_jobs.specs.declared.done.Kept.{Kept}
 
 pub record Output : Type 0 where
   -- what goes to the output
@@ -12,10 +13,14 @@ pub record Output : Type 0 where
   pub said : List ℕ
   pub status : ℕ
 
+-- A list, and the name of its file.
+abbrev pub list_of : Option Kept → Option (List ℕ × List ℕ)
+list_of kept = option_map (λ k. (k.name.now, k.text.items)) kept
+
 abbrev pub output_of : Done → Output
 output_of done = record {
   lines = done.lines.items;
-  list = option_map (λ kept. (kept.name.now, kept.text.items)) done.list;
+  list = list_of done.list;
   said = done.said.items;
   status = done.status;
 }

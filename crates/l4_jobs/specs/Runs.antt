@@ -1,6 +1,7 @@
 -- What is printed and recorded of a run or a replay.
 use Rattle.std.specs.Prelude.{◌≡◌, ℕ, Bool, true, false, Option, Some, None, Result, Ok, List, ◌++◌}
 use Rattle.std.specs.List.{list_all}
+use Rattle.std.specs.Option.{option_map}
 use Rattle.l4_model.specs.Machine.{Machine}
 use Rattle.l4_model.specs.World.{World}
 use Rattle.l4_model.specs.History.{reached}
@@ -43,13 +44,17 @@ abbrev pub status_of_ending : Ending → ℕ
 status_of_ending Quiet = 0
 status_of_ending Spent = 3
 
--- What is kept of a run where its record is asked for: the list of entries that is read back as
--- these, and by which a replay has the very findings of the run.
+-- What is kept of a run or a replay where its record is asked for: the list of entries that is read
+-- back as these, and by which a replay has the very findings.
 pub record IsRecord (m : Machine) (o : Findings) (text : List ℕ) : Type 0 where
   pub entries : List Entry
   pub text_is : text ≡ recorded_text entries
   pub reads : schedule_in_file m text ≡ Ok entries
   pub of_replay : IsOutcomeOf m (replay_entries m entries) o
+
+-- The list of these entries, where a file is named for it.
+abbrev pub list_for : (name : Option (List ℕ)) → List Entry → Option (List ℕ × List ℕ)
+list_for name entries = option_map (λ n. (n, recorded_text entries)) name
 
 abbrev pub IsRecorded : (name : Option (List ℕ)) → Machine → Findings →
     (list : Option (List ℕ × List ℕ)) → Type 0

@@ -5,7 +5,7 @@ use Rattle.l4_model.specs.Machine.{Machine}
 use Rattle.l4_core_model.specs.Runs.{Run as CoreRun}
 use Rattle.l4_choices.specs.Entries.{Entry, replay_entries}
 use Rattle.l4_machine.specs.Entries.{turns_fault}
-use Rattle.l4_machine.specs.Outcomes.{Findings, IsOutcomeOf, IsRunFor, in_order}
+use Rattle.l4_machine.specs.Outcomes.{IsRunFor, in_order}
 use Rattle.l4_machine.specs.declared.outcome.RunFault.{RunFault}
 use Rattle.l4_machine.specs.declared.outcome.RunFault.TheVariants as run_fault
 use Rattle.l4_rounds.specs.ThenRest.{rest_fault, then_rest}
@@ -49,11 +49,6 @@ abbrev pub replayed : Machine → (rest : Option ℕ) → Result (List Entry) Ru
     Result CoreRun RunFault
 replayed m rest (Ok entries) = gone_on m rest entries
 replayed m rest (Err fault) = Err fault
-
--- These are the findings of that core run.
-abbrev pub IsOutcomeOfAny : Machine → Result CoreRun RunFault → Findings → Type 0
-IsOutcomeOfAny m (Ok r) o = IsOutcomeOf m r o
-IsOutcomeOfAny m (Err fault) o = ⊥
 
 abbrev pub run_by_list : Machine → (rest : Option ℕ) → (list text : List ℕ) →
     Result CoreRun RunFault

@@ -17,6 +17,7 @@ use crate::done::Done;
 use crate::fault::Fault;
 use crate::job::Job;
 use crate::lints::{lint_done, list_lint_done};
+use crate::nexts::next_done;
 use crate::reading::{read_all, read_text};
 use crate::runs::{replay_done, run_done};
 use crate::searches::search_done;
@@ -58,10 +59,12 @@ fn done_on<'a, R: Threads + Sync, S: Source, P: Progress>(
             schedule,
             then_rest,
             printed,
+            record_to,
             ..
         } => replay_done(
-            alloc, machine, schedule, then_rest, printed, second, expected,
+            alloc, machine, schedule, then_rest, printed, record_to, second, expected,
         ),
+        Job::Next { schedule, .. } => next_done(alloc, machine, schedule, second),
         Job::Audit { trace, judged, .. } => audit_done(alloc, machine, trace, judged, second),
         Job::Chart(chart) => chart_done(alloc, machine, &chart, second),
         Job::Endings(search) => search_done(alloc, machine, &search, expected, progress),

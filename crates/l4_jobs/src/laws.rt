@@ -12,16 +12,22 @@ ghost use Rattle.l4_jobs.specs.Jobs.{IsDoneFor, IsFaultFor};
 ghost use Rattle.l4_jobs.specs.Outputs.{Output};
 ghost use Rattle.l4_jobs.specs.Records.{IsRepeatedBy};
 ghost use Rattle.l4_jobs.specs.Runs.{IsRunDone, IsWritten};
-ghost use Rattle.l4_jobs.specs.Schedules.{IsRunAsked};
+ghost use Rattle.l4_jobs.specs.Schedules.{IsReplayAsked, IsRunAsked};
 ghost use Rattle.l4_jobs.specs.Traces.{IsTraceAlone, IsTraceThatPasses};
 ghost use Rattle.l4_jobs.specs.declared.fault.Fault.{Fault as AFault};
 
-/// On the machine of a recorded run, a replay of its record prints exactly what the run printed,
-/// and ends with its status.
+/// On the machine of a recorded run or replay, a replay of its record prints exactly what that
+/// printed, and ends with its status.
 pub fn law_recorded()
-    ensures { (printed : Printed) (m : ModelMachine) (turns : ℕ) (name : List ℕ)
+    ensures run { (printed : Printed) (m : ModelMachine) (turns : ℕ) (name : List ℕ)
         (expected : Option (List Expected)) (o : Output) →
         IsRunDone printed m (IsRunAsked m turns) (Some name) expected o →
+        (text : List ℕ) × (o.list ≡ Some (name, text)) ×
+        ((list other : List ℕ) → list_name list ≡ Some other →
+        IsRepeatedBy printed m list text expected o) }
+    ensures replay { (printed : Printed) (m : ModelMachine) (rest : Option ℕ) (asked read : List ℕ)
+        (name : List ℕ) (expected : Option (List Expected)) (o : Output) →
+        IsRunDone printed m (IsReplayAsked m rest asked read) (Some name) expected o →
         (text : List ℕ) × (o.list ≡ Some (name, text)) ×
         ((list other : List ℕ) → list_name list ≡ Some other →
         IsRepeatedBy printed m list text expected o) }

@@ -28,6 +28,7 @@ pub mod fault;
 pub mod jobs;
 pub mod laws;
 mod lints;
+mod nexts;
 pub mod perform;
 mod reading;
 pub mod refusal;

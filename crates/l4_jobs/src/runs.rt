@@ -1,17 +1,18 @@
 //! What a run or a replay comes to.
-ghost use Rattle.std.specs.Prelude.{◌≡◌, ◌⊎◌, ℕ, List, IfOk, IfErr, None, Some, false, true};
+ghost use Rattle.std.specs.Prelude.{◌≡◌, ◌⊎◌, ℕ, List, IfOk, IfErr, None, Some, false, map, true};
 ghost use Rattle.std.specs.List.{list_all};
 ghost use Rattle.std.specs.Option.{option_copied};
 ghost use Rattle.l4_model.specs.History.{IsHistory};
 ghost use Rattle.l4_core_model.specs.Runs.{Run as CoreRun};
 ghost use Rattle.l4_commands.specs.Files.{list_name};
 ghost use Rattle.l4_expect.specs.Unmet.{expected_status};
+ghost use Rattle.l4_machine.specs.Entries.{entry_from};
 ghost use Rattle.l4_machine.specs.Outcomes.{compact_findings_of, steps_of};
 ghost use Rattle.l4_trace.specs.Lines.{has_line};
 ghost use Rattle.l4_jobs.specs.Expectations.{is_met_by, status_by, unmet_by};
 ghost use Rattle.l4_jobs.specs.Inputs.{IsRead};
-ghost use Rattle.l4_jobs.specs.Outputs.{output_of};
-ghost use Rattle.l4_jobs.specs.Runs.{IsRunDone, IsWritten, lines_of_outcome, report_of};
+ghost use Rattle.l4_jobs.specs.Outputs.{list_of, output_of};
+ghost use Rattle.l4_jobs.specs.Runs.{IsRunDone, IsWritten, lines_of_outcome, list_for, report_of};
 ghost use Rattle.l4_jobs.specs.Runs.{status_of_ending};
 ghost use Rattle.l4_jobs.specs.Schedules.{IsReplayAsked, IsReplayFault, IsRunAsked, fault_of_turns};
 ghost use Rattle.l4_jobs.specs.declared.fault.Fault.TheVariants.{NoMemory as OutOfMemory};
@@ -24,7 +25,7 @@ use crate::schedules::{asked_entries, gone_on};
 use crate::streams::Source;
 use crate::trace_lines::trace_of;
 use l4_expect::expectations::Expectations;
-use l4_machine::{CompactOutcome, run_compact, run_recorded};
+use l4_machine::{CompactOutcome, Entry, run_compact, run_recorded};
 use l4_proc::gate::Open;
 use l4_reports::report_lines::write_report;
 use l4_schedules::writing::recorded_text;
@@ -225,25 +226,47 @@ pub(crate) fn run_done<'a, R: Threads + Sync>(
     }
 }
 
-/// What a replay comes to. `list` gives its schedule where that is in a file.
+// What is kept of a replay of these entries, where a file is named for it.
+fn kept<'a>(
+    alloc: Global,
+    name: Option<&'a str>,
+    entries: &[Entry],
+) -> Result<Option<Kept<'a>>, NoMemory>
+    ensures { IfOk result (λ kept. list_of kept ≡
+        list_for (option_copied name.entry) (map entry_from entries.now)) }
+{
+    match name {
+        None => Ok(None),
+        Some(name) => Ok(Some(Kept {
+            name,
+            text: recorded_text(alloc, entries)?,
+        })),
+    }
+}
+
+/// What a replay comes to. `list` gives its schedule where that is in a file. It is recorded where
+/// `record_to` names a file.
 pub(crate) fn replay_done<'a, L: Source>(
     alloc: Global,
     machine: &Machine,
     schedule: &'a str,
     rest: Option<u64>,
     printed: Printed,
+    record_to: Option<&'a str>,
     list: &mut L,
     expected: Option<&Expectations<'_>>,
 ) -> Result<Done<'a>, Fault<'a>>
     ensures ok { IfOk result (λ done. (text : List ℕ) ×
         IsRead (list_name schedule.now) (L.gives list.old) text ×
-        IsRunDone printed machine.now (IsReplayAsked machine.now rest schedule.now text) None
-        (option_copied expected.entry) (output_of done)) }
+        IsRunDone printed machine.now (IsReplayAsked machine.now rest schedule.now text)
+        (option_copied record_to.entry) (option_copied expected.entry) (output_of done)) }
     ensures err { IfErr result (λ fault. (fault ≡ OutOfMemory) ⊎
         IsReplayFault machine.now rest schedule.now (L.gives list.old) fault) }
     ensures unread { list_name schedule.now ≡ None → list.new ≡ list.old }
 {
+    machine.facts();
     let entries = asked_entries(alloc, machine, schedule, list)?;
-    let outcome = gone_on(alloc, machine, entries.as_slice(), rest)?;
-    Ok(outcome_done(alloc, printed, machine, outcome, expected, None)?)
+    let replayed = gone_on(alloc, machine, entries, rest)?;
+    let list = kept(alloc, record_to, replayed.entries.as_slice())?;
+    Ok(outcome_done(alloc, printed, machine, replayed.outcome, expected, list)?)
 }

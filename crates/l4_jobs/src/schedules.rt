@@ -1,11 +1,12 @@
 //! The schedule that a job asks for, and what a replay by it comes to.
 ghost use Rattle.std.specs.Prelude.{◌≡◌, ◌⊎◌, ℕ, List, IfOk, IfErr, Ok, Err, None, map};
+ghost use Rattle.l4_choices.specs.Entries.{replay_entries};
 ghost use Rattle.l4_commands.specs.Files.{list_name};
 ghost use Rattle.l4_machine.specs.Entries.{entries_fault, entry_from};
-ghost use Rattle.l4_machine.specs.Outcomes.{IsCompactReplay, compact_findings_of};
+ghost use Rattle.l4_machine.specs.Outcomes.{IsCompactReplay};
 ghost use Rattle.l4_schedules.specs.InFiles.{schedule_in_file};
 ghost use Rattle.l4_jobs.specs.Inputs.{IsRead};
-ghost use Rattle.l4_jobs.specs.Schedules.{IsListFault, IsOutcomeOfAny, IsScheduleFault};
+ghost use Rattle.l4_jobs.specs.Schedules.{IsListFault, IsScheduleFault};
 ghost use Rattle.l4_jobs.specs.Schedules.{asked_schedule, gone_on};
 ghost use Rattle.l4_jobs.specs.declared.fault.Fault.TheVariants.{NoMemory as OutOfMemory};
 
@@ -14,7 +15,7 @@ use crate::job::list_name;
 use crate::reading::read_list;
 use crate::streams::Source;
 use l4_machine::{CompactOutcome, Entry, RunFault, replay_compact};
-use l4_rounds::replay_then_rest;
+use l4_rounds::with_rest;
 use l4_schedules::files::schedule_in_file;
 use l4_schedules::items::schedule_of;
 use l4_script::machine::Machine;
@@ -63,7 +64,28 @@ pub(crate) fn asked_entries<'a, L: Source>(
     }
 }
 
-// The outcome of a replay of these entries on the machine.
+// These entries, and those of the rest where the replay goes on in rounds.
+fn with_asked_rest(
+    alloc: Global,
+    machine: &Machine,
+    entries: Vec<Entry>,
+    rest: Option<u64>,
+) -> Result<Vec<Entry>, RunFault>
+    requires { entries_fault machine.now (map entry_from entries.items) ≡ None }
+    ensures ok { IfOk result (λ all. gone_on machine.now rest (map entry_from entries.items)
+        ≡ Ok (replay_entries machine.now (map entry_from all.items))) }
+    ensures lawful { IfOk result (λ all.
+        entries_fault machine.now (map entry_from all.items) ≡ None) }
+    ensures err { IfErr result (λ fault. (fault ≡ RunFault.NoMemory) ⊎
+        (gone_on machine.now rest (map entry_from entries.items) ≡ Err fault)) }
+{
+    match rest {
+        None => Ok(entries),
+        Some(turns) => with_rest(alloc, machine, entries.as_slice(), turns),
+    }
+}
+
+// A replay of these entries on the machine, which are entries of it.
 fn replayed<'m>(
     alloc: Global,
     machine: &'m Machine,
@@ -78,22 +100,33 @@ fn replayed<'m>(
     }
 }
 
-// The outcome of a replay of these entries, which may go on in rounds.
+/// A replay, with all entries that it is the replay of.
+#[derive(Drop)]
+pub struct WholeReplay<'m> {
+    pub(crate) outcome: CompactOutcome<'m>,
+    pub(crate) entries: Vec<Entry>,
+}
+
+// The replay of these entries, which may go on in rounds.
 pub(crate) fn gone_on<'m>(
     alloc: Global,
     machine: &'m Machine,
-    entries: &[Entry],
+    entries: Vec<Entry>,
     rest: Option<u64>,
-) -> Result<CompactOutcome<'m>, RunFault>
-    requires { entries_fault machine.now (map entry_from entries.now) ≡ None }
-    ensures ok { IfOk result (λ o.
-        IsOutcomeOfAny machine.now (gone_on machine.now rest (map entry_from entries.now))
-        (compact_findings_of o)) }
+) -> Result<WholeReplay<'m>, RunFault>
+    requires { entries_fault machine.now (map entry_from entries.items) ≡ None }
+    ensures ok { IfOk result (λ r. gone_on machine.now rest (map entry_from entries.items)
+        ≡ Ok (replay_entries machine.now (map entry_from r.entries.items))) }
+    ensures replayed { IfOk result (λ r.
+        IsCompactReplay machine.now (map entry_from r.entries.items) r.outcome) }
+    ensures lawful { IfOk result (λ r.
+        entries_fault machine.now (map entry_from r.entries.items) ≡ None) }
     ensures err { IfErr result (λ fault. (fault ≡ RunFault.NoMemory) ⊎
-        (gone_on machine.now rest (map entry_from entries.now) ≡ Err fault)) }
+        (gone_on machine.now rest (map entry_from entries.items) ≡ Err fault)) }
 {
-    match rest {
-        None => Ok(replayed(alloc, machine, entries)?),
-        Some(turns) => replay_then_rest(alloc, machine, entries, turns),
-    }
+    let all = with_asked_rest(alloc, machine, entries, rest)?;
+    Ok(WholeReplay {
+        outcome: replayed(alloc, machine, all.as_slice())?,
+        entries: all,
+    })
 }

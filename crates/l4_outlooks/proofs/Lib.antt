@@ -3,6 +3,7 @@ pub mod Coding
 pub mod Counting
 pub mod Falling
 pub mod Homes
+pub mod InFor
 pub mod Leading
 pub mod Opening
 pub mod Sparing

@@ -56,6 +56,17 @@ impl<'m> Outlook<'m> {
         Ok(Outlook { world, taken: 0 })
     }
 
+    /// A copy.
+    pub fn try_clone(&self, alloc: Global) -> Result<Outlook<'m>, NoMemory>
+        ensures { IfOk result (λ copy. copy ≡ self.now) }
+    {
+        let world = self.world.try_clone(alloc)?;
+        Ok(Outlook {
+            world,
+            taken: self.taken,
+        })
+    }
+
     /// Goes on by an entry that is possible here. If memory is refused, nothing changes.
     pub fn take(&mut self, entry: u32) -> Result<(), NoMemory>
         requires possible { IsSome (after_entry self.old.machine self.old.world entry) }
@@ -82,6 +93,7 @@ impl<'m> Outlook<'m> {
     fn open_step(&self, entry: u32) -> Option<StepRef<'_>>
         ensures { option_map seen result ≡ open_step self.now.machine self.now.world entry }
     {
+        self.world.machine().facts();
         let step = named(&self.world, entry)?;
         if self.world.is_possible_late(&step) {
             Some(step)

@@ -131,7 +131,7 @@ pub record IsTraceAnswer (m : Machine) (q : Question) (number : ℕ) (lines : Op
       list_all has_line trace ≡ true
 
 -- What status 0 says where no such ending should exist: no history comes to an ending that is asked
--- for. A question without lines asks only whether somebody waits.
+-- for.
 abbrev pub NoneIsReached : Machine → Question → Type 0
 NoneIsReached m q =
     (h : List Step) (w : World) → IsEnding m h w →

@@ -2,6 +2,7 @@ pub mod Answers
 pub mod Asked
 pub mod Endings
 pub mod Limits
+pub mod Met
 pub mod Placed
 pub mod Printed
 pub mod Quiet

@@ -6,22 +6,21 @@ use Rattle.l4_all_endings.proofs.tried.Worlds.choices_after.Goals as goal
 
 pub choices_by-requires-clause-possible : goal.choices_by-requires-clause-possible
 choices_by-requires-clause-possible c =
-    let m = c.args.self.now.machine.now in
     let o = c.in_ok-outlook.outlook in
-    subst (AreOpen m o.world)
-    (sym (c.deref.ensures.value ∙ c.in_ok-tried.ensures
-    ∙ ap (λ n. entries_of (tried n o.world)) c.in_ok-outlook.ensures.machine))
-    (tried_open m o.world)
+    subst (AreOpen o.machine o.world) (sym (c.deref.ensures.value ∙ c.in_ok-tried.ensures))
+    (tried_open o.machine o.world)
 
 pub returns : goal.returns
 returns c =
     let m = c.args.self.now.machine.now in
     let o = c.in_ok-outlook.outlook in
+    let same = c.in_ok-outlook.ensures.machine in
     record {
       world = o.world;
       leads = c.in_ok-outlook.ensures.leads;
       are = c.in_ok-choices.ensures
+          ∙ ap (λ n. nexts_at n o.world c.deref.result.now) same
           ∙ ap (nexts_at m o.world) (c.deref.ensures.value ∙ c.in_ok-tried.ensures
-          ∙ ap (λ n. entries_of (tried n o.world)) c.in_ok-outlook.ensures.machine)
+          ∙ ap (λ n. entries_of (tried n o.world)) same)
           ∙ sym (by_entries m o.world (tried m o.world));
     }

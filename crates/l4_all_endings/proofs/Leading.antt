@@ -58,6 +58,9 @@ module _ (m : Machine) (s : List ℕ) (w : World) (is : world_after m s ≡ Some
       by None none rest = lead_weaker (state_after m) s a (a + 1) _ (omega arith) rest
       by (Some c) at rest = lead_first a c _ (entry_is a c at) rest
 
+  pub all_lead : LeadOn (state_after m) s 0 (filter_map (next_by m w) (possible m w))
+  all_lead = lead_range (entry_count m w) 0
+
   pub nexts_lead : LeadOn (state_after m) s 0 (nexts m w)
   nexts_lead = by (find (λ c. stands_alone m c.step) (possible m w)) refl
     where
@@ -112,6 +115,9 @@ tried_open m w = by (find (λ c. stands_alone m c.step) (possible m w)) refl
     by : (o : Option Choice) → find (λ c. stands_alone m c.step) (possible m w) ≡ o → AreOpen m w (entries_of (tried m w))
     by None none = rw none (entries_open m w (possible m w) all)
     by (Some own) one = rw one (find_open m w (λ c. stands_alone m c.step) (possible m w) own all one, tt)
+
+pub possible_open : (m : Machine) (w : World) → AreOpen m w (entries_of (possible m w))
+possible_open m w = entries_open m w (possible m w) (listed_open m w (range_with_len 0 (entry_count m w)))
 
 -- One entry after the other
 

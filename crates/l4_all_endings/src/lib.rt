@@ -20,3 +20,4 @@ mod tried;
 
 pub use search::{FoundEndings, all_endings};
 pub use traces::trace_of;
+pub use tried::{choice_by, outlook_after, reached_state};

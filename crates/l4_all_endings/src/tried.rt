@@ -60,7 +60,7 @@ impl<'m> Tries for Worlds<'m> {
         let Ok(outlook) = Outlook::new(alloc, self.machine) else {
             return Err(AllocError);
         };
-        reached(alloc, &outlook)
+        reached_state(alloc, &outlook)
     }
 
     fn choices(
@@ -77,8 +77,8 @@ impl<'m> Tries for Worlds<'m> {
     }
 }
 
-// The state of a world.
-fn reached(alloc: Global, outlook: &Outlook<'_>) -> Result<Reached, AllocError>
+/// The state of a world.
+pub fn reached_state(alloc: Global, outlook: &Outlook<'_>) -> Result<Reached, AllocError>
     ensures { IfOk result (λ reached.
         state_from reached ≡ state_in outlook.now.machine outlook.now.world) }
 {
@@ -88,8 +88,8 @@ fn reached(alloc: Global, outlook: &Outlook<'_>) -> Result<Reached, AllocError>
     })
 }
 
-// The world that entries lead to.
-fn outlook_after<'m>(
+/// The world that entries lead to.
+pub fn outlook_after<'m>(
     alloc: Global,
     machine: &'m Machine,
     entries: &[u32],
@@ -105,8 +105,8 @@ fn outlook_after<'m>(
     Ok(outlook)
 }
 
-// The state that one more entry leads to.
-fn choice_by(alloc: Global, outlook: Outlook<'_>, entry: u32) -> Result<Choice, NoMemory>
+/// The state that one more entry leads to.
+pub fn choice_by(alloc: Global, outlook: Outlook<'_>, entry: u32) -> Result<Choice, NoMemory>
     requires possible { IsSome (after_entry outlook.machine outlook.world entry) }
     requires room { outlook.taken + 1 < 2 ^ 20 }
     ensures { IfOk result (λ choice.
@@ -114,7 +114,7 @@ fn choice_by(alloc: Global, outlook: Outlook<'_>, entry: u32) -> Result<Choice, 
 {
     let mut behind = outlook;
     behind.take(entry)?;
-    let reached = reached(alloc, &behind)?;
+    let reached = reached_state(alloc, &behind)?;
     Ok(Choice { entry, reached })
 }
 

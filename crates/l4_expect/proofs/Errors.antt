@@ -1,11 +1,11 @@
 -- Which ErrorCodes the threads of a history have, and what its report tells of each of them.
-use Rattle.std.proofs.Common.{◌≡◌, ℕ, zero, suc, ◌<◌, ◌^◌, Bool, true, false, Option, Some, None, List, [], ◌∷◌, length, map, refl, sym, ap, subst, ◌∙◌, arith}
-use Rattle.std.specs.Prelude.{◌==◌, slice_get, slice_index, slice_set, zip, Ok}
+use Rattle.std.proofs.Common.{◌≡◌, ℕ, zero, suc, ◌<◌, ◌^◌, Bool, true, Option, Some, None, List, [], ◌∷◌, map, refl, subst, arith}
+use Rattle.std.specs.Prelude.{◌==◌, slice_get, zip}
 use Rattle.std.specs.List.{list_all}
 use Rattle.std.proofs.lemmas.Bool.{and_parts, and_from, ltb-true, lt-ltb}
 use Rattle.l4_model.specs.Words.{Format, W64, W32, is_word_in}
 use Rattle.l4_model.specs.Machine.{Declaration, Instr, Set, Copy, Add, Tag, Vs, Ipc, Ask, Jump, OnErr, End, Machine, OrderKind, CancelSend, CancelReceive, CancelBoth, Delete}
-use Rattle.l4_model.specs.World.{Context, Owed, Phase, Ready, Sending, Receiving, Ordering, Ended, Deleted, Receive, Send, Thread, World, change, changed, is_alive, opening, opening_thread, others_owed}
+use Rattle.l4_model.specs.World.{Context, Owed, Phase, Ready, Sending, Receiving, Ordering, Ended, Deleted, Receive, Send, Thread, World, changed, is_alive, opening, opening_thread}
 use Rattle.l4_model.specs.Rules.{ran}
 use Rattle.l4_model.specs.Conditions.{instruction}
 use Rattle.l4_model.specs.Effects.{asked, begins, decided, delivered, fails, goes_on, obeyed, orders, receives, refused, runs, turns, turns_in, waits}

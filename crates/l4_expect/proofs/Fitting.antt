@@ -1,20 +1,19 @@
 -- A line that is asked for, and fits a line of a report, may be asked for.
-use Rattle.std.proofs.Common.{◌≡◌, ◌⊎◌, inl, inr, ℕ, zero, suc, ◌≤◌, ◌<◌, ◌^◌, Bool, true, false, not, cond, Option, Some, None, List, [], ◌∷◌, ◌++◌, length, map, refl, sym, ap, ◌∙◌, arith}
+use Rattle.std.proofs.Common.{◌≡◌, ◌⊎◌, inl, inr, ℕ, zero, suc, ◌≤◌, ◌^◌, Bool, true, false, not, Option, Some, None, List, [], ◌∷◌, ◌++◌, length, map, refl, sym, ap, ◌∙◌, arith}
 use Rattle.std.specs.Prelude.{◌==◌, ◌&&◌, ◌||◌, nat_lt, is_some, codes}
 use Rattle.std.specs.List.{list_all}
 use Rattle.std.specs.Str.{bytes_eq}
 use Rattle.std.proofs.lemmas.Bool.{and_parts, and_from, or_from, ltb-true, lt-ltb}
 use Rattle.std.proofs.lemmas.Slice.Eq.{bytes_eq-Decides}
 use Rattle.l4_model.specs.Words.{GlobalId}
-use Rattle.l4_model.specs.World.{Name}
 use Rattle.l4_words.specs.Names.{name_of}
 use Rattle.l4_words.specs.Numbers.{hexadecimal, is_word, number_of}
 use Rattle.l4_words.proofs.Numerals.{hexadecimal_is_read}
-use Rattle.l4_lines.specs.Lines.{are_rest, fits, fits_word, is_any, is_rest, is_send_of, thread_asked}
+use Rattle.l4_lines.specs.Lines.{are_rest, fits, fits_word, is_any, is_rest, is_send_of, thread_asked, thread_named}
 use Rattle.l4_expect.specs.Columns.{are_more, are_none, are_registers, fits_columns, is_last_register, is_number, is_of, is_register, may_stand}
 use Rattle.l4_expect.specs.Judging.{has_early_rest}
 use Rattle.l4_expect.specs.declared.columns.Column.{Column}
-use Rattle.l4_expect.specs.declared.columns.Column.TheVariants.{First, Thread, State, Code, Sender, Id, Tag, Send, Destination, Ending}
+use Rattle.l4_expect.specs.declared.columns.Column.TheVariants.{Send}
 
 -- Tests
 
@@ -36,7 +35,7 @@ none_sends : (o : Option GlobalId) → is_send_of o None ≡ false
 none_sends None = refl
 none_sends (Some t) = refl
 
-sends_some : (o : Option GlobalId) (s : Option Name) → is_send_of o s ≡ true → is_some o ≡ true
+sends_some : (o s : Option GlobalId) → is_send_of o s ≡ true → is_some o ≡ true
 sends_some None s h = cc
 sends_some (Some t) s h = refl
 
@@ -44,21 +43,21 @@ sends_some (Some t) s h = refl
 data Fit (asked word : List ℕ) : Type 0 where
   star : is_any asked ≡ true → Fit asked word
   itself : asked ≡ word → Fit asked word
-  one_of : is_send_of (thread_asked asked) (name_of word) ≡ true → Fit asked word
+  one_of : is_send_of (thread_asked asked) (thread_named word) ≡ true → Fit asked word
 
 fit_of : (asked word : List ℕ) → fits_word asked word ≡ true → Fit asked word
-fit_of asked word h = by (or_split (is_any asked || bytes_eq asked word) (is_send_of (thread_asked asked) (name_of word)) h)
+fit_of asked word h = by (or_split (is_any asked || bytes_eq asked word) (is_send_of (thread_asked asked) (thread_named word)) h)
   where
     by_word : (is_any asked ≡ true) ⊎ (bytes_eq asked word ≡ true) → Fit asked word
     by_word (inl is) = star is
     by_word (inr is) = itself ((bytes_eq-Decides asked word).0 is)
 
-    by : ((is_any asked || bytes_eq asked word) ≡ true) ⊎ (is_send_of (thread_asked asked) (name_of word) ≡ true) → Fit asked word
+    by : ((is_any asked || bytes_eq asked word) ≡ true) ⊎ (is_send_of (thread_asked asked) (thread_named word) ≡ true) → Fit asked word
     by (inl either) = by_word (or_split (is_any asked) (bytes_eq asked word) either)
     by (inr is) = one_of is
 
--- A word of a report that is no name of a send is asked for by itself, or by a star.
-pub word_fits : (asked word : List ℕ) → name_of word ≡ None → fits_word asked word ≡ true → (is_any asked ≡ true) ⊎ (asked ≡ word)
+-- A word of a report that names no send is asked for by itself, or by a star.
+pub word_fits : (asked word : List ℕ) → thread_named word ≡ None → fits_word asked word ≡ true → (is_any asked ≡ true) ⊎ (asked ≡ word)
 word_fits asked word none h = by (fit_of asked word h)
   where
     by : Fit asked word → (is_any asked ≡ true) ⊎ (asked ≡ word)
@@ -67,7 +66,7 @@ word_fits asked word none h = by (fit_of asked word h)
     by (one_of is) = absurd (let bad = sym (ap (is_send_of (thread_asked asked)) none ∙ none_sends (thread_asked asked)) ∙ is in cc)
 
 -- So it may be asked for, where the word itself may.
-pub word_may : (P : List ℕ → Bool) (asked word : List ℕ) → P word ≡ true → name_of word ≡ None → fits_word asked word ≡ true → (is_any asked || P asked) ≡ true
+pub word_may : (P : List ℕ → Bool) (asked word : List ℕ) → P word ≡ true → thread_named word ≡ None → fits_word asked word ≡ true → (is_any asked || P asked) ≡ true
 word_may P asked word is none h = by (word_fits asked word none h)
   where
     by : (is_any asked ≡ true) ⊎ (asked ≡ word) → (is_any asked || P asked) ≡ true
@@ -82,7 +81,7 @@ send_may asked word named h = by (fit_of asked word h)
     by (star is) = or_left (is_any asked) (is_of Send asked) is
     by (itself is) = or_right (is_any asked) (is_of Send asked) (or_left (is_some (name_of asked)) (is_some (thread_asked asked)) (ap (λ w. is_some (name_of w)) is ∙ named))
     by (one_of is) =
-        or_right (is_any asked) (is_of Send asked) (or_right (is_some (name_of asked)) (is_some (thread_asked asked)) (sends_some (thread_asked asked) (name_of word) is))
+        or_right (is_any asked) (is_of Send asked) (or_right (is_some (name_of asked)) (is_some (thread_asked asked)) (sends_some (thread_asked asked) (thread_named word) is))
 
 -- Columns
 
@@ -134,18 +133,18 @@ positive : (n : ℕ) → not (n == 0) ≡ true → nat_lt 0 n ≡ true
 positive zero h = cc
 positive (suc n) h = lt-ltb 0 (suc n) (omega arith)
 
-register_may : (a : List ℕ) (n : ℕ) → is_word n ≡ true → name_of (hexadecimal n) ≡ None → fits_word a (hexadecimal n) ≡ true → is_register a ≡ true
+register_may : (a : List ℕ) (n : ℕ) → is_word n ≡ true → thread_named (hexadecimal n) ≡ None → fits_word a (hexadecimal n) ≡ true → is_register a ≡ true
 register_may a n small none h =
     word_may (λ w. is_some (number_of 16 w)) a (hexadecimal n) (ap is_some (hexadecimal_is_read n (ltb-true n (2 ^ 64) small))) none h
 
-last_may : (a : List ℕ) (n : ℕ) → is_word n ≡ true → not (n == 0) ≡ true → name_of (hexadecimal n) ≡ None → fits_word a (hexadecimal n) ≡ true →
+last_may : (a : List ℕ) (n : ℕ) → is_word n ≡ true → not (n == 0) ≡ true → thread_named (hexadecimal n) ≡ None → fits_word a (hexadecimal n) ≡ true →
     is_last_register a ≡ true
 last_may a n small set none h =
     word_may (λ w. is_number (nat_lt 0) (number_of 16 w)) a (hexadecimal n) (ap (is_number (nat_lt 0)) (hexadecimal_is_read n (ltb-true n (2 ^ 64) small)) ∙ positive n set) none h
 
--- No word of a register is the name of a send.
+-- No word of a register names a send.
 abbrev pub NoNames : Type 0
-NoNames = (n : ℕ) → is_word n ≡ true → name_of (hexadecimal n) ≡ None
+NoNames = (n : ℕ) → is_word n ≡ true → thread_named (hexadecimal n) ≡ None
 
 only_last : (a : List ℕ) (n : ℕ) (words : List ℕ) → NoNames → is_word n ≡ true → ends_set (n ∷ words) ≡ true → fits (a ∷ []) (map hexadecimal (n ∷ words)) ≡ true →
     (is_rest a || is_last_register a) ≡ true

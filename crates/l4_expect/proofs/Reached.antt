@@ -1,17 +1,17 @@
 -- What the report of a history of a machine text tells of each thread and each undecided send.
-use Rattle.std.proofs.Common.{◌≡◌, ◌⊎◌, ℕ, zero, suc, ◌+◌, ◌-◌, ◌*◌, ◌/◌, ◌%◌, ◌^◌, ◌<◌, ◌≤◌, Bool, true, false, not, cond, Option, Some, None, List, [], ◌∷◌, length, map, refl, sym, ap, subst, ◌∙◌, arith}
-use Rattle.std.specs.Prelude.{◌==◌, ◌&&◌, nat_le, nat_lt, filter_map, slice_get, slice_index, slice_set, unwrap_or, zip, IfSome, Ok}
+use Rattle.std.proofs.Common.{◌≡◌, ℕ, zero, suc, ◌+◌, ◌-◌, ◌*◌, ◌/◌, ◌%◌, ◌^◌, ◌<◌, Bool, true, false, not, cond, Option, Some, None, List, [], ◌∷◌, length, refl, sym, ap, subst, ◌∙◌, arith}
+use Rattle.std.specs.Prelude.{◌==◌, ◌&&◌, nat_le, nat_lt, slice_get, slice_index, slice_set, unwrap_or, IfSome}
 use Rattle.std.specs.List.{cons_option, list_all}
 use Rattle.std.specs.Option.{option_map}
-use Rattle.std.proofs.lemmas.Bool.{and_parts, and_from, ltb-true, lt-ltb, eq-eqb, eqb-true, false_from_ne_true, not-true, not_from_false}
-use Rattle.l4_model.specs.Words.{Format, W64, W32, GlobalId, Id, NilThread, AnyThread, AnyLocalThread, LocalThread, GlobalThread, Period, has_typed_words, has_word_in, is_global, is_global_in, is_word_in, last_register}
+use Rattle.std.proofs.lemmas.Bool.{and_parts, and_from, ltb-true, lt-ltb, eq-eqb, eqb-true, false_from_ne_true, not_from_false}
+use Rattle.l4_model.specs.Words.{Format, W64, W32, GlobalId, Id, NilThread, AnyThread, AnyLocalThread, LocalThread, GlobalThread, Period, has_typed_words, has_word_in, is_global, is_word_in, last_register}
 use Rattle.l4_model.specs.Machine.{Declaration, Instr, Set, Copy, Add, Tag, Vs, Ipc, Ask, Jump, OnErr, End, Machine, OrderKind, CancelSend, CancelReceive, CancelBoth, Delete, To, ToId, ToLast, instruction_at, same_space}
-use Rattle.l4_model.specs.World.{Context, Message, Name, Owed, PendingOrder, Phase, Ready, Sending, Receiving, Ordering, Ended, Deleted, Receive, Send, Thread, World, is_alive, opening, opening_thread}
+use Rattle.l4_model.specs.World.{Context, Message, Name, Owed, Phase, Ready, Sending, Receiving, Ordering, Ended, Deleted, Receive, Send, Thread, World, is_alive, opening}
 use Rattle.l4_model.specs.Rules.{RunsAlone, Orders, act, ask_act, bit, destination, failed, ipc_act, is_admitted, message_of, originator, permitted, ran, receive_phase, received, received_tag, register}
-use Rattle.l4_model.specs.Conditions.{◌>>=◌, Found, Pending, undecided}
-use Rattle.l4_model.specs.Effects.{asked, decided, fails, goes_on, receives, turned_send, turns, turns_in}
+use Rattle.l4_model.specs.Conditions.{◌>>=◌, Pending, undecided}
+use Rattle.l4_model.specs.Effects.{asked, decided, fails, goes_on, turned_send, turns, turns_in}
 use Rattle.l4_model.specs.Steps.{Step, Begin, next, send_of}
-use Rattle.l4_model.specs.History.{begun_name, reached, report_of, run, view, waiting, waiting_name}
+use Rattle.l4_model.specs.History.{reached, run, waiting, waiting_name}
 use Rattle.l4_model.proofs.Chains.{bind_then, cond_keeps, some_is}
 use Rattle.l4_model.proofs.Keeping.{Each, Maintained, opening_is, sender_fact, step_each}
 use Rattle.l4_model.proofs.Places.{known_send}

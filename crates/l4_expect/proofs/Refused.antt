@@ -1,5 +1,5 @@
 -- What is refused of a text of expectations is what no report has.
-use Rattle.std.proofs.Common.{◌≡◌, ℕ, true, false, Option, Some, None, List}
+use Rattle.std.proofs.Common.{◌≡◌, ℕ, true, false, Some, None, List}
 use Rattle.std.specs.Prelude.{Ok}
 use Rattle.std.specs.List.{list_all}
 use Rattle.l4_model.specs.Machine.{Machine}

@@ -1,22 +1,23 @@
 -- The lines of a report, and the lines that fit them.
-use Rattle.std.proofs.Common.{◌≡◌, ◌⊎◌, inl, inr, ℕ, zero, suc, ◌≤◌, ◌<◌, ◌^◌, Bool, true, false, not, cond, Option, Some, None, List, [], ◌∷◌, ◌++◌, length, map, refl, sym, ap, ◌∙◌, arith}
-use Rattle.std.specs.Prelude.{◌==◌, ◌&&◌, ◌||◌, nat_le, nat_lt, is_some, codes, decimal, slice_index}
-use Rattle.std.specs.List.{list_all}
+use Rattle.std.proofs.Common.{◌≡◌, ℕ, ◌<◌, ◌^◌, Bool, true, false, not, cond, Option, Some, None, List, [], ◌++◌, get_or, length, refl, sym, ap, ◌∙◌, arith}
+use Rattle.std.specs.Prelude.{◌==◌, ◌&&◌, ◌||◌, nat_le, is_some, codes, decimal, slice_index}
+use Rattle.std.specs.List.{list_all, position}
 use Rattle.std.specs.Str.{bytes_eq}
-use Rattle.std.proofs.lemmas.Bool.{and_parts, and_from, ltb-true, leb-true, eqb-true, not_from_false}
-use Rattle.std.proofs.lemmas.List.Folds.{list_all-append}
+use Rattle.std.proofs.lemmas.Bool.{and_parts, ltb-true, leb-true, eqb-true, not_from_false}
+use Rattle.std.proofs.lemmas.List.Quantifiers.{position-Some}
 use Rattle.std.proofs.lemmas.Slice.Eq.{bytes_eq-Decides}
 use Rattle.l4_model.specs.Words.{W64, GlobalId, Id, NilThread, AnyThread, AnyLocalThread, LocalThread, GlobalThread, has_typed_words, has_word_in, is_global, register_count}
 use Rattle.l4_model.specs.World.{Name}
 use Rattle.l4_model.specs.History.{Report, State, IsReady, IsSending, IsReceiving, IsOrdering, IsEnded, IsDeleted}
-use Rattle.l4_words.specs.Names.{is_name, name_of, name_word}
-use Rattle.l4_words.specs.Numbers.{hexadecimal, is_word, number_of}
+use Rattle.l4_words.specs.Names.{is_hash, is_name, name_of, name_word}
+use Rattle.l4_words.specs.Numbers.{hexadecimal, is_word}
 use Rattle.l4_words.specs.Threads.{id_word, thread_of, thread_word}
-use Rattle.l4_words.proofs.Above.{is_above, above_lower, above_parts, decimal_is_above, hexadecimal_is_above}
+use Rattle.l4_words.proofs.Above.{is_above, above_lower, above_parts, decimal_is_above, hexadecimal_is_above, lacks}
 use Rattle.l4_words.proofs.Numerals.{decimal_is_read, hexadecimal_is_read}
-use Rattle.l4_words.proofs.ReadNames.{name_is_read, name_is_written}
+use Rattle.l4_words.proofs.ReadNames.{name_is_read}
 use Rattle.l4_words.proofs.Spelled.{thread_is_above, thread_is_read}
-use Rattle.l4_lines.specs.Lines.{is_rest}
+use Rattle.l4_lines.specs.Lines.{has_number, is_rest, thread_named}
+use Rattle.l4_lines.proofs.Sends.{none_named}
 use Rattle.l4_reports.specs.ReportLines.{state_word}
 use Rattle.l4_expect.specs.Columns.{is_destination, is_local, is_number, is_of, is_nil}
 use Rattle.l4_expect.specs.declared.columns.Column.{Column}
@@ -50,28 +51,30 @@ pub record IsIn (column : Column) (word : List ℕ) : Type 0 where
   pub plain : is_above 32 word ≡ true
   pub unlike : not (is_rest word) ≡ true
 
-hash_between : (xs ys : List ℕ) → is_above 35 (xs ++ codes "#" ++ ys) ≡ true → ⊥
-hash_between xs ys h =
-    let front = and_parts (is_above 35 (xs ++ codes "#")) (is_above 35 ys) (sym (list_all-append (nat_lt 35) (xs ++ codes "#") ys) ∙ h) in
-    let hash = and_parts (is_above 35 xs) (is_above 35 (codes "#")) (sym (list_all-append (nat_lt 35) xs (codes "#")) ∙ front.0) in
-    let bad : false ≡ true = hash.1 in
-    cc
-
-pub no_name : (word : List ℕ) → is_above 35 word ≡ true → name_of word ≡ None
-no_name word h = by (name_of word) refl
+-- Where no byte is a `#`, nothing stands behind one.
+pub no_name : (word : List ℕ) → is_above 35 word ≡ true → thread_named word ≡ None
+no_name word h = by (position is_hash word) refl
   where
-    by : (o : Option Name) → name_of word ≡ o → o ≡ None
-    by None is = refl
-    by (Some s) is = absurd (hash_between (thread_word s.thread) (decimal s.k) (ap (is_above 35) (name_is_written word s is).1 ∙ h))
+    by : (o : Option ℕ) → position is_hash word ≡ o → thread_named word ≡ None
+    by None is = none_named word is
+    by (Some i) is =
+        let at = position-Some is_hash word i 0 is in
+        let lacking : (get_or word i 0 == 35) ≡ false = lacks 35 word h i 0 at.0 in
+        let hash : (get_or word i 0 == 35) ≡ true = at.1 in
+        cc
 
-no_name_at_hash : (digits : List ℕ) → name_of (codes "#" ++ digits) ≡ None
-unfolding name_of thread_of
-no_name_at_hash digits = refl
+no_name_at_hash : (digits : List ℕ) → thread_named (codes "#" ++ digits) ≡ None
+unfolding thread_of
+no_name_at_hash digits = by (has_number (codes "#" ++ digits))
+  where
+    by : (number : Bool) → cond number (thread_of []) None ≡ None
+    by true = refl
+    by false = refl
 
-pub no_register_name : (n : ℕ) → is_word n ≡ true → name_of (hexadecimal n) ≡ None
+pub no_register_name : (n : ℕ) → is_word n ≡ true → thread_named (hexadecimal n) ≡ None
 no_register_name n small = no_name (hexadecimal n) (above_lower 35 46 (omega arith) (hexadecimal n) (hexadecimal_is_above n (ltb-true n (2 ^ 64) small)))
 
-pub in_column : (column : Column) (word : List ℕ) → is_of column word ≡ true → name_of word ≡ None → is_above 32 word ≡ true → not (is_rest word) ≡ true → IsIn column word
+pub in_column : (column : Column) (word : List ℕ) → is_of column word ≡ true → thread_named word ≡ None → is_above 32 word ≡ true → not (is_rest word) ≡ true → IsIn column word
 in_column column word is none plain unlike =
     record { stands = record { may = λ asked h. word_may (is_of column) asked word is none h }; plain = plain; unlike = unlike }
 
@@ -91,7 +94,8 @@ unfolding thread_of
 dots_no_thread = refl
 
 dots_no_name : name_of (codes "..") ≡ None
-dots_no_name = no_name (codes "..") refl
+unfolding name_of thread_of
+dots_no_name = refl
 
 pub number_unlike : (radix : ℕ) (word : List ℕ) → is_above 46 word ≡ true → not (is_rest word) ≡ true
 number_unlike radix word h = by (is_rest word) refl

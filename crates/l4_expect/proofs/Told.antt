@@ -1,13 +1,12 @@
 -- What fits a line of a report may be asked for.
-use Rattle.std.proofs.Common.{◌≡◌, ◌≢◌, ◌⊎◌, inl, inr, ℕ, zero, suc, ◌≤◌, ◌<◌, ◌^◌, ◌+◌, Bool, true, false, not, cond, Option, Some, None, List, [], ◌∷◌, ◌++◌, length, map, refl, sym, ap, ◌∙◌, arith, append_assoc}
+use Rattle.std.proofs.Common.{◌≡◌, ◌⊎◌, inl, inr, ℕ, suc, ◌≤◌, ◌^◌, Bool, true, false, not, cond, Option, Some, None, List, [], ◌∷◌, ◌++◌, length, map, refl, sym, ap, ◌∙◌, arith, append_assoc}
 use Rattle.std.specs.Prelude.{◌==◌, ◌&&◌, ◌||◌, find, flat_map, is_some, codes, decimal, slice_index}
 use Rattle.std.specs.List.{join_with_byte, list_all}
 use Rattle.std.specs.Str.{bytes_eq}
 use Rattle.std.proofs.lemmas.Bool.{and_parts, and_from, ltb-true}
 use Rattle.std.proofs.lemmas.List.{append-nil}
-use Rattle.std.proofs.lemmas.List.Folds.{list_all-append}
 use Rattle.std.proofs.lemmas.List.Splits.{slice_split_at}
-use Rattle.l4_model.specs.Words.{W64, Id, has_typed_words, has_word_in, last_register}
+use Rattle.l4_model.specs.Words.{W64, Id, has_typed_words, has_word_in}
 use Rattle.l4_model.specs.World.{Name}
 use Rattle.l4_model.specs.History.{Report}
 use Rattle.l4_types.specs.declared.reports.Ending.{Ending}
@@ -24,13 +23,12 @@ use Rattle.l4_lines.specs.declared.lines.LineFault.TheVariants.{Unknown, Deleted
 use Rattle.l4_lines.proofs.Fitting.{first_line, found_line}
 use Rattle.l4_reports.specs.ReportLines.{before_set, ending_line, ending_word, report_text, shown_registers, state_word, thread_line, up_to_last_set, waiting_line}
 use Rattle.l4_trace.proofs.Plain.{are_plain, line_is_above, line_is_split}
-use Rattle.l4_expect.specs.Columns.{are_more, fits_columns, may_be_line, may_stand, of_ending, of_send, of_thread}
+use Rattle.l4_expect.specs.Columns.{fits_columns, may_be_line, of_ending, of_send, of_thread}
 use Rattle.l4_expect.specs.Judging.{has_early_rest, wrong_asked, wrong_by}
-use Rattle.l4_expect.specs.declared.columns.Column.{Column}
 use Rattle.l4_expect.specs.declared.columns.Column.TheVariants as columns
 use Rattle.l4_expect.specs.declared.judging.Scope.TheVariants.{OneRun}
 use Rattle.l4_expect.specs.declared.judging.Wrong.TheVariants.{BadLine}
-use Rattle.l4_expect.proofs.Fitting.{AllStand, Stands, columns_may, ends_set, no_early_rest, none_may, or_left, or_right, or_split, registers_may, word_fits}
+use Rattle.l4_expect.proofs.Fitting.{Stands, columns_may, ends_set, no_early_rest, none_may, or_right, or_split, registers_may, word_fits}
 use Rattle.l4_expect.proofs.Reported.{IsIn, IsTold, destination_in, error_in, id_in, is_some_thread, name_in, no_name, no_register_name, in_column, sender_in, state_in, tag_in, thread_in, thread_read, number_unlike}
 
 -- Registers up to the last that is not 0

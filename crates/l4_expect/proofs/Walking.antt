@@ -1,5 +1,5 @@
 -- Going over the words of a line that is asked for.
-use Rattle.std.proofs.Common.{◌≡◌, ◌≢◌, ℕ, zero, suc, ◌-◌, ◌<◌, Bool, true, false, List, [], ◌∷◌, length, drop, refl, ap, ◌∙◌, arith}
+use Rattle.std.proofs.Common.{◌≡◌, ◌≢◌, ℕ, zero, suc, ◌-◌, ◌<◌, Bool, true, false, List, [], ◌∷◌, length, drop, refl, ap, arith}
 use Rattle.std.specs.Prelude.{◌&&◌}
 use Rattle.l4_lines.specs.Lines.{is_rest}
 use Rattle.l4_expect.specs.Columns.{are_registers, fits_columns, is_register}

@@ -1,6 +1,6 @@
 //! What can be tried by schedules.
 ghost use Rattle.std.specs.Prelude.{ℕ, ◌≡◌, ◌<◌, List, [], Some, Option, IfOk, length, map, take};
-ghost use Rattle.l4_explore.specs.Search.{seen_at, Seen};
+ghost use Rattle.l4_explore.specs.Search.{seen_at, AreApart, Seen};
 ghost use Rattle.l4_explore.specs.Tries.{deepest, AreCoded, LeadOn, Next, State};
 ghost use Rattle.l4_explore.specs.Views.{next_from, state_from};
 
@@ -49,6 +49,7 @@ pub trait Tries {
     /// `AllocError`: memory was refused.
     fn choices(&self, alloc: Global, found: &Found, place: usize) -> Result<Vec<Choice>, AllocError>
         requires inside { place < length found.now }
+        requires once { AreApart found.now }
         requires reached { state_of self.now (seen_at found.now place).schedule
             ≡ Some (seen_at found.now place).state }
         requires short { length (seen_at found.now place).schedule < deepest }

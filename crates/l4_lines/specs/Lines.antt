@@ -1,11 +1,10 @@
 -- The lines of reports that may be asked for, and the lines that they are.
-use Rattle.std.specs.Prelude.{Bool, true, false, not, ◌&&◌, ◌||◌, if◌then◌else◌, ℕ, Option, None, Some, is_some, List, [], ◌∷◌, codes}
-use Rattle.std.specs.List.{after_first, before_first}
+use Rattle.std.specs.Prelude.{Bool, true, false, not, ◌&&◌, ◌||◌, ◌==◌, nat_le, if◌then◌else◌, ℕ, Option, None, Some, List, [], ◌∷◌, codes, length}
+use Rattle.std.specs.List.{after_first, before_first, list_all}
 use Rattle.std.specs.Str.{bytes_eq}
 use Rattle.l4_model.specs.Words.{GlobalId, same_id}
-use Rattle.l4_model.specs.World.{Name}
 use Rattle.l4_words.specs.Lines.{parts_of}
-use Rattle.l4_words.specs.Names.{is_hash, name_of}
+use Rattle.l4_words.specs.Names.{is_hash}
 use Rattle.l4_words.specs.Threads.{thread_of}
 use Rattle.l4_words.specs.Words.{words_in}
 use Rattle.l4_lines.specs.declared.lines.LineFault.{LineFault}
@@ -25,13 +24,28 @@ abbrev pub thread_asked : (asked : List ℕ) → Option GlobalId
 thread_asked asked =
     if is_any (after_first is_hash asked) then thread_of (before_first is_hash asked) else None
 
-abbrev pub is_send_of : Option GlobalId → Option Name → Bool
-is_send_of (Some t) (Some s) = same_id s.thread t
+-- A send's number has one digit or more, and no greatest length.
+
+abbrev pub is_digit : (byte : ℕ) → Bool
+is_digit byte = nat_le 48 byte && nat_le byte 57
+
+abbrev pub is_numeral : (word : List ℕ) → Bool
+is_numeral word = not (length word == 0) && list_all is_digit word
+
+abbrev pub has_number : (word : List ℕ) → Bool
+has_number word = is_numeral (after_first is_hash word)
+
+-- The thread of which a word names a send, whatever its number.
+abbrev pub thread_named : (word : List ℕ) → Option GlobalId
+thread_named word = if has_number word then thread_of (before_first is_hash word) else None
+
+abbrev pub is_send_of : (asked named : Option GlobalId) → Bool
+is_send_of (Some asked) (Some named) = same_id named asked
 is_send_of _ _ = false
 
 abbrev pub fits_word : (asked word : List ℕ) → Bool
 fits_word asked word =
-    is_any asked || bytes_eq asked word || is_send_of (thread_asked asked) (name_of word)
+    is_any asked || bytes_eq asked word || is_send_of (thread_asked asked) (thread_named word)
 
 abbrev pub are_rest : (asked : List (List ℕ)) → Bool
 are_rest (asked ∷ []) = is_rest asked
@@ -84,7 +98,7 @@ asks_of_deleted first [] = false
 
 -- With these words first it may be that of a send that waits, and asks for its number.
 abbrev pub asks_for_number : (first second : List ℕ) → Bool
-asks_for_number first second = fits_word first (codes "waiting") && is_some (name_of second)
+asks_for_number first second = fits_word first (codes "waiting") && has_number second
 
 -- Runs that end in one state may differ in the registers of a deleted thread, in the numbers of
 -- sends, and in nothing else that a line tells. So a line may not ask for them.

@@ -1,15 +1,15 @@
 //! Lines, word by word.
 ghost use Rattle.std.specs.Prelude.{◌≡◌, ◌∷◌, find};
+ghost use Rattle.std.specs.List.{list_all};
 ghost use Rattle.std.specs.Option.{option_copied};
 ghost use Rattle.std.specs.Str.{bytes_eq};
-ghost use Rattle.l4_words.specs.Names.{name_of};
 ghost use Rattle.l4_lines.specs.Lines.{are_rest, asks_for_number, asks_of_deleted, fits_line};
-ghost use Rattle.l4_lines.specs.Lines.{fits_word, has_line, is_any, is_rest, is_send_of};
-ghost use Rattle.l4_lines.specs.Lines.{line_fault, lines_of, may_begin, thread_asked};
+ghost use Rattle.l4_lines.specs.Lines.{fits_word, has_line, has_number, is_any, is_digit};
+ghost use Rattle.l4_lines.specs.Lines.{is_numeral, is_rest, is_send_of, line_fault, lines_of};
+ghost use Rattle.l4_lines.specs.Lines.{may_begin, thread_asked, thread_named};
 
 use l4_types::ids::GlobalId;
 use l4_words::lines::{find_byte, split_line};
-use l4_words::names::name;
 use l4_words::threads::thread;
 use l4_words::words::Words;
 
@@ -75,7 +75,7 @@ fn asks_of_deleted(first: &[u8], mut others: Words<'_>) -> bool
 fn asks_for_number(first: &[u8], second: &[u8]) -> bool
     ensures { result ≡ asks_for_number first.now second.now }
 {
-    fits_word(first, b"waiting") && name(second).is_some()
+    fits_word(first, b"waiting") && has_number(second)
 }
 
 // Whether the words that are left stand for any words.
@@ -120,12 +120,54 @@ pub fn thread_asked(asked: &[u8]) -> Option<GlobalId>
     thread(&asked[..hash])
 }
 
+fn is_digit(byte: u8) -> bool
+    ensures { result ≡ is_digit byte }
+{
+    b'0' <= byte && byte <= b'9'
+}
+
+fn are_digits(bytes: &[u8]) -> bool
+    ensures { result ≡ list_all is_digit bytes.now }
+{
+    bytes.iter().all(|byte| is_digit(*byte))
+}
+
+// Whether a word is a number, however long.
+fn is_numeral(word: &[u8]) -> bool
+    ensures { result ≡ is_numeral word.now }
+{
+    !word.is_empty() && are_digits(word)
+}
+
+// Whether what stands behind the `#` of a word is a number.
+#[tactic(auto, using(crate::proofs::Sends::number_at, crate::proofs::Sends::no_number))]
+fn has_number(word: &[u8]) -> bool
+    ensures { result ≡ has_number word.now }
+{
+    match find_byte(b'#', word) {
+        Some(hash) => is_numeral(&word[hash + 1..]),
+        None => false,
+    }
+}
+
+// The thread of which a word names a send, whatever its number.
+#[tactic(auto, using(crate::proofs::Sends::named_at, crate::proofs::Sends::none_named))]
+fn thread_named(word: &[u8]) -> Option<GlobalId>
+    ensures { result ≡ thread_named word.now }
+{
+    let hash = find_byte(b'#', word)?;
+    if !is_numeral(&word[hash + 1..]) {
+        return None;
+    }
+    thread(&word[..hash])
+}
+
 // Whether a word names a send of the thread of which any send is asked for.
 fn is_send_of(asked: &[u8], word: &[u8]) -> bool
-    ensures { result ≡ is_send_of (thread_asked asked.now) (name_of word.now) }
+    ensures { result ≡ is_send_of (thread_asked asked.now) (thread_named word.now) }
 {
-    match (thread_asked(asked), name(word)) {
-        (Some(thread), Some(name)) => name.thread() == thread,
+    match (thread_asked(asked), thread_named(word)) {
+        (Some(asked), Some(named)) => named == asked,
         _ => false,
     }
 }

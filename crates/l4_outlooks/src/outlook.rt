@@ -11,6 +11,8 @@ ghost use Rattle.l4_outlooks.specs.Foreseen.{Foreseen, IsBehind, IsLed, opens};
 ghost use Rattle.l4_outlooks.specs.Named.{open_step};
 ghost use Rattle.l4_outlooks.specs.Standing.{left_alone};
 
+mod looks;
+
 use crate::alone::Alone;
 use crate::code::code_of;
 use crate::named::{KINDS, named};
@@ -54,6 +56,16 @@ impl<'m> Outlook<'m> {
         know_times(machine);
         let world = World::new(alloc, machine)?;
         Ok(Outlook { world, taken: 0 })
+    }
+
+    /// A copy.
+    pub fn try_clone(&self, alloc: Global) -> Result<Outlook<'m>, NoMemory>
+        ensures { IfOk result (λ copy. copy ≡ self.now) }
+    {
+        Ok(Outlook {
+            world: self.world.try_clone(alloc)?,
+            taken: self.taken,
+        })
     }
 
     /// Goes on by an entry that is possible here. If memory is refused, nothing changes.

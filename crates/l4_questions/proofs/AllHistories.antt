@@ -1,21 +1,32 @@
--- What status 0 says of all histories where no ending should exist.
-use Rattle.std.proofs.Common.{◌≡◌, ℕ, zero, suc, Bool, true, false, cond, Option, Some, None, List, [], ◌∷◌, map, refl, ap, ap₂, subst, sym, ◌∙◌}
-use Rattle.std.specs.Prelude.{◌&&◌, filter, slice_get}
-use Rattle.std.specs.Option.{option_copied}
+-- What an answer says of all histories.
+use Rattle.std.proofs.Common.{◌≡◌, ℕ, zero, suc, Bool, true, false, cond, Option, Some, None, List, [], ◌∷◌, refl, ap, subst, sym, ◌∙◌}
+use Rattle.std.specs.Prelude.{filter, slice_get}
+use Rattle.std.specs.List.{list_all}
+use Rattle.std.proofs.lemmas.Bool.{and_parts}
 use Rattle.l4_model.specs.Machine.{Machine}
 use Rattle.l4_model.specs.World.{World}
 use Rattle.l4_model.specs.Steps.{Step}
+use Rattle.l4_common_lines.specs.CommonLines.{may_be_asked, HaveLinesInCommon}
+use Rattle.l4_common_lines.proofs.AsGood.{in_common}
+use Rattle.l4_common_lines.proofs.Expected.{met_alike}
+use Rattle.l4_common_lines.proofs.Lines.{lines_in_common}
 use Rattle.l4_expect.specs.Expected.{Expected}
-use Rattle.l4_futures.specs.Endings.{IsEnding, length_of}
+use Rattle.l4_futures.specs.Endings.{AreAllEndings, IsEnding}
 use Rattle.l4_futures.specs.Stuck.{is_stuck_world}
 use Rattle.l4_futures.proofs.Stuck.{stuck_same}
-use Rattle.l4_questions.specs.Answers.{ending_after, ending_or_none, endings_after, report_in, IsAnswer, OneIsReached}
-use Rattle.l4_questions.specs.Asked.{asks, has_asked, if_stuck, is_asked, lacks_asked}
+use Rattle.l4_lines.specs.Lines.{has_line}
+use Rattle.l4_types.specs.declared.reports.Ending.TheVariants.{Quiet}
+use Rattle.l4_questions.specs.Answers.{ending_after, ending_in, ending_or_none, endings_after, report_in, IsAnswer, NoneIsReached, OneIsReached}
+use Rattle.l4_questions.specs.Asked.{asked_of, asks, is_asked}
 use Rattle.l4_questions.specs.Endings.{Ending}
-use Rattle.l4_questions.specs.Runs.{AsksNoLine}
+use Rattle.l4_questions.specs.Met.{EachIsMet}
+use Rattle.l4_questions.specs.Printed.{meets}
+use Rattle.l4_questions.specs.Runs.{AsksForLines}
 use Rattle.l4_questions.specs.declared.question.Question.{Question}
-use Rattle.l4_questions.specs.declared.question.Wanted.TheVariants.{AnEnding, NoEnding}
-use Rattle.l4_questions.proofs.Statuses.{by_status, some_by_status}
+use Rattle.l4_questions.specs.declared.question.Wanted.TheVariants.{AnEnding, NoEnding, Whatever}
+use Rattle.l4_questions.proofs.Asking.{asked_alike}
+use Rattle.l4_questions.proofs.Statuses.{by_status, met_by_status, some_by_status}
+use Rattle.l4_questions.proofs.Telling.{all_told}
 
 none_at : (m : Machine) (q : Question) (traces : List (List Step)) (i : ℕ) (trace : List Step) →
     slice_get traces i ≡ Some trace → filter (is_asked q) (endings_after m traces) ≡ [] →
@@ -38,29 +49,108 @@ none_at m q (t ∷ traces) i trace at none =
         ap (λ (x : List Step). is_asked q (ending_after m x)) (sym same) ∙ is
     by (suc i) at false is none rest = rest i trace at none
 
--- A question without lines asks alike where the same is stuck.
-stuck_alone : (q : Question) → AsksNoLine q → (b c : Bool) (r s : List ℕ) → b ≡ c →
-    asks q b r ≡ asks q c s
-stuck_alone q none b c r s same =
-    ap₂ (λ (lines others : Bool). lines && others)
-    (ap₂ (λ (waits some : Bool). if_stuck q.stuck waits && some) same
-    (ap (λ o. has_asked (option_copied o) r) none.with_line
-    ∙ sym (ap (λ o. has_asked (option_copied o) s) none.with_line)))
-    (ap (λ o. lacks_asked (option_copied o) r) none.never
-    ∙ sym (ap (λ o. lacks_asked (option_copied o) s) none.never))
+-- What is so of all that are asked for is so of the one at a place, if it is asked for.
+all_at : (m : Machine) (q : Question) (is_so : Ending → Bool) (traces : List (List Step)) (i : ℕ)
+    (trace : List Step) → slice_get traces i ≡ Some trace →
+    list_all is_so (filter (is_asked q) (endings_after m traces)) ≡ true →
+    is_asked q (ending_after m trace) ≡ true → is_so (ending_after m trace) ≡ true
+all_at m q is_so [] i trace at all asked = cc
+all_at m q is_so (t ∷ traces) i trace at all asked =
+    by i at (is_asked q (ending_after m t)) refl all (all_at m q is_so traces)
+  where
+    others : List Ending
+    others = filter (is_asked q) (endings_after m traces)
+
+    by : (i : ℕ) → slice_get (t ∷ traces) i ≡ Some trace → (b : Bool) →
+        is_asked q (ending_after m t) ≡ b →
+        list_all is_so (cond b (ending_after m t ∷ others) others) ≡ true →
+        ((i : ℕ) (trace : List Step) → slice_get traces i ≡ Some trace →
+        list_all is_so others ≡ true → is_asked q (ending_after m trace) ≡ true →
+        is_so (ending_after m trace) ≡ true) →
+        is_so (ending_after m trace) ≡ true
+    by zero at true is all rest =
+        let same : t ≡ trace = cc in
+        ap (λ (x : List Step). is_so (ending_after m x)) (sym same)
+        ∙ (and_parts (is_so (ending_after m t)) (list_all is_so others) all).0
+    by zero at false is all rest =
+        let same : t ≡ trace = cc in
+        let not_asked : is_asked q (ending_after m trace) ≡ false =
+        ap (λ (x : List Step). is_asked q (ending_after m x)) (sym same) ∙ is in
+        cc
+    by (suc i) at true is all rest =
+        rest i trace at (and_parts (is_so (ending_after m t)) (list_all is_so others) all).1 asked
+    by (suc i) at false is all rest = rest i trace at all asked
+
+-- The listed ending that is as good as one to which a history comes: it is asked for where that is.
+record IsFound (m : Machine) (q : Question) (traces : List (List Step)) (h : List Step)
+    (w : World) : Type 0 where
+  place : ℕ
+  trace : List Step
+  at : slice_get traces place ≡ Some trace
+  common : HaveLinesInCommon (report_in m h w) (ending_after m trace).report
+  asked : asks q (is_stuck_world w) (report_in m h w) ≡ is_asked q (ending_after m trace)
+
+found : (m : Machine) (q : Question) (traces : List (List Step)) (depth : ℕ) → AsksForLines q →
+    AreAllEndings m traces depth true → (h : List Step) (w : World) → IsEnding m h w →
+    IsFound m q traces h w
+found m q traces depth may all h w ending =
+    let one = all.whole refl h w ending in
+    let alike : HaveLinesInCommon (report_in m h w) (report_in m one.trace one.world)
+    = lines_in_common m w one.world (in_common m w one.world one.as_good) h one.trace Quiet
+    ending.comes.reaches one.reaches in
+    let same : ending_after m one.trace ≡ ending_in m one.trace one.world
+    = ap (ending_or_none m one.trace) one.reaches in
+    record {
+      place = one.place;
+      trace = one.trace;
+      at = one.at;
+      common = λ line none. alike line none ∙ ap (λ (e : Ending). has_line line e.report) (sym same);
+      asked =
+          asked_alike (report_in m h w) (report_in m one.trace one.world) alike q may
+          (is_stuck_world w) (is_stuck_world one.world) (stuck_same w one.world one.as_good)
+          ∙ ap (is_asked q) (sym same);
+    }
 
 pub none_reached : (m : Machine) (q : Question) (waits : Bool)
-    (expected : Option (List Expected)) (lines unmet : List ℕ) → AsksNoLine q →
-    q.wanted ≡ NoEnding → IsAnswer m q waits expected lines unmet 0 →
-    (h : List Step) (w : World) → IsEnding m h w →
-    asks q (is_stuck_world w) (report_in m h w) ≡ false
-none_reached m q waits expected lines unmet no_line none a h w ending =
+    (expected : Option (List Expected)) (lines unmet : List ℕ) → AsksForLines q →
+    q.wanted ≡ NoEnding → IsAnswer m q waits expected lines unmet 0 → NoneIsReached m q
+none_reached m q waits expected lines unmet may none a h w ending =
     let is = by_status q expected (endings_after m a.traces) a.is_whole none a.told.status_is in
-    let one = a.searched.all.whole is.whole h w ending in
-    stuck_alone q no_line (is_stuck_world w) (is_stuck_world one.world) (report_in m h w)
-    (report_in m one.trace one.world) (stuck_same w one.world one.as_good)
-    ∙ sym (ap (λ o. is_asked q (ending_or_none m one.trace o)) one.reaches)
-    ∙ none_at m q a.traces one.place one.trace one.at is.none
+    let one = found m q a.traces a.depth may
+    (subst (AreAllEndings m a.traces a.depth) is.whole a.searched.all) h w ending in
+    one.asked ∙ none_at m q a.traces one.place one.trace one.at is.none
+
+-- Each meets what is expected where each that was found does.
+
+all_met : (m : Machine) (q : Question) (expected : List Expected) (traces : List (List Step))
+    (depth : ℕ) → AsksForLines q → may_be_asked expected ≡ true →
+    AreAllEndings m traces depth true →
+    list_all (meets (Some expected)) (asked_of q (endings_after m traces)) ≡ true →
+    EachIsMet m q expected
+all_met m q expected traces depth lines may all met h w ending asked =
+    let one = found m q traces depth lines all h w ending in
+    met_alike (report_in m h w) (ending_after m one.trace).report one.common expected may
+    ∙ all_at m q (meets (Some expected)) traces one.place one.trace one.at met
+    (sym one.asked ∙ asked)
+
+pub met_of_status : (m : Machine) (q : Question) (waits : Bool) (expected : List Expected)
+    (lines unmet : List ℕ) → AsksForLines q → may_be_asked expected ≡ true →
+    q.wanted ≡ Whatever → IsAnswer m q waits (Some expected) lines unmet 0 →
+    EachIsMet m q expected
+met_of_status m q waits expected lines unmet asks may any a =
+    let is = met_by_status q (Some expected) (endings_after m a.traces) a.is_whole any
+    a.told.status_is in
+    all_met m q expected a.traces a.depth asks may
+    (subst (AreAllEndings m a.traces a.depth) is.whole a.searched.all) is.met
+
+pub met_where_whole : (m : Machine) (q : Question) (waits : Bool) (expected : List Expected)
+    (lines : List ℕ) (status : ℕ) → AsksForLines q → may_be_asked expected ≡ true →
+    (a : IsAnswer m q waits (Some expected) lines [] status) → a.is_whole ≡ true →
+    EachIsMet m q expected
+met_where_whole m q waits expected lines status asks may a whole =
+    all_met m q expected a.traces a.depth asks may
+    (subst (AreAllEndings m a.traces a.depth) whole a.searched.all)
+    (all_told (Some expected) q (endings_after m a.traces) a.told.unmet_are)
 
 -- The first that is asked for stands at a place.
 

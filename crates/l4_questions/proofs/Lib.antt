@@ -5,11 +5,8 @@ pub mod Sharing
 pub mod Listing
 pub mod Audited
 pub mod Counting
-mod Begun
 mod Alike
-mod Fits
-mod Texts
-mod Lines
+mod Asking
 mod Statuses
 mod OfAll
 mod AllHistories

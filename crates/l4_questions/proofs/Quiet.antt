@@ -13,7 +13,9 @@ use Rattle.l4_machine.specs.Outcomes.{Findings, IsFoundFor, IsOutcomeOf, IsTrueO
 use Rattle.l4_quiet.specs.Quiet.{QuietIsUntimed}
 use Rattle.l4_quiet.proofs.Outcomes.{run_quiet, replay_quiet, gathered_quiet}
 use Rattle.l4_futures.specs.Endings.{AreAllEndings, IsEnding}
+use Rattle.l4_expect.specs.Expected.{Expected}
 use Rattle.l4_questions.specs.Answers.{NoneIsReached}
+use Rattle.l4_questions.specs.Met.{EachIsMet, QuietIsMet}
 use Rattle.l4_questions.specs.Quiet.{QuietIsListed, QuietIsNotAsked}
 use Rattle.l4_questions.specs.declared.question.Question.{Question}
 
@@ -35,6 +37,11 @@ not_asked : (m : Machine) (q : Question) (o : Findings) → NoneIsReached m q �
     QuietIsUntimed m o → QuietIsNotAsked m q o
 not_asked m q o none truth untimed quiet w at =
     none o.history w (is_ending m o truth untimed quiet w at)
+
+is_met : (m : Machine) (q : Question) (expected : List Expected) (o : Findings) →
+    EachIsMet m q expected → IsTrueOf m o → QuietIsUntimed m o → QuietIsMet m q expected o
+is_met m q expected o all truth untimed quiet w at =
+    all o.history w (is_ending m o truth untimed quiet w at)
 
 -- Of runs, replays and processors that were gathered
 
@@ -73,3 +80,21 @@ pub gathered_not_asked : (m : Machine) (q : Question) (processors : List Process
     QuietIsNotAsked m q o
 gathered_not_asked m q processors o machine none gathered =
     not_asked m q o none gathered.outcome.is_true (gathered_quiet m processors o machine gathered)
+
+pub run_met : (m : Machine) (q : Question) (expected : List Expected) (most : ℕ) (o : Findings) →
+    IsMachine m → EachIsMet m q expected → IsFoundFor m most o → QuietIsMet m q expected o
+run_met m q expected most o machine all found =
+    is_met m q expected o all found.outcome.is_true (run_quiet m most o machine found)
+
+pub replay_met : (m : Machine) (q : Question) (expected : List Expected) (entries : List Entry)
+    (o : Findings) → IsMachine m → EachIsMet m q expected →
+    IsOutcomeOf m (replay_entries m entries) o → QuietIsMet m q expected o
+replay_met m q expected entries o machine all outcome =
+    is_met m q expected o all outcome.is_true (replay_quiet m entries o machine outcome)
+
+pub gathered_met : (m : Machine) (q : Question) (expected : List Expected)
+    (processors : List Processor) (o : Findings) → IsMachine m → EachIsMet m q expected →
+    IsGathered m processors o → QuietIsMet m q expected o
+gathered_met m q expected processors o machine all gathered =
+    is_met m q expected o all gathered.outcome.is_true
+    (gathered_quiet m processors o machine gathered)

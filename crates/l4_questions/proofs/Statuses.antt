@@ -1,14 +1,14 @@
--- What status 0 says where no ending should exist.
+-- What status 0 says of the endings that were found.
 use Rattle.std.proofs.Common.{◌≡◌, ℕ, Bool, true, false, Option, List, [], ◌∷◌, refl, ap, ◌∙◌, arith}
 use Rattle.std.specs.List.{list_all}
 use Rattle.l4_expect.specs.Expected.{Expected}
 use Rattle.l4_expect.specs.Unmet.{expected_status}
 use Rattle.l4_questions.specs.Asked.{asked_of}
 use Rattle.l4_questions.specs.Endings.{Ending}
-use Rattle.l4_questions.specs.Printed.{answer_status, meets, status_of_asked, status_of_none, status_of_some}
+use Rattle.l4_questions.specs.Printed.{answer_status, meets, status_of_asked, status_of_none, status_of_search, status_of_some}
 use Rattle.l4_questions.specs.declared.question.Question.{Question}
 use Rattle.l4_questions.specs.declared.question.Wanted.{Wanted}
-use Rattle.l4_questions.specs.declared.question.Wanted.TheVariants.{AnEnding, NoEnding}
+use Rattle.l4_questions.specs.declared.question.Wanted.TheVariants.{AnEnding, NoEnding, Whatever}
 
 pub record IsWholeAndEmpty (asked : List Ending) (is_whole : Bool) : Type 0 where
   pub none : asked ≡ []
@@ -31,6 +31,26 @@ by_status q expected endings is_whole none is =
     none_found (asked_of q endings) is_whole
     (met_status (list_all (meets expected) (asked_of q endings)) _ is
     ∙ ap (λ (wanted : Wanted). status_of_asked wanted (asked_of q endings) is_whole) none)
+
+-- What it says where any number may exist: the search is whole, and all meet what is expected.
+
+pub record IsWholeAndMet (are_met is_whole : Bool) : Type 0 where
+  pub met : are_met ≡ true
+  pub whole : is_whole ≡ true
+
+whole_and_met : (met is_whole : Bool) → 0 ≡ expected_status met (status_of_search is_whole) →
+    IsWholeAndMet met is_whole
+whole_and_met true true is = record { met = refl; whole = refl }
+whole_and_met true false is = absurd (omega (arith, is))
+whole_and_met false is_whole is = absurd (omega (arith, is))
+
+pub met_by_status : (q : Question) (expected : Option (List Expected)) (endings : List Ending)
+    (is_whole : Bool) → q.wanted ≡ Whatever → 0 ≡ answer_status expected q endings is_whole →
+    IsWholeAndMet (list_all (meets expected) (asked_of q endings)) is_whole
+met_by_status q expected endings is_whole any is =
+    whole_and_met (list_all (meets expected) (asked_of q endings)) is_whole
+    (is ∙ ap (λ (wanted : Wanted). expected_status (list_all (meets expected) (asked_of q endings))
+    (status_of_asked wanted (asked_of q endings) is_whole)) any)
 
 -- What it says where one should exist: some ending is asked for.
 

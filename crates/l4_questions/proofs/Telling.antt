@@ -1,5 +1,5 @@
 -- The status of an answer: nothing is told exactly where all meet what is expected.
-use Rattle.std.proofs.Common.{◌≡◌, ℕ, ◌+◌, ◌<◌, Bool, true, false, Option, None, Some, List, [], ◌∷◌, ◌++◌, length, refl, ap, ap₂, ◌∙◌, arith, length-append}
+use Rattle.std.proofs.Common.{◌≡◌, ℕ, ◌+◌, ◌<◌, Bool, true, false, Option, None, Some, List, [], ◌∷◌, ◌++◌, length, refl, ap, ap₂, sym, ◌∙◌, arith, length-append}
 use Rattle.std.specs.Prelude.{◌==◌, ◌&&◌, if◌then◌else◌, codes, decimal}
 use Rattle.std.specs.List.{join_with_byte, list_all}
 use Rattle.std.proofs.lemmas.Bool.Decides.{nat_tests}
@@ -7,7 +7,7 @@ use Rattle.l4_expect.specs.Expected.{Expected}
 use Rattle.l4_expect.specs.Unmet.{are_met, expected_status, unmet_text}
 use Rattle.l4_questions.specs.Asked.{asked_of}
 use Rattle.l4_questions.specs.Endings.{Ending}
-use Rattle.l4_questions.specs.Printed.{head_line, meets, numbered_text, status_of_asked, told_unmet, unmet_of, IsTold}
+use Rattle.l4_questions.specs.Printed.{all_unmet, head_line, meets, numbered_text, status_of_asked, told_unmet, unmet_of, IsTold}
 use Rattle.l4_questions.specs.Writing.{AreWritten}
 use Rattle.l4_questions.specs.declared.judged.Written.{Written}
 use Rattle.l4_questions.specs.declared.question.Question.{Question}
@@ -46,6 +46,12 @@ none_told (Some expected) number (e ∷ endings) =
         ≡ (met && list_all (meets (Some expected)) endings)
     by true others = others
     by false others = some_told expected number e rest
+
+pub all_told : (expected : Option (List Expected)) (q : Question) (endings : List Ending) →
+    [] ≡ all_unmet expected q endings → list_all (meets expected) (asked_of q endings) ≡ true
+all_told expected q endings none =
+    sym (none_told expected 1 (asked_of q endings))
+    ∙ ap (λ (told : List ℕ). length told == 0) (sym none)
 
 -- What was written of all endings is the answer, with what the search says of itself.
 pub finished : (q : Question) (waits : Bool) (expected : Option (List Expected))

@@ -2,6 +2,7 @@ pub mod Answers
 pub mod Asked
 pub mod Endings
 pub mod Limits
+pub mod Met
 pub mod Placed
 pub mod Printed
 pub mod Quiet
@@ -9,3 +10,4 @@ pub mod Runs
 pub mod Shown
 pub mod Waiting
 pub mod Writing
+pub mod Stuck

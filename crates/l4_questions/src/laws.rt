@@ -20,18 +20,16 @@ ghost use Rattle.l4_machine.specs.Outcomes.{Findings, IsFoundFor, IsOutcomeOf};
 ghost use Rattle.l4_futures.specs.Endings.{AreAllEndings as AreAllWorldEndings};
 ghost use Rattle.l4_questions.specs.Placed.{IsPlacedAnswer};
 ghost use Rattle.l4_questions.specs.Quiet.{QuietIsListed, QuietIsNotAsked};
-ghost use Rattle.l4_questions.specs.Runs.{AreSpelled, AsksForLines, AsksNoLine};
-ghost use Rattle.l4_questions.specs.Runs.{ComesToRest, IsSpelled, NoneIsAsked};
-ghost use Rattle.l4_questions.specs.Runs.{NoneSpelledIsAsked, StandsFor};
+ghost use Rattle.l4_questions.specs.Runs.{AsksForLines, ComesToRest, NoneIsAsked, StandsFor};
 ghost use Rattle.l4_questions.specs.declared.question.Question.{Question as AskedQuestion};
 ghost use Rattle.l4_questions.specs.declared.question.Wanted.TheVariants.{AnEnding, NoEnding};
 
 /// Status 0, where a question asks that no such ending exist, says that none does: no history of the
 /// machine comes to an ending that is asked for, whatever the scheduler does and whatever time
-/// passes. It says so of questions without lines.
+/// passes. Where the question has lines, they have to be lines that may be asked for.
 pub fn law_none_is_reached()
     ensures { (m : Machine) (q : AskedQuestion) (waits : Bool)
-        (expected : Option (List Expected)) (lines unmet : List ℕ) → AsksNoLine q →
+        (expected : Option (List Expected)) (lines unmet : List ℕ) → AsksForLines q →
         q.wanted ≡ NoEnding → IsAnswer m q waits expected lines unmet 0 → NoneIsReached m q }
 {}
 
@@ -75,29 +73,18 @@ pub fn law_no_run_is_asked()
 
 /// Where a search is whole, one of its endings stands for each core run that comes to rest and
 /// whose ticks go to least deadlines: it is similar, and a question asks for it exactly where it
-/// asks for the run. Of a question with lines that needs two things: `line_fault` finds nothing
-/// against them, and the reports are spelled, as they are where each number has 64 bits.
+/// asks for the run. Where the question has lines, they have to be lines that may be asked for.
 pub fn law_asked_of_all()
-    ensures no_line { (m : Machine) (q : AskedQuestion) (endings : List (List Entry)) (depth : ℕ) →
-        IsMachine m → AsksNoLine q → AreAllEndings m endings depth true →
-        (r : Run) → ComesToRest m r → StandsFor m q endings r }
-    ensures lines { (m : Machine) (q : AskedQuestion) (endings : List (List Entry)) (depth : ℕ) →
+    ensures { (m : Machine) (q : AskedQuestion) (endings : List (List Entry)) (depth : ℕ) →
         IsMachine m → AsksForLines q → AreAllEndings m endings depth true →
-        AreSpelled m endings →
-        (r : Run) → ComesToRest m r → IsSpelled m r → StandsFor m q endings r }
+        (r : Run) → ComesToRest m r → StandsFor m q endings r }
 {}
 
 /// Status 0 of a search of placed runs, where no such ending should exist, says that no core run
-/// that comes to rest, and whose ticks go to least deadlines, is asked for. With lines it says so of
-/// runs whose reports are spelled.
+/// that comes to rest, and whose ticks go to least deadlines, is asked for.
 pub fn law_none_is_asked()
-    ensures no_line { (m : Machine) (q : AskedQuestion) (waits : Bool)
-        (expected : Option (List Expected)) (lines unmet : List ℕ) → IsMachine m →
-        AsksNoLine q → q.wanted ≡ NoEnding →
-        IsPlacedAnswer m q waits expected lines unmet 0 → NoneIsAsked m q }
-    ensures lines { (m : Machine) (q : AskedQuestion) (waits : Bool)
+    ensures { (m : Machine) (q : AskedQuestion) (waits : Bool)
         (expected : Option (List Expected)) (lines unmet : List ℕ) → IsMachine m →
         AsksForLines q → q.wanted ≡ NoEnding →
-        (a : IsPlacedAnswer m q waits expected lines unmet 0) →
-        AreSpelled m a.endings → NoneSpelledIsAsked m q }
+        IsPlacedAnswer m q waits expected lines unmet 0 → NoneIsAsked m q }
 {}

@@ -7,7 +7,8 @@
 //!
 //! Contracts see the bytes: they are those of all endings that the question asks for, and of no
 //! others. What is asked of an ending, and what is told of it, is the same for both searches. `laws`
-//! says of all histories, and of all core runs, what an answer says of the endings that were found.
+//! says of all histories, and of all core runs, what an answer says of the endings that were found,
+//! and `met` says of them what is expected of these.
 //!
 //! ```rust
 //! let question = Question { stuck: true, wanted: Wanted::NoEnding, ..Question::new(1_000, 100_000) };
@@ -22,12 +23,14 @@ pub mod beside;
 mod closed;
 mod judged;
 pub mod laws;
+pub mod met;
 mod placed;
 mod placed_answering;
 mod printed;
 pub mod question;
 mod reached;
 mod shown;
+mod stuck;
 mod traces;
 
 pub use answering::answer;

@@ -1,4 +1,4 @@
-use Rattle.std.proofs.Common.{◌≡◌, ap, sym, ◌∙◌, arith, refl, true}
+use Rattle.std.proofs.Common.{◌≡◌, ap, ◌∙◌, arith, refl, true}
 use Rattle.l4_expect.specs.Columns.{are_registers, is_register}
 use Rattle.l4_expect.proofs.Walking.{register_read}
 use Rattle.l4_expect.proofs.columns.are_registers.Goals as goal

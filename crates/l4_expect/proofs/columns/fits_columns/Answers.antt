@@ -1,4 +1,4 @@
-use Rattle.std.proofs.Common.{◌≡◌, ap, drop, refl, sym, ◌∙◌, true, [], ◌∷◌}
+use Rattle.std.proofs.Common.{◌≡◌, ap, drop, refl, sym, ◌∙◌, true, ◌∷◌}
 use Rattle.l4_lines.specs.Lines.{is_rest}
 use Rattle.l4_expect.specs.Columns.{fits_columns}
 use Rattle.l4_expect.proofs.Walking.{no_word_left, rest_left}

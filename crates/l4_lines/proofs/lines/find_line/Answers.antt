@@ -1,4 +1,4 @@
-use Rattle.std.proofs.Common.{◌≡◌, ℕ, List, ◌∷◌, Bool, true, Some, cond, ap, sym, ◌∙◌}
+use Rattle.std.proofs.Common.{◌≡◌, Bool, true, Some, cond, ap, sym, ◌∙◌}
 use Rattle.std.specs.Prelude.{find}
 use Rattle.l4_lines.specs.Lines.{fits_line, lines_of}
 use Rattle.l4_lines.proofs.Fitting.{first_line}

@@ -1,14 +1,15 @@
 -- What line_fault lets through does not tell the lines of similar endings apart.
-use Rattle.std.proofs.Common.{◌≡◌, ℕ, Bool, true, false, not, cond, Option, Some, None, List, [], ◌∷◌, refl, ap, ap₂, sym, ◌∙◌}
-use Rattle.std.specs.Prelude.{◌&&◌, ◌||◌, is_some, codes}
+use Rattle.std.proofs.Common.{◌≡◌, ℕ, Bool, true, false, not, cond, Some, None, List, [], ◌∷◌, refl, ap, ap₂, sym, ◌∙◌}
+use Rattle.std.specs.Prelude.{◌&&◌, ◌||◌, codes}
 use Rattle.std.specs.Str.{bytes_eq}
 use Rattle.std.proofs.lemmas.Slice.Eq.{bytes_eq-Decides}
-use Rattle.l4_model.specs.Words.{GlobalId, same_id}
+use Rattle.l4_model.specs.Words.{GlobalId}
 use Rattle.l4_model.specs.World.{Name}
-use Rattle.l4_words.specs.Names.{is_name, name_of, name_word}
-use Rattle.l4_words.proofs.ReadNames.{name_is_read}
-use Rattle.l4_lines.specs.Lines.{are_rest, asks_for_number, asks_of_deleted, fault_of_words, fits, fits_word, is_any, is_send_of, may_begin, thread_asked}
+use Rattle.l4_words.specs.Names.{name_word}
+use Rattle.l4_words.specs.Threads.{thread_of, thread_word}
+use Rattle.l4_lines.specs.Lines.{are_rest, asks_for_number, asks_of_deleted, fault_of_words, fits, fits_word, has_number, is_any, is_send_of, may_begin, thread_asked, thread_named}
 use Rattle.l4_lines.specs.declared.lines.LineFault.TheVariants.{Unknown, Deleted, Number}
+use Rattle.l4_common_lines.proofs.Spelled.{name_has_number, thread_before}
 
 -- What has no fault
 
@@ -62,33 +63,28 @@ deleted_fit (first ∷ second ∷ state ∷ rest) id xs ys none =
 
 -- The line of a send that waits
 
-named_fit : (second : List ℕ) (s t : Name) → is_name s ≡ true → is_name t ≡ true →
-    s.thread ≡ t.thread → name_of second ≡ None →
+thread_is_named : (s : Name) → thread_named (name_word s) ≡ thread_of (thread_word s.thread)
+thread_is_named s =
+    ap₂ (λ (number : Bool) (word : List ℕ). cond number (thread_of word) None)
+    (name_has_number s) (thread_before s)
+
+named_fit : (second : List ℕ) (s t : Name) → s.thread ≡ t.thread → has_number second ≡ false →
     fits_word second (name_word s) ≡ fits_word second (name_word t)
-named_fit second s t one other same none =
-    ap₂ (λ (equal sent : Bool). is_any second || equal || sent)
-    (unlike s one ∙ sym (unlike t other))
-    (ap (is_send_of (thread_asked second)) (name_is_read s one)
-    ∙ sent (thread_asked second)
-    ∙ sym (ap (is_send_of (thread_asked second)) (name_is_read t other)))
+named_fit second s t same none =
+    ap₂ (λ (equal sent : Bool). is_any second || equal || sent) (unlike s ∙ sym (unlike t))
+    (ap (is_send_of (thread_asked second))
+    (thread_is_named s ∙ ap (λ (id : GlobalId). thread_of (thread_word id)) same
+    ∙ sym (thread_is_named t)))
   where
-    unlike : (n : Name) → is_name n ≡ true → bytes_eq second (name_word n) ≡ false
-    unlike n is = by (bytes_eq second (name_word n)) refl
+    unlike : (n : Name) → bytes_eq second (name_word n) ≡ false
+    unlike n = by (bytes_eq second (name_word n)) refl
       where
         by : (b : Bool) → bytes_eq second (name_word n) ≡ b → b ≡ false
         by false equal = refl
         by true equal =
             let words : second ≡ name_word n = (bytes_eq-Decides second (name_word n)).0 equal in
-            let bad : None ≡ Some n = sym none ∙ ap name_of words ∙ name_is_read n is in
+            let bad : false ≡ true = sym none ∙ ap has_number words ∙ name_has_number n in
             cc
-
-    sent : (o : Option GlobalId) → is_send_of o (Some s) ≡ is_send_of o (Some t)
-    sent None = refl
-    sent (Some id) = ap (λ (g : GlobalId). same_id g id) same
-
-is_none : (o : Option Name) → is_some o ≡ false → o ≡ None
-is_none None is = refl
-is_none (Some n) is = cc
 
 waiting_by : (waiting number end x y z : Bool) → (waiting && number) ≡ false →
     (number ≡ false → x ≡ y) →
@@ -98,14 +94,14 @@ waiting_by true true end x y z free same = cc
 waiting_by true false end x y z free same = ap (λ (b : Bool). end || (b && z)) (same refl)
 
 pub waiting_fit : (asked : List (List ℕ)) (s t : Name) (to : List ℕ) → fault_of_words asked ≡ None →
-    is_name s ≡ true → is_name t ≡ true → s.thread ≡ t.thread →
+    s.thread ≡ t.thread →
     fits asked (codes "waiting" ∷ name_word s ∷ to ∷ [])
     ≡ fits asked (codes "waiting" ∷ name_word t ∷ to ∷ [])
-waiting_fit [] s t to none one other same = refl
-waiting_fit (first ∷ []) s t to none one other same = refl
-waiting_fit (first ∷ second ∷ others) s t to none one other same =
+waiting_fit [] s t to none same = refl
+waiting_fit (first ∷ []) s t to none same = refl
+waiting_fit (first ∷ second ∷ others) s t to none same =
     let free = no_fault first second others none in
-    waiting_by (fits_word first (codes "waiting")) (is_some (name_of second))
+    waiting_by (fits_word first (codes "waiting")) (has_number second)
     (are_rest (second ∷ others)) (fits_word second (name_word s)) (fits_word second (name_word t))
     (fits others (to ∷ [])) free.number
-    (λ unread. named_fit second s t one other same (is_none (name_of second) unread))
+    (named_fit second s t same)

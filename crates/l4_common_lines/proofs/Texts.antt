@@ -1,8 +1,7 @@
 -- The lines of reports, one by one.
 use Rattle.std.proofs.Common.{◌≡◌, ℕ, Bool, true, false, List, [], ◌∷◌, ◌++◌, refl, ap, sym, ◌∙◌, append_assoc}
 use Rattle.std.specs.Prelude.{◌==◌, ◌||◌, flat_map}
-use Rattle.std.specs.List.{join_with_byte, list_all, list_any}
-use Rattle.std.proofs.lemmas.Bool.{and_parts}
+use Rattle.std.specs.List.{join_with_byte, list_any}
 use Rattle.std.proofs.lemmas.List.Splits.{slice_split_at}
 use Rattle.l4_words.specs.Lines.{line_of_words, parts_of}
 use Rattle.l4_words.specs.Words.{words_in}
@@ -10,7 +9,7 @@ use Rattle.l4_words.proofs.Above.{lacks}
 use Rattle.l4_words.proofs.Parts.{has_part}
 use Rattle.l4_lines.specs.Lines.{fits, fits_line, has_line, is_among}
 use Rattle.l4_trace.proofs.Plain.{line_is_above, line_is_split}
-use Rattle.l4_questions.specs.Runs.{are_whole_words}
+use Rattle.l4_common_lines.proofs.Spelled.{are_whole_words}
 
 -- A text has a line that is asked for: its first one, or one behind it.
 
@@ -47,16 +46,15 @@ or_assoc false b c = refl
 
 pub lines_behind : {A : Type 0} (asked : List ℕ) (first : List ℕ) (others : A → List (List ℕ))
     (xs : List A) (rest : List ℕ) →
-    list_all (λ x. are_whole_words (first ∷ others x)) xs ≡ true →
+    ((x : A) → are_whole_words (first ∷ others x) ≡ true) →
     has_line asked (flat_map (λ x. line_of_words (first ∷ others x)) xs ++ rest)
     ≡ (list_any (λ x. fits (words_in asked) (first ∷ others x)) xs || has_line asked rest)
 lines_behind asked first others [] rest whole = refl
 lines_behind asked first others (x ∷ xs) rest whole =
-    let parts = and_parts (are_whole_words (first ∷ others x)) _ whole in
     ap (has_line asked) (append_assoc (line_of_words (first ∷ others x))
     (flat_map (λ y. line_of_words (first ∷ others y)) xs) rest)
-    ∙ line_behind asked first (others x) (flat_map (λ y. line_of_words (first ∷ others y)) xs ++ rest) parts.0
+    ∙ line_behind asked first (others x) (flat_map (λ y. line_of_words (first ∷ others y)) xs ++ rest) (whole x)
     ∙ ap (λ (b : Bool). fits (words_in asked) (first ∷ others x) || b)
-    (lines_behind asked first others xs rest parts.1)
+    (lines_behind asked first others xs rest whole)
     ∙ or_assoc (fits (words_in asked) (first ∷ others x))
     (list_any (λ y. fits (words_in asked) (first ∷ others y)) xs) (has_line asked rest)

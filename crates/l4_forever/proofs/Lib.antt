@@ -1,0 +1,5 @@
+pub mod Waiting
+pub mod Passing
+pub mod Holding
+pub mod Getting
+pub mod Grounds

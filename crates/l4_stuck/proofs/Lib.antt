@@ -1,0 +1,4 @@
+pub mod Growing
+pub mod Marking
+pub mod Placing
+pub mod Walking

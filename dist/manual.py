@@ -11,8 +11,9 @@ import sys
 
 OPTION = re.compile(r"^  (?:-(\w), |    )--([\w-]+)(?: <(\w+)>)? {2,}(.*)$", re.M)
 ARGUMENT = re.compile(r"^  <(\w+)> {2,}(.*)$", re.M)
-# Values that name a file; LIST may be one behind `@`.
+# Values that name a file, and the one that may be a file's name behind `@`.
 FILES = {"NAME", "FILE", "TRACE"}
+LIST = "LIST"
 
 
 class Help:
@@ -46,6 +47,15 @@ def bold(text):
     return re.sub(r"`([^`]*)`", r"\\fB\1\\fR", roff(text))
 
 
+def prose(text):
+    """Roff of paragraphs: those that are indented as they stand, the others filled."""
+    lines = []
+    for paragraph in text.split("\n\n"):
+        is_shown = all(line.startswith(" ") for line in paragraph.split("\n"))
+        lines += [".PP", *([".nf", bold(paragraph), ".fi"] if is_shown else [bold(paragraph)])]
+    return lines
+
+
 def manual(whole, helps, version, day):
     lines = [f'.TH L4RUN 1 "{day}" "l4run {version}" "User Commands"', ".SH NAME"]
     lines += ["l4run \\- emulate the Ipc system call of the L4 kernel, version X.2", ".SH SYNOPSIS"]
@@ -59,7 +69,7 @@ def manual(whole, helps, version, day):
         for short, name, value, what in it.options:
             flag = (f"\\fB\\-{short}\\fR, " if short else "") + f"\\fB{roff('--' + name)}\\fR"
             lines += [".TP", flag + (f" \\fI{value}\\fR" if value else ""), bold(what)]
-        lines += [".PP", ".nf", bold(it.rest), ".fi"]
+        lines += prose(it.rest)
     lines += [".SH FILES", "The formats of texts, traces and reports: FORMATS.md, with this program's documentation."]
     return "\n".join(lines) + "\n"
 
@@ -76,8 +86,11 @@ def bash(verbs, helps):
     ]
     for it in helps:
         flags = " ".join(f"--{name}" for _, name, _, _ in it.options)
+        takes_list = any(value == LIST for _, _, value, _ in it.options)
         values = "|".join(f"--{name}" for _, name, value, _ in it.options if value and value not in FILES)
         lines += [f"    {it.verb})"]
+        behind = """if [[ $word == @* ]]; then COMPREPLY=($(compgen -P @ -f -- "${word#@}")); return; fi"""
+        lines += [f"        {behind}"] if takes_list else []
         lines += [f"        case $before in {values}) return ;; esac"] if values else []
         lines += ["        if [[ $word == -* ]]; then", f"""            COMPREPLY=($(compgen -W '{flags}' -- "$word"))"""]
         lines += ["        else", "            compopt -o filenames", '            COMPREPLY=($(compgen -f -- "$word"))', "        fi", "        ;;"]
@@ -98,7 +111,8 @@ def zsh(verbs, helps):
     for it in helps:
         words = []
         for _, name, value, what in it.options:
-            place = f":{value}:{'_files' if value in FILES else ''}" if value else ""
+            names = "_files" if value in FILES else "{compset -P @ && _files}" if value == LIST else ""
+            place = f":{value}:{names}" if value else ""
             words.append(f"'--{name}[{in_quotes(what)}]{place}'")
         words += [f"'{place}:{name}:_files'" for place, (name, _) in enumerate(it.arguments, 1)]
         lines += [f"{it.verb}) shift words; (( CURRENT-- )); _arguments {' '.join(words)} ;;"]
@@ -107,15 +121,19 @@ def zsh(verbs, helps):
 
 
 def fish(verbs, helps):
-    lines = ["complete -c l4run -f"]
+    # What stands behind `@` is completed as the name of a file is.
+    behind = """string match -q '@*' -- $word; and __fish_complete_path (string sub -s 2 -- $word) | string replace -r '^' '@'"""
+    lines = ["function __l4run_list", "    set -l word (commandline -ct)", f"    {behind}", "end", "complete -c l4run -f"]
     lines += [f"complete -c l4run -n __fish_use_subcommand -a {verb} -d '{in_quotes(what)}'" for verb, what in verbs]
     for it in helps:
         seen = f"complete -c l4run -n '__fish_seen_subcommand_from {it.verb}'"
         for short, name, value, what in it.options:
             flag = f" -s {short}" if short else ""
-            takes = (" -r" if value else "") + (" -F" if value in FILES else "")
+            takes = (" -r" if value else "") + (" -F" if value in FILES else " -a '(__l4run_list)'" if value == LIST else "")
             lines.append(f"{seen} -l {name}{flag}{takes} -d '{in_quotes(what)}'")
         lines.append(f"{seen} -F")
+    names = " ".join(it.verb for it in helps)
+    lines.append(f"complete -c l4run -n '__fish_seen_subcommand_from help; and not __fish_seen_subcommand_from {names}' -a '{names}'")
     return "\n".join(lines) + "\n"
 
 

@@ -24,11 +24,12 @@ sys.path.insert(0, str(HERE / "module"))
 import module  # noqa: E402
 
 # What a worker has, and what the page has, in this order.
-WORKER = ["../module/call.js", "reading.js", "next.js", "possible.js", "rest.js", "worker.js"]
+WORKER = ["../module/call.js", "reading.js", "possible.js", "worker.js"]
 SCRIPT = [
     "reading.js",
     "places.js",
     "words.js",
+    "circle.js",
     "address.js",
     "program.js",
     "session.js",

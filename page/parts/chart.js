@@ -21,10 +21,10 @@ class Chart {
         });
     }
 
-    clear(text) {
+    clear(...said) {
         this.numbers = [];
         this.width = 0;
-        this.root.replaceChildren(el("p", { className: "none", textContent: text }));
+        this.root.replaceChildren(el("div", { className: "none" }, ...said));
     }
 
     // Shows the steps of a picture, of so many in all.
@@ -48,8 +48,10 @@ class Chart {
             return document.importNode(svgPart, true);
         };
         const heads = picture.cloneNode(true);
-        for (const row of heads.querySelectorAll("g.row")) row.remove();
-        const above = el("div", { className: "above" }, part(heads, 0, Chart.HEAD));
+        for (const it of heads.querySelectorAll("g.row, text.cpu")) it.remove();
+        const names = [...picture.querySelectorAll("text.cpu")].map(({ textContent }) => textContent);
+        const cpus = bands.map(([x, wide], place) => Chart.cpu(names[place], x - left, wide));
+        const above = el("div", { className: "above" }, part(heads, 0, Chart.HEAD), ...cpus);
         const body = el("div", { className: "body" }, part(picture, Chart.HEAD, height - Chart.HEAD));
         this.marks = [...body.querySelectorAll("g.row")];
         this.now = el("div", { className: "now" });
@@ -58,7 +60,15 @@ class Chart {
         const grid = el("div", { className: "grid" }, corner, above, this.lines, body, this.later, this.now);
         grid.style.setProperty("--columns", `${width}px`);
         this.root.replaceChildren(grid);
+        grid.style.setProperty("--lines", `${this.lines.offsetWidth}px`);
         this.width = width + this.lines.offsetWidth;
+    }
+
+    // The name of a processor, which stays in sight as long as one of its threads is.
+    static cpu(name, left, wide) {
+        const made = el("div", { className: "cpu" }, el("span", { textContent: name }));
+        Object.assign(made.style, { left: `${left}px`, width: `${wide}px` });
+        return made;
     }
 
     line(row, place) {

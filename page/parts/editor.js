@@ -3,6 +3,7 @@
 class Editor {
     static PADDING = 8; // pixels above the first line, as in the style
     static LONG = 1500; // lines
+    static LONGEST_ID = 12; // letters
     static AROUND = 40; // lines that are drawn above and below those in sight, of a long text
 
     constructor(root, { onChange, onLine }) {
@@ -105,13 +106,20 @@ class Editor {
 
     draw() {
         this.lines = this.area.value.split("\n");
-        const longest = Math.max(0, ...[...this.places.values()].map(([first, ...more]) => first.id.length + (more.length ? 1 : 0)));
         const digits = `${this.lines.length}`.length;
-        this.root.style.setProperty("--gutter", `calc(${digits + longest}ch + ${longest ? 28 : 14}px)`);
+        const longest = this.roomForIds();
+        this.root.style.setProperty("--gutter", `calc(${digits + longest}ch + ${longest ? 22 : 14}px)`);
         this.root.classList.toggle("long", this.isLong);
         this.paint.style.width = this.isLong ? "" : `${this.area.clientWidth}px`;
         this.render();
         this.follow();
+    }
+
+    // How many letters the ids of threads take, which stand before the numbers of the lines at which they are. There is room for them where
+    // none is shown too, so that the text does not move.
+    roomForIds() {
+        const ids = this.lines.filter((line) => line.startsWith("thread ")).map((line) => line.split(" ")[1]);
+        return ids.length > MOST_PLACES ? 0 : Math.min(Editor.LONGEST_ID, Math.max(0, ...ids.map((id) => id.length)));
     }
 
     follow() {
@@ -142,6 +150,7 @@ class Editor {
         }
         this.drawn = drawn;
         this.paint.replaceChildren(...[...drawn.values()].map(({ element }) => element));
+        this.root.style.setProperty("--text", `${this.paint.offsetHeight + 2 * Editor.PADDING}px`);
     }
 
     static tone(mark) {

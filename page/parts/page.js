@@ -71,8 +71,11 @@ async function guarded(work) {
 function sayIn(id, { tone, head, lines }) {
     $(id).className = `verdict ${tone}`;
     $(id).replaceChildren(el("b", { textContent: head }));
-    if (lines.length) $(id).append(el("ul", {}, ...lines.map((textContent) => el("li", { textContent }))));
+    if (lines.length) $(id).append(el("ul", {}, ...lines.map((line) => el("li", {}, ...[line].flat()))));
 }
+
+// A text, with what stands between backticks as code.
+const withCode = (text) => text.split("`").map((part, place) => (place % 2 ? el("code", { textContent: part }) : part));
 
 function tab(name, withFocus = false) {
     for (const it of TABS) {
@@ -99,7 +102,8 @@ async function lint() {
     const marks = marksOf(made.out);
     editor.mark(marks);
     const lines = marks.slice(0, MOST_LINES_OF_LINT).map((mark) => {
-        const go = button(`line ${mark.line}: ${markText(mark)}`, () => editor.goTo(mark.line, mark.column));
+        const go = button("", () => editor.goTo(mark.line, mark.column));
+        go.append(...withCode(`line ${mark.line}: ${markText(mark)}`));
         return el("li", { className: mark.isDoubt ? "doubt" : "fault" }, go);
     });
     $("lint").replaceChildren(...lines);
@@ -211,14 +215,22 @@ async function opened(name, text, begun) {
     const lesson = lessons.find((it) => it.name === name);
     $("examples").value = lesson ? name : "";
     const about = lesson ? `${lesson.about[0].toUpperCase()}${lesson.about.slice(1)}` : name;
-    $("about").replaceChildren(...about.split("`").map((part, place) => (place % 2 ? el("code", { textContent: part }) : part)));
+    $("about").replaceChildren(...withCode(about));
     $("tries").hidden = !lesson?.tries.length;
     $("trieslist").replaceChildren(...(lesson?.tries ?? []).map((line) => button(line, () => command(line))));
     $("endinglist").replaceChildren();
     $("count").textContent = "";
-    sayIn("found", { tone: "", head: "No search yet.", lines: [] });
+    const both = ["Who gets stuck? and All endings try every order that a scheduler may take, not one alone as Run does."];
+    sayIn("found", { tone: "", head: "No search yet.", lines: both });
     tellLine(1);
     await Promise.all([lint(), begin(begun?.in(editor.text) ?? new Schedule(program, editor.text))]);
+}
+
+async function openedLesson(name) {
+    const lesson = lessons.find((it) => it.name === name);
+    if (!lesson) return;
+    tab("steps");
+    await opened(lesson.name, lesson.text);
 }
 
 // Opens a text; or a list or a trace, which is that of the text at the left.
@@ -257,7 +269,9 @@ async function run() {
     const words = ["run", "m.l4", "--turns", $("turns").value, "--waits", "--counts", "--record", "list"];
     const [made] = await program.perform("long", { "m.l4": editor.text }, words);
     print(made);
-    await begin(new Schedule(program, editor.text, listOf(made.recorded)));
+    const recorded = new Schedule(program, editor.text, listOf(made.recorded));
+    recorded.isCut = made.status === 3;
+    await begin(recorded);
     tellCommand(made, [], isFault(made) ? "" : `${counted(session.list.length, "item")} recorded`);
 }
 
@@ -288,9 +302,10 @@ const verb = (name) =>
 
 // On to rest, by items that can be stepped through.
 async function toRest() {
-    const { at } = session;
-    const list = await session.rest(Math.min(Number($("turns").value) || 5000, 5000));
-    if (session.at === at) await perform(...list.slice(at));
+    const begun = session;
+    const { at } = begun;
+    const rested = await begun.rested($("turns").value);
+    if (session === begun && session.at === at) await begin(rested);
 }
 
 async function savedChart(kind) {
@@ -376,10 +391,7 @@ function wireExamples() {
     const options = lessons.map(({ name, about }) => el("option", { value: name, title: about, textContent: `${name.replace(/\.l4$/, "")}: ${short(about)}` }));
     $("examples").append(el("option", { value: "", textContent: "my own" }), ...options);
     on("examples", "change", async () => {
-        const lesson = lessons.find(({ name }) => name === $("examples").value);
-        if (!lesson) return;
-        tab("steps");
-        await opened(lesson.name, lesson.text);
+        await openedLesson($("examples").value);
     });
 }
 

@@ -23,24 +23,20 @@ class Program {
         return this.lanes.get(name);
     }
 
-    answered(waiting, { id, answer, trap, part }) {
-        const { done, fail, onPart } = waiting.get(id);
-        if (part) {
-            onPart?.(part);
-            return;
-        }
+    answered(waiting, { id, answer, trap }) {
+        const { done, fail } = waiting.get(id);
         waiting.delete(id);
         this.tellBusy();
         if (trap) fail(new Error(trap));
         else done(answer);
     }
 
-    ask(name, question, onPart) {
+    ask(name, question) {
         const { worker, waiting } = this.lane(name);
         this.ids += 1;
         const id = this.ids;
         return new Promise((done, fail) => {
-            waiting.set(id, { done, fail, onPart });
+            waiting.set(id, { done, fail });
             this.tellBusy();
             worker.postMessage({ ...question, id, limit: this.limit() });
         });

@@ -69,6 +69,27 @@ function isClosed(wait) {
     return !!wait && (wait.phase === "send" || (wait.to !== "any" && wait.to !== "anylocal"));
 }
 
+// What may come next behind a list, as `--next` prints it: each item, of which kind it is, and the steps that it would tell.
+function nextOf(out) {
+    const found = [];
+    for (const line of linesOf(out)) {
+        if (!line.startsWith("next ")) {
+            found.at(-1).steps.push(line);
+            continue;
+        }
+        const item = line.slice("next ".length);
+        const [, cpu, from] = item.match(/(\d+)(?::(\d+))?$/);
+        found.push({ cpu: Number(cpu), item, from, steps: [] });
+    }
+    const kindOf = ({ cpu, item, from, steps }) => {
+        if (from) return "letter";
+        if (item.startsWith("t")) return "tick";
+        if (!steps.length) return "silent";
+        return found.some((it) => it.from && it.cpu === cpu) ? "own" : "turn";
+    };
+    return found.map((choice) => ({ ...choice, kind: kindOf(choice) }));
+}
+
 // The head of an ending: its number, and either the items that lead there or the number of steps. No head has neither.
 function headOf(line) {
     const [, number, steps, items] = line.match(/^ending (\d+)(?: steps (\d+)| (\S+))?$/) ?? [];
@@ -105,7 +126,10 @@ function marksOf(out) {
             isDoubt: kind === "always" || kind === "perhaps",
         }));
 }
-const markText = ({ kind, word, hint }) => `${kind}${word ? ` \`${word}\`` : ""}: ${hint}`;
+function markText({ kind, word, hint, isDoubt }) {
+    const named = word ? `\`${word}\`: ` : "";
+    return isDoubt ? `${kind}${word ? ` \`${word}\`` : ""}: ${hint}` : `${named}${hint} (${kind})`;
+}
 
 // The items of a list that was typed, or recorded.
 function listOf(text) {

@@ -56,10 +56,10 @@ class Session {
         return low;
     }
 
-    // What may happen next. `onPart` hears what was found so far.
-    async next(onPart) {
+    // What may happen next: items or steps, each with what it would tell.
+    async next() {
         const key = this.written(this.done);
-        if (!this.nexts.has(key)) this.nexts.set(key, await this.program.ask("next", this.question(), onPart));
+        if (!this.nexts.has(key)) this.nexts.set(key, await this.found());
         return this.nexts.get(key);
     }
 }
@@ -86,16 +86,19 @@ class Schedule extends Session {
         return { made, report: reportOf(made.out), steps: linesOf(trace.out) };
     }
 
-    question() {
-        const { cpus, threads } = this.machine;
-        const turns = Math.max(0, ...Array.from({ length: cpus }, (_, cpu) => threads.filter((thread) => thread.cpu === cpu).length));
-        return { kind: "next", text: this.text, list: this.done, cpus, turns };
+    async found() {
+        const [made] = await this.program.perform("next", this.files(this.at), this.command("--next"));
+        return nextOf(made.out);
     }
 
-    // The list by which what is done goes on to rest.
-    async rest(most) {
-        const question = { kind: "rest", text: this.text, list: this.done, cpus: this.machine.cpus, most };
-        return (await this.program.ask("long", question)).list;
+    // The session that goes on behind what is done until all is at rest, or for so many turns.
+    async rested(turns) {
+        const words = this.command("--then-rest", "--turns", turns, "--record", "rest");
+        const [made] = await this.program.perform("long", this.files(this.at), words);
+        if (isFault(made)) throw new Error(made.faults.trim());
+        const rested = this.with(listOf(made.recorded).slice(this.at));
+        rested.isCut = made.status === 3;
+        return rested;
     }
 }
 
@@ -119,7 +122,7 @@ class Trace extends Session {
         return { made, report: reportOf(made.out), steps: this.list.slice(0, place) };
     }
 
-    question() {
-        return { kind: "possible", text: this.text, list: this.done };
+    found() {
+        return this.program.ask("next", { kind: "possible", text: this.text, list: this.done });
     }
 }

@@ -2,6 +2,7 @@
 
 const ROWS = 250; // of the chart, in a page of it
 const MOST_PLACES = 200; // threads, above which the text does not show where they are
+const MANY = 12; // threads, above which they stand below the chart in one column
 
 let session; // what is stepped through
 let wanted = null; // a place that is asked for while another is shown
@@ -59,16 +60,39 @@ async function show(shown, at) {
     const told = before ? now.steps.slice(before.steps.length) : [];
     showWhere(shown, now, told);
     $("rest").disabled = now.report.ending === "quiet";
-    const said = verdictOf(now, at === 0);
-    sayIn("verdict", said);
-    if (said.tone === "good" && hasOtherOrders(shown.machine)) askForOthers();
-    if (at === 0 && !shown.list.length) offerHelp();
     // Lines are those of the text at the left, as long as that is the text that is stepped through.
     const places = shown.text === editor.text ? placesOf(shown.machine, now.steps) : [];
-    showCards(now.report, before?.report, new Map(places.map(({ id, line }) => [id, line])));
+    const lines = new Map(places.map(({ id, line }) => [id, line]));
+    showVerdict(shown, now, lines);
+    showCards(now.report, before?.report, lines);
     editor.stand(standing(places, now));
     tellCommand(now.made, shown.done);
     await draw(shown, now.steps.length, told.length, isOld);
+}
+
+// What has come of it, in a sentence; of each who waits the line at which that is; who waits for whom, in a picture; and what one may ask.
+function showVerdict(shown, now, lines) {
+    const { at, list, machine } = shown;
+    const said = verdictOf(now, at === 0, shown.isCut && at === list.length ? at : 0);
+    const withPlaces = said.lines.map((line) => (typeof line === "string" ? line : [line.text, ...placeIn(machine, line.id, lines.get(line.id))]));
+    sayIn("verdict", { ...said, lines: withPlaces });
+    const picture = said.circle && circlePicture(said.circle);
+    if (picture) {
+        $("verdict").append(picture);
+        $("verdict").classList.add("drawn");
+        $("verdict").style.setProperty("--wide", `${picture.getAttribute("width")}px`);
+        $("verdict").style.setProperty("--tall", `${picture.getAttribute("height")}px`);
+    }
+    if (said.tone === "good" && hasOtherOrders(machine)) askForOthers();
+    if (at === 0 && !list.length) offerHelp();
+}
+
+// The line at which a thread is, and what stands there.
+function placeIn(machine, id, line) {
+    const instruction = machine.byId.get(id)?.script.find((it) => it.line === line);
+    if (!instruction) return [];
+    const go = Object.assign(button(`line ${line}`, () => editor.goTo(line)), { className: "inline" });
+    return [" ", go, " ", el("code", { textContent: instruction.words.join(" ") })];
 }
 
 function showTransport(shown) {
@@ -76,10 +100,11 @@ function showTransport(shown) {
     const { UNIT, NAME } = shown.constructor;
     $("slider").max = list.length;
     $("slider").value = at;
+    $("slider").disabled = !list.length;
     $("slider").setAttribute("aria-valuetext", `${at} of ${counted(list.length, UNIT)}`);
     for (const id of ["first", "back"]) $(id).disabled = at === 0;
     for (const id of ["forth", "last"]) $(id).disabled = at === list.length;
-    $("rest").hidden = !shown.rest;
+    $("rest").hidden = !shown.rested;
     $("way").value = `${UNIT}s`;
     $("listname").textContent = NAME;
     if (document.activeElement !== $("schedule")) $("schedule").value = shown.written(list);
@@ -88,9 +113,12 @@ function showTransport(shown) {
 function showWhere(shown, now, told) {
     const { list, at } = shown;
     const { UNIT } = shown.constructor;
-    const did = at ? [": ", el("b", { textContent: list[at - 1] })] : [];
-    const tells = at ? [" · ", el("b", { textContent: told.join("; ") || "nothing told" })] : [];
-    const steps = UNIT === "step" ? [] : [`, step ${now.steps.length}`, ...tells];
+    const item = list[at - 1];
+    const step = (line) => [el("b", { textContent: line }), ` ${meaningOf(line)}`];
+    const did = !at ? [] : UNIT === "step" ? [": ", ...step(item)] : [": ", el("b", { textContent: item }), ` ${itemText(item)}`];
+    const numbers = told.length > 1 ? `steps ${now.steps.length - told.length + 1}–${now.steps.length}` : `step ${now.steps.length}`;
+    const tells = told.flatMap((line, place) => [place ? "; " : ": ", ...step(line)]);
+    const steps = UNIT === "step" || !at ? [] : [" · ", ...(told.length ? [numbers, ...tells] : ["it tells nothing"])];
     $("where").replaceChildren(`${UNIT} ${at} of ${list.length}`, ...did, ...steps);
 }
 
@@ -100,7 +128,7 @@ function showFault(made) {
     $("cards").replaceChildren();
     $("pager").hidden = true;
     $("rest").disabled = true;
-    chart.clear("No chart: the text or the list has a fault.");
+    chart.clear(...(session.text.trim() ? ["No chart: the text or the list has a fault."] : ofNothing()));
     chartShown = "";
     editor.stand(new Map());
     const line = made.faults.trim();
@@ -108,7 +136,10 @@ function showFault(made) {
     const mark = editor.text === session.text ? editor.marks.find((it) => it.line === number && !it.isDoubt) : undefined;
     const because = made.out.match(/^because .*/m) ?? [];
     sayIn("verdict", { tone: "bad", head: mark ? `Line ${number}: ${markText(mark)}` : line || "a fault", lines: [...because] });
-    if (number) $("verdict").append(" ", button(`go to line ${number}`, () => editor.goTo(number, mark?.column)));
+    $("verdict").firstChild.replaceChildren(...withCode($("verdict").firstChild.textContent));
+    if (!number) return;
+    const go = Object.assign(button(`go to line ${number}`, () => editor.goTo(number, mark?.column)), { className: "inline" });
+    $("verdict").append(" ", go);
 }
 
 // A run takes one order; what of the others?
@@ -152,6 +183,7 @@ function showCards(report, before, lines) {
         .map(({ thread, was }) => card(thread, was, lines.get(thread.id)));
     const none = el("p", { className: "none", textContent: report.threads.length ? "None." : "The text has no thread." });
     $("cards").replaceChildren(...(cards.length ? cards : [none]));
+    $("pane").classList.toggle("many", report.threads.length > MANY);
 }
 const hasChanged = (thread, was) => !!was && (was.line !== thread.line || waitKey(was) !== waitKey(thread));
 const waitKey = ({ wait }) => (wait ? `${wait.to} ${wait.phase}` : "");
@@ -185,12 +217,37 @@ function registers(thread, was) {
     return el("div", { className: "registers", title }, ...shown.map(({ word, place, isNew }) => el(isNew ? "mark" : "span", { textContent: `MR${place} ${word}` })));
 }
 
+// What one may do first, in the place of a chart.
+const FIRST_LESSONS = {
+    "first.l4": "One message",
+    "callback.l4": "A deadlock of three",
+    "lost-reply.l4": "A reply that is lost",
+    "locks.l4": "Two locks, in opposite order",
+};
+function firstLessons() {
+    const known = Object.entries(FIRST_LESSONS).filter(([name]) => name !== doc.name && LESSON_FILES[name]);
+    return el("div", { className: "bar" }, "Lessons:", ...known.map(([name, what]) => button(what, () => openedLesson(name))));
+}
+function ofNothing() {
+    const said = "A machine text has processors and threads, and the Ipc calls that each thread makes. Write one at the left, or begin with a lesson.";
+    return [el("h3", { textContent: "The text is empty." }), el("p", { textContent: said }), firstLessons()];
+}
+function invitation() {
+    return [
+        el("h3", { textContent: "Nothing has happened yet." }),
+        el("p", {}, "At the left is a ", el("b", { textContent: "machine text" }), ": threads, and the Ipc calls that each makes. Change it as you like."),
+        el("p", {}, el("b", { textContent: "Run" }), " takes it to its end in one order. Or do one thing after the other under ", el("b", { textContent: "What next?" }), " Each step is a row here then, and each message an arrow."),
+        el("p", {}, el("b", { textContent: "Who gets stuck?" }), " tries every order that a scheduler may take, and shows who waits for ever."),
+        firstLessons(),
+    ];
+}
+
 // The chart: a page of rows over all steps of the list, done or yet to come.
 async function draw(shown, row, told, isOld) {
     const steps = await shown.steps();
     if (isOld()) return;
     if (!steps.length) {
-        chart.clear("No step yet.");
+        chart.clear(...(shown.list.length ? ["No step yet."] : invitation()));
         chart.row = 0;
         chartShown = "";
         $("pager").hidden = true;
@@ -228,16 +285,15 @@ function fit() {
 function showPager(from, to, total) {
     const go = (row) => toStep(Math.min(total, Math.max(1, row)));
     $("pager").hidden = total <= ROWS;
-    const number = el("input", { value: from, inputMode: "numeric", onchange: () => go(Number(number.value) || 1) });
-    number.setAttribute("aria-label", "to step");
-    const paged = (text, isDisabled, row) => Object.assign(button(text, () => go(row)), { disabled: isDisabled });
+    const number = el("input", { value: from, inputMode: "numeric", title: "to step", onchange: () => go(Number(number.value) || 1) });
+    const paged = (text, title, isDisabled, row) => Object.assign(button(text, () => go(row)), { title, ariaLabel: title, disabled: isDisabled });
     $("pager").replaceChildren(
-        paged("|◀ first", from === 1, 1),
-        paged("◀ earlier", from === 1, from - ROWS),
+        paged("|◀", "first rows", from === 1, 1),
+        paged("◀", "earlier rows", from === 1, from - ROWS),
         number,
-        el("span", { textContent: `to ${to} of ${total} steps` }),
-        paged("later ▶", to === total, to + 1),
-        paged("last ▶|", to === total, total),
+        el("span", { textContent: `to ${to} of ${total}` }),
+        paged("▶", "later rows", to === total, to + 1),
+        paged("▶|", "last rows", to === total, total),
     );
 }
 
@@ -269,17 +325,10 @@ async function showNext() {
         nextIsNew();
         return;
     }
-    const began = performance.now();
     const looking = setTimeout(() => $("next").replaceChildren(el("p", { className: "none", textContent: "looking .." })), 600);
-    const onPart = (part) => {
-        if (isOld() || performance.now() - began < 400) return;
-        clearTimeout(looking);
-        drawNext(part, state, true);
-        $("next").classList.remove("old");
-    };
-    let answer;
+    let found;
     try {
-        answer = await shown.next(onPart);
+        found = await shown.next();
     } catch (trap) {
         if (trap instanceof Stopped) return;
         throw trap;
@@ -287,7 +336,7 @@ async function showNext() {
         clearTimeout(looking);
     }
     if (isOld()) return;
-    drawNext(answer, state, false);
+    drawNext(found, state);
     nextIsNew();
     document.body.dataset.next = `${at}`;
 }
@@ -295,13 +344,12 @@ async function showNext() {
 const KINDS = {
     turn: () => "takes a turn",
     letter: ({ from }) => `handles the letter from cpu ${from}`,
-    mail: () => "handles a letter",
     own: () => "takes a turn, letters wait",
-    tick: () => "its clock goes on",
+    tick: () => "a clock goes on",
     silent: () => "works on",
     local: () => "an instruction of its own",
     begin: () => "a send begins",
-    queue: () => "it waits at its receiver",
+    queue: () => "waits at its receiver",
     deliver: () => "a message arrives",
     wait: () => "a receive begins",
     stimeout: () => "the time of a send is over",
@@ -316,15 +364,24 @@ const KINDS = {
     retarget: () => "it waits for the thread that it was handed to",
 };
 
-function drawNext({ found, others }, state, isPart) {
+// What a step is, and what an item is, in words.
+const meaningOf = (step) => KINDS[step.split(" ")[0]]?.({}) ?? "";
+function itemText(item) {
+    const [, cpu] = item.match(/^c?(\d+)$/) ?? [];
+    if (cpu) return `cpu ${cpu} takes a turn`;
+    const [, to, from] = item.match(/^(\d+):(\d+)$/) ?? [];
+    if (to) return `cpu ${to} handles the letter from cpu ${from}`;
+    const [, of, clock] = item.match(/^t(\d+)(?::(\d+))?$/) ?? [];
+    return of ? `the clock of cpu ${of} goes on${clock ? ` to ${clock}` : ""}` : "";
+}
+
+function drawNext(found, state) {
     const place = $("next");
     const focused = place.contains(document.activeElement) ? document.activeElement.dataset.cpu ?? "" : null;
     const choices = found.map((choice, number) => choiceButton(choice, number + 1));
     const isAtRest = state.report.ending === "quiet";
-    const nothing = isAtRest ? "Nothing: all is at rest." : "Nothing that tells a step, but letters are under way.";
-    const said = isPart ? "looking at the other processors .." : found.length ? null : nothing;
-    const note = said ? [el("p", { className: "none", textContent: said })] : [];
-    const more = isAtRest || isPart ? [] : [otherItems(others, !found.length)];
+    const note = found.length ? [] : [el("p", { className: "none", textContent: "Nothing: all is at rest." })];
+    const more = isAtRest ? [] : [otherItems()];
     place.replaceChildren(...choices, ...note, ...more);
     if (focused === null) return;
     const again = place.querySelector(`[data-cpu="${focused}"]`) ?? place.querySelector("[data-item]") ?? $("back");
@@ -345,8 +402,8 @@ function choiceButton(choice, number) {
     return made;
 }
 
-// Items of one's own, and those of which it is not known whether they do anything.
-function otherItems(others, isOpen) {
+// Items or steps of one's own: a tick to another time, or what does nothing yet.
+function otherItems() {
     const isSteps = session instanceof Trace;
     const typed = el("input", { placeholder: isSteps ? "tick 0 24" : "c0, 1:0, t0:24" });
     typed.setAttribute("aria-label", isSteps ? "another step" : "other items, joined by commas");
@@ -356,7 +413,5 @@ function otherItems(others, isOpen) {
         const more = isSteps ? stepsOf(typed.value) : listOf(typed.value);
         if (more.length) perform(...more);
     };
-    const silent = others.slice(0, 40).map((item) => button(item, () => perform(item)));
-    const tells = silent.length ? [el("div", { className: "bar" }, "tell nothing, if they do anything:", ...silent)] : [];
-    return el("details", { className: "others", open: isOpen }, el("summary", { textContent: isSteps ? "Another step" : "Other items" }), form, ...tells);
+    return el("details", { className: "others" }, el("summary", { textContent: isSteps ? "Another step" : "Other items" }), form);
 }

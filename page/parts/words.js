@@ -1,25 +1,29 @@
 // What the page says of a state in sentences.
 
+// A sentence of a thread that waits. The page says beside it at which line that is.
+const waitLine = (thread, end = "") => ({ text: `${waitText(thread)}${end}`, id: thread.id });
 const waitText = ({ id, wait }) =>
-    wait.phase === "send" ? `${id} waits for ${wait.to} to take its message` : `${id} waits for a message of ${wait.to}`;
+    wait.phase === "send" ? `${id} waits for ${wait.to} to take its message` : `${id} waits for a message from ${wait.to}`;
 const shortWait = (wait) => (wait.phase === "send" ? `sends to ${wait.to}` : `waits for ${wait.to}`);
 const counted = (number, one, many = `${one}s`) => `${number} ${Number(number) === 1 ? one : many}`;
 const among = (list, most) => (list.length > most ? [...list.slice(0, most), `and ${list.length - most} more`] : list);
 
-// A tone, a sentence, and lines below it, of the state behind so many items.
-function verdictOf({ report, steps }, isBeginning) {
+// A tone, a sentence, and lines below it, of the state behind so many items. `circle` has those who wait for each other. A run that was cut
+// off took so many turns.
+function verdictOf({ report, steps }, isBeginning, cutAt) {
     const stuck = report.threads.filter((thread) => thread.isStuck);
     const open = report.threads.filter((thread) => thread.wait && !thread.isStuck);
     const isAtRest = report.ending === "quiet";
     if (report.deadlocks.length) {
-        const circles = report.deadlocks.flatMap((ids) => ids.map((id) => waitText(report.byId.get(id))));
-        const others = stuck.filter((thread) => !thread.isDead).map((thread) => `${waitText(thread)}, for ever`);
+        const circles = report.deadlocks.flatMap((ids) => ids.map((id) => waitLine(report.byId.get(id))));
+        const others = stuck.filter((thread) => !thread.isDead).map((thread) => waitLine(thread, ", for ever"));
         const end = isAtRest ? "none of them can ever go on." : "only a thread that still runs could end that.";
-        return { tone: "bad", head: `Deadlock: these wait for each other, and ${end}`, lines: among([...circles, ...others], 10) };
+        const head = `Deadlock: these wait for each other, and ${end}`;
+        return { tone: "bad", head, lines: among([...circles, ...others], 10), circle: report.deadlocks[0] };
     }
     if (isAtRest && stuck.length) {
         const head = `At rest, and ${counted(stuck.length, "thread waits", "threads wait")} for ever.`;
-        return { tone: "bad", head, lines: among(stuck.map(waitText), 8) };
+        return { tone: "bad", head, lines: among(stuck.map((thread) => waitLine(thread)), 8) };
     }
     if (isAtRest) {
         const ids = among(open.map((thread) => thread.id), 6).join(", ");
@@ -27,11 +31,15 @@ function verdictOf({ report, steps }, isBeginning) {
         return { tone: "good", head: "At rest: nothing is left to do, and nobody is stuck.", lines: servers };
     }
     if (report.circles.length) {
-        const lines = report.circles.map((ids) => ids.map((id) => waitText(report.byId.get(id))).join("; "));
-        return { tone: "fair", head: "It goes on, with a circle of those who wait:", lines };
+        const lines = report.circles.flatMap((ids) => ids.map((id) => waitLine(report.byId.get(id))));
+        return { tone: "fair", head: "It goes on, with a circle of those who wait:", lines: among(lines, 10), circle: report.circles[0] };
+    }
+    if (cutAt) {
+        const head = `Not at rest after ${counted(cutAt.toLocaleString("en"), "turn")}: the run was cut off there.`;
+        return { tone: "fair", head, lines: ["Some machines go on for ever. Limits has how many turns a run takes."] };
     }
     if (isBeginning) return { tone: "", head: "At the beginning. Press Run, or choose below what happens first.", lines: [] };
-    return { tone: "", head: `It goes on: ${counted(steps.length, "step")} so far.`, lines: [] };
+    return { tone: "", head: `It goes on: ${counted(steps.length.toLocaleString("en"), "step")} so far.`, lines: [] };
 }
 
 // What a search for endings came to: of all, of the stuck ones, or of those with or without a line.

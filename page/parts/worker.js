@@ -9,8 +9,7 @@ async function performed(words, files, limit) {
     return { words, status: made.status, out, faults, recorded, took: performance.now() - began };
 }
 
-// Performs a command over a text and a list, of items or of the steps of a trace.
-const asker = ({ text, limit }) => (words, list) => performed(words, { "m.l4": text, list: list.join(",") }, limit);
+// Performs a command over a text and the steps of a trace.
 const auditor = ({ text, limit }) => (words, list) => performed(words, { "m.l4": text, "m.trace": list.map((step) => `${step}\n`).join("") }, limit);
 
 const WORK = {
@@ -20,9 +19,7 @@ const WORK = {
         for (const words of commands) all.push(await performed(words, files, limit));
         return all;
     },
-    next: (asked) => nextOf({ ...asked, ask: asker(asked), part: (found) => postMessage({ id: asked.id, part: found }) }),
     possible: (asked) => possibleOf({ ...asked, ask: auditor(asked) }),
-    rest: (asked) => restOf({ ...asked, ask: asker(asked) }),
 };
 
 onmessage = async ({ data }) => {

@@ -7,6 +7,11 @@ const path = require("path");
 
 const sleep = (ms) => new Promise((done) => setTimeout(done, ms));
 const profileFolder = () => fs.mkdtempSync(path.join(os.tmpdir(), "page-profile-"));
+// A browser whose home is a folder: what it keeps, saves and puts aside lies there.
+function started(command, words, home, stdio) {
+    const kept = { HOME: home, TMPDIR: home, XDG_CONFIG_HOME: home, XDG_CACHE_HOME: home, XDG_DATA_HOME: home, XDG_DOWNLOAD_DIR: home };
+    return spawn(command, words, { stdio, cwd: home, env: { ...process.env, ...kept } });
+}
 const KEYS = { Tab: 9, Enter: 13, Escape: 27, ArrowLeft: 37, ArrowUp: 38, ArrowRight: 39, ArrowDown: 40 };
 const MARIONETTE_KEYS = { Tab: "\uE004", Enter: "\uE007", Escape: "\uE00C", ArrowLeft: "\uE012", ArrowUp: "\uE013", ArrowRight: "\uE014", ArrowDown: "\uE015" };
 const CONTROL = "\uE009";
@@ -34,6 +39,20 @@ class Browser {
         await this.until("document.body?.dataset.ready === 'yes'");
     }
 
+    get saves() {
+        return path.join(this.profile, "Downloads");
+    }
+
+    // The bytes of a file that the page has saved, once they are there. A browser may write them under another name first.
+    async saved(name) {
+        const file = path.join(this.saves, name);
+        for (let tries = 0; tries < 100; tries += 1) {
+            if (fs.existsSync(file) && fs.statSync(file).size) return fs.readFileSync(file);
+            await sleep(100);
+        }
+        return null;
+    }
+
     async end(child, profile) {
         await Promise.race([new Promise((done) => (child.exitCode === null ? child.on("exit", done) : done())), sleep(4000)]);
         if (child.exitCode === null) child.kill("SIGKILL");
@@ -47,7 +66,7 @@ class Chromium extends Browser {
         const it = new Chromium(page);
         it.profile = profileFolder();
         const words = ["--headless", "--no-sandbox", "--disable-gpu", "--remote-debugging-pipe", `--user-data-dir=${it.profile}`];
-        it.child = spawn("chromium", words, { stdio: ["ignore", "ignore", "ignore", "pipe", "pipe"] });
+        it.child = started("chromium", words, it.profile, ["ignore", "ignore", "ignore", "pipe", "pipe"]);
         it.waiting = new Map();
         it.ids = 0;
         let rest = "";
@@ -58,6 +77,7 @@ class Chromium extends Browser {
         const { targetId } = await it.send("Target.createTarget", { url: "about:blank" });
         it.sessionId = (await it.send("Target.attachToTarget", { targetId, flatten: true })).sessionId;
         for (const domain of ["Runtime", "Page", "Log"]) await it.send(`${domain}.enable`);
+        await it.send("Browser.setDownloadBehavior", { behavior: "allow", downloadPath: it.saves });
         it.version = (await it.send("Browser.getVersion")).product;
         return it;
     }
@@ -141,7 +161,7 @@ class Firefox extends Browser {
         it.profile = profileFolder();
         fs.writeFileSync(path.join(it.profile, "user.js"), 'user_pref("marionette.port", 0);\n');
         const words = ["--headless", "--marionette", "--remote-allow-system-access", "--no-remote", "--profile", it.profile];
-        it.child = spawn("firefox-esr", words, { stdio: "ignore" });
+        it.child = started("firefox-esr", words, it.profile, "ignore");
         const portFile = path.join(it.profile, "MarionetteActivePort");
         for (let tries = 0; !fs.existsSync(portFile); tries += 1) {
             if (tries > 600) throw new Error("firefox-esr did not start within a minute");

@@ -131,17 +131,30 @@ async function runsExamples(browser, hand) {
         check(`${example}: its chart has its steps`, rows > 0 && rows === (await hand.run("return session.whole.length")), rows);
         await hand.verb("stuck");
         const found = await hand.run("return document.getElementById('found').textContent");
-        check(`${example}: its search was whole`, /All orders .* were searched/.test(found), found);
+        const words = ["endings", "m.l4", "--depth", "1000", "--states", "100000", "--stuck"];
+        const said = printedBy(program, { words, files: { "m.l4": await hand.run("return editor.text") } }).out.toString();
+        const wanted = / whole(,|$)/m.test(said) ? /All orders .* were searched/ : /Cut off after/;
+        check(`${example}: whether its search was whole`, wanted.test(found), found);
     }
 }
 
-// The deadlock of callback.l4, as somebody finds it who presses Run.
+// The deadlock of callback.l4, as somebody finds it who was never here: by what the empty chart offers, and Run.
 async function findsDeadlock(browser, hand) {
-    await hand.go("#example=callback.l4");
+    await hand.go("#example=first.l4");
+    check("what one may do first is told", /Nothing has happened yet.*Who gets stuck\?/s.test(await hand.text("chart")), await hand.text("chart"));
+    await hand.picture("begin-1200");
+    await hand.run("[...document.querySelectorAll('#chart button')].find((it) => /deadlock/.test(it.textContent)).click();");
+    await browser.until("doc.name === 'callback.l4'");
+    await hand.idle();
     await hand.verb("run");
     const verdict = await hand.text("verdict");
-    const waits = ["1.1 waits for a message of 9.1", "9.1 waits for a message of 8.1", "8.1 waits for 1.1 to take its message"];
+    const waits = ["1.1 waits for a message from 9.1", "9.1 waits for a message from 8.1", "8.1 waits for 1.1 to take its message"];
     check("a deadlock is told", /Deadlock/.test(verdict) && waits.every((it) => verdict.includes(it)), verdict);
+    check("and at which lines", /line 8\b.*line 14\b.*line 22\b/s.test(verdict), verdict);
+    check("a picture shows the circle", (await hand.count("#verdict .circle rect")) === 3 && (await hand.count("#verdict .circle .point")) === 3);
+    await hand.click("#verdict li:nth-of-type(3) button");
+    check("a line is gone to", (await hand.run("return editor.line()")) === 22, await hand.run("return editor.line()"));
+    await hand.run("document.activeElement.blur();");
     check("the text shows who waits where", (await hand.count(".paint b.stuck")) === 3);
     check("three threads are stuck", (await hand.count(".card.stuck")) === 3);
     await hand.picture("callback-1200");
@@ -153,7 +166,7 @@ async function marksFaults(browser, hand) {
     await hand.type("l4 1 64\ncpus 1\nthread 1.1 cpu 0 space 1\nset 64 10\nipx 2.1\nipc 9.1 nil never never\n");
     check("two lines are marked", (await hand.count(".paint .line.fault")) === 2);
     check("the list tells the hint", /a register, 1 to 63/.test(await hand.text("lint")), await hand.text("lint"));
-    check("the fault stands above", /Line 4: BadNumber.*1 to 63/.test(await hand.text("verdict")), await hand.text("verdict"));
+    check("the fault stands above", /Line 4: 64: .*1 to 63/.test(await hand.text("verdict")), await hand.text("verdict"));
     const [left, top_] = await hand.run("const box = document.querySelector('.paint .under').getBoundingClientRect(); return [box.left + 4, box.top + 6]");
     await browser.move(left, top_);
     await sleep(150);
@@ -233,7 +246,7 @@ async function findsLostReply(browser, hand) {
     await hand.picture("any-endings-1200");
     await hand.click(".ending.bad");
     check("its trace opens", (await hand.text("where")).startsWith("step 13 of 13"), await hand.text("where"));
-    check("who is stuck", /1.1 waits for a message of 9.1/.test(await hand.text("verdict")), await hand.text("verdict"));
+    check("who is stuck", /1.1 waits for a message from 9.1/.test(await hand.text("verdict")), await hand.text("verdict"));
     check("its chart has its steps", (await hand.count("#chart .lines > div")) === 13);
     await hand.picture("any-trace-1200");
     await browser.size(400, 860, true);
@@ -406,9 +419,19 @@ async function opensAndSaves(browser, hand) {
     await hand.click("#trieslist button");
     check("a command of the lesson prints", (await hand.text("out")).includes("1.1"));
     await hand.picture("output-1200");
+    const text = await hand.run("return editor.text");
+    const out = await hand.run("return printed");
     for (const id of ["copy", "saveout", "savewanted", "save", "copycommand", "copylist", "take", "theme", "theme", "theme"]) await hand.click(`#${id}`);
     await hand.run("tab('steps');");
+    await hand.verb("run");
     for (const kind of ["svg", "html", "mermaid"]) await hand.click(`[data-save=${kind}]`);
+    check("the text is saved", `${await browser.saved("late.l4")}` === text);
+    check("the output is saved", `${await browser.saved("late.txt")}` === out);
+    const trace = printedBy(program, { words: ["run", "m.l4"], files: { "m.l4": text } }).out;
+    for (const [kind, ending] of [["svg", "svg"], ["html", "html"], ["mermaid", "mmd"]]) {
+        const wanted = printedBy(program, { words: ["chart", "m.l4", "trace", `--${kind}`], files: { "m.l4": text, trace } }).out;
+        check(`the chart is saved as ${ending}, as the program draws it`, (await browser.saved(`late.${ending}`))?.equals(wanted) === true);
+    }
     const file = path.join(fs.mkdtempSync(path.join(os.tmpdir(), "page-file-")), "ring.l4");
     fs.writeFileSync(file, ring());
     await browser.choose("#file", file);
@@ -441,6 +464,7 @@ async function showsManySteps(browser, hand) {
     const began = Date.now();
     await hand.verb("run");
     console.log(`${name}: 5,000 turns: run, chart and what is next in ${Date.now() - began} ms; ${await hand.text("where")}`);
+    check("that a run was cut off is told", /cut off/.test(await hand.text("verdict")), await hand.text("verdict"));
     await hand.slide(2500);
     check("item 2500", /item 2500 of 5000/.test(await hand.text("where")));
     await hand.picture("steps5000-1200");
@@ -460,6 +484,53 @@ async function stops(browser, hand) {
     check("a long search is stopped", isOver && /stopped/i.test(await hand.text("status")), await hand.text("status"));
     await hand.verb("run");
     check("and the page works on", /At rest/.test(await hand.text("verdict")), await hand.text("verdict"));
+}
+
+// The words that do not stand out from what is behind them, by the ratio that the guidelines for the web ask of small letters. Buttons that can't
+// be pressed are left out, and what lies over a shade that has no one colour.
+async function pale({ run }) {
+    return run(`
+        const parts = (colour) => (colour.match(/[\\d.]+/g) ?? []).map(Number);
+        const light = ([r, g, b]) => {
+            const [x, y, z] = [r, g, b].map((it) => it / 255).map((it) => (it <= 0.04045 ? it / 12.92 : ((it + 0.055) / 1.055) ** 2.4));
+            return 0.2126 * x + 0.7152 * y + 0.0722 * z;
+        };
+        const over = ([r, g, b, a = 1], below) => [r, g, b].map((it, place) => a * it + (1 - a) * below[place]);
+        const behind = (at) => {
+            if (!at) return [255, 255, 255];
+            const { backgroundColor, backgroundImage } = getComputedStyle(at);
+            if (backgroundImage !== "none") return null;
+            const own = parts(backgroundColor);
+            if (own.length === 3 || own[3] === 1) return own.slice(0, 3);
+            const below = behind(at.parentElement);
+            return below && (own[3] ? over(own, below) : below);
+        };
+        const found = new Map();
+        const walker = document.createTreeWalker(document.body, NodeFilter.SHOW_TEXT);
+        for (let node = walker.nextNode(); node; node = walker.nextNode()) {
+            const at = node.parentElement;
+            if (!node.data.trim() || !at.checkVisibility?.({ visibilityProperty: true }) || at.closest("script, style, :disabled, .old, .editor textarea")) continue;
+            const below = behind(at);
+            if (!below) continue;
+            const style = getComputedStyle(at);
+            const own = over(parts(at.closest("svg") ? style.fill : style.color), below);
+            const [low, high] = [light(own), light(below)].sort((a, b) => a - b);
+            const ratio = (high + 0.05) / (low + 0.05);
+            if (ratio < 4.5) found.set(at.className?.baseVal ?? at.className, node.data.trim().slice(0, 20) + " " + ratio.toFixed(1));
+        }
+        return [...found];`);
+}
+
+async function standsOut(browser, hand) {
+    for (const isDark of [false, true]) {
+        await browser.dark(isDark);
+        for (const hash of ["#example=first.l4", "#example=callback.l4&do=run", "#example=locks.l4&do=endings", "#example=timeout.l4&do=report", "#text=l4%201%2065%0A"]) {
+            await hand.go(hash);
+            const found = await pale(hand);
+            check(`${hash}, ${isDark ? "dark" : "light"}: each word stands out`, found.length === 0, found);
+        }
+    }
+    await browser.dark(false);
 }
 
 // The looks: dark, and as narrow as a phone.
@@ -507,6 +578,7 @@ const PARTS = [
     showsManyThreads,
     showsManySteps,
     stops,
+    standsOut,
     looks,
 ];
 

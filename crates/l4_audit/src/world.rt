@@ -4,7 +4,6 @@ ghost use Rattle.l4_model.specs.World.{list_at};
 ghost use Rattle.l4_types.specs.OwedView.{owed_of};
 ghost use Rattle.l4_model.specs.Conditions.{found, found_at, found_by, undecided, receiver_of};
 
-mod copies;
 mod deliveries;
 mod due;
 mod effects;

@@ -1,5 +1,5 @@
 //! The states that a search has found.
-ghost use Rattle.std.specs.Prelude.{◌≡◌, ◌<◌, ◌++◌, ◌∷◌, ◌^◌, [], false, None, Some, IfNone, IfOk, IfSome, OnErr, OnOk, length};
+ghost use Rattle.std.specs.Prelude.{◌≡◌, ◌<◌, ◌++◌, ◌∷◌, ◌^◌, [], false, None, Some, IfOk, OnErr, OnOk, length};
 ghost use Rattle.l4_explore.specs.Search.{has_code, seen_at, seen_next};
 ghost use Rattle.l4_explore.specs.Views.{IsArrived, state_from};
 
@@ -136,15 +136,6 @@ impl Found {
         ensures { result ≡ has_code self.now code.now }
     {
         self.codes.find(code).is_some()
-    }
-
-    /// The place of the found state with this code, if there is one.
-    pub fn place_of(&self, code: &[u8]) -> Option<usize>
-        ensures found { IfSome result (λ place. (place < length self.now)
-            × ((seen_at self.now place).state.code ≡ code.now)) }
-        ensures absent { IfNone result (has_code self.now code.now ≡ false) }
-    {
-        self.codes.find(code)
     }
 
     /// Adds a state, found by one more entry from the state at place `from`.

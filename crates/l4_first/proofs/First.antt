@@ -1,5 +1,5 @@
 -- A step that stands alone may be told first, and the chosen steps are enough.
-use Rattle.std.proofs.Common.{subst, ◌≡◌, ℕ, zero, suc, Bool, true, false, cond, Option, Some, None, List, [], ◌∷◌, ◌++◌, length, map, refl, ap, sym, ◌∙◌, arith, inl, inr}
+use Rattle.std.proofs.Common.{subst, ◌≡◌, ℕ, zero, suc, Bool, true, false, cond, Option, Some, None, List, [], ◌∷◌, ◌++◌, length, map, refl, ap, sym, ◌∙◌, arith}
 use Rattle.std.proofs.lemmas.Bool.{not-true}
 use Rattle.std.proofs.lemmas.Option.{slice_get-map}
 use Rattle.std.specs.Prelude.{slice_get, not, ◌&&◌, find, is_some}
@@ -17,7 +17,7 @@ use Rattle.l4_worlds.specs.Late.{next_late, run_late}
 use Rattle.l4_worlds.specs.Histories.{IsTimed, IsStillLate}
 use Rattle.l4_worlds.proofs.LateWorlds.{IsKept, IsLate, late_step, late_run, opening_late}
 use Rattle.l4_worlds.proofs.Passing.{map_from}
-use Rattle.l4_first.specs.First.{is_deletable, is_orderable, is_tried, may_turn, is_undisturbed, instruction_deletes, instruction_concerns, instruction_tries, stands_alone, GoesFirst, GoesAnyway, GoesOn, ListsLate, is_next_of, is_own_of, is_quiet_of, order_deletes, order_concerns, is_zero_send_to, turn_concerns, disturbs, AreExchanged}
+use Rattle.l4_first.specs.First.{is_deletable, is_orderable, is_tried, may_turn, is_undisturbed, instruction_deletes, instruction_concerns, instruction_tries, stands_alone, GoesFirst, GoesOn, ListsLate, is_next_of, is_own_of, is_quiet_of, order_deletes, order_concerns, is_zero_send_to, turn_concerns, disturbs, AreExchanged}
 use Rattle.l4_first.proofs.Begun.{own_swaps}
 use Rattle.l4_first.proofs.Given.{quiet_swaps, same_quiet, quiet_ready, ready_undone, spares}
 use Rattle.l4_first.proofs.Next.{IsReadyNow, own_ready, nothing_undone, unlisted, same_next}
@@ -36,34 +36,29 @@ record Exchanges (m : Machine) (id : GlobalId) (own : Step) (P : World → Type 
 not_both : (o : Option World) (a : World) → o ≡ None → o ≡ Some a → ⊥
 not_both o a e f = cc
 
-goes_anyway : (m : Machine) (id : GlobalId) (own : Step) (P : World → Type 0) → Exchanges m id own P → IsTimed m → (steps : List Step) (w a z : World) → IsLate m w → P w →
-    next_late m w own ≡ Some a → run_late m w steps ≡ Some z → GoesAnyway m a z own steps
-goes_anyway m id own P x timed [] w a z late p may leads =
-    inr (record { last = a; possible = ap (λ x. next_late m x own) (sym (some_is w z leads)) ∙ may; leads = refl })
-goes_anyway m id own P x timed (s ∷ steps) w a z late p may leads =
+goes_first : (m : Machine) (id : GlobalId) (own : Step) (P : World → Type 0) → Exchanges m id own P → IsTimed m → (steps : List Step) (w a z : World) → IsLate m w → P w →
+    next_late m w own ≡ Some a → run_late m w steps ≡ Some z → next_late m z own ≡ None → GoesFirst m a z own steps
+goes_first m id own P x timed [] w a z late p may leads over =
+    absurd (not_both (next_late m z own) a over (ap (λ x. next_late m x own) (sym (some_is w z leads)) ∙ may))
+goes_first m id own P x timed (s ∷ steps) w a z late p may leads over =
     bind_then (next_late m w s) (λ u. run_late m u steps) z leads λ v goes rest.
     by v goes rest (is_next_of id s) refl
-    (λ b again. let after = late_step m P x.kept timed w v s goes late p in goes_anyway m id own P x timed steps v b z after.0 after.1 again rest)
+    (λ b again. let after = late_step m P x.kept timed w v s goes late p in goes_first m id own P x timed steps v b z after.0 after.1 again rest over)
   where
-    behind : (v : World) → AreExchanged m a v own s → (b : World) → next_late m a s ≡ Some b → GoesAnyway m b z own steps → GoesAnyway m a z own (s ∷ steps)
-    behind v swapped b second (inl more) =
-        inl (record {
-          before = s ∷ more.before;
-          after = more.after;
-          is = ap (λ xs. s ∷ xs) more.is;
-          leads = ap (λ o. o >>= λ u. run_late m u (more.before ++ more.after)) second ∙ more.leads;
-        })
-    behind v swapped b second (inr more) =
-        inr (record { last = more.last; possible = more.possible; leads = ap (λ o. o >>= λ u. run_late m u steps) second ∙ more.leads })
-
-    by : (v : World) → next_late m w s ≡ Some v → run_late m v steps ≡ Some z → (b : Bool) → is_next_of id s ≡ b → ((b : World) → next_late m v own ≡ Some b → GoesAnyway m b z own steps) → GoesAnyway m a z own (s ∷ steps)
+    by : (v : World) → next_late m w s ≡ Some v → run_late m v steps ≡ Some z → (b : Bool) → is_next_of id s ≡ b → ((b : World) → next_late m v own ≡ Some b → GoesFirst m b z own steps) → GoesFirst m a z own (s ∷ steps)
     by v goes rest true its later =
         let same : s ≡ own = x.one w a v s may its goes in
         let there : v ≡ a = some_is v a (sym goes ∙ ap (next_late m w) same ∙ may) in
-        inl (record { before = []; after = steps; is = ap (λ y. y ∷ steps) same; leads = ap (λ y. run_late m y steps) (sym there) ∙ rest })
+        record { before = []; after = steps; is = ap (λ y. y ∷ steps) same; leads = ap (λ y. run_late m y steps) (sym there) ∙ rest }
     by v goes rest false other later =
         let swapped : AreExchanged m a v own s = x.swaps w a v s late p may goes other in
-        behind v swapped swapped.meet swapped.step_second (later swapped.meet swapped.own_second)
+        let more : GoesFirst m swapped.meet z own steps = later swapped.meet swapped.own_second in
+        record {
+          before = s ∷ more.before;
+          after = more.after;
+          is = ap (λ xs. s ∷ xs) more.is;
+          leads = ap (λ o. o >>= λ u. run_late m u (more.before ++ more.after)) swapped.step_second ∙ more.leads;
+        }
 
 -- A local step, and one that gives an order
 
@@ -155,42 +150,33 @@ own_exchanges m id own free safe still is = record {
 -- Whatever stands alone
 
 reached_quiet : (m : Machine) (h : List Step) (w a z : World) (id : GlobalId) (own : Step) (steps : List Step) → IsTimed m → run_late m (opening m) h ≡ Some w → not (is_deletable m id) ≡ true → is_quiet_of id own ≡ true →
-    next_late m w own ≡ Some a → run_late m w steps ≡ Some z → GoesAnyway m a z own steps
-reached_quiet m h w a z id own steps timed was safe is may leads =
+    next_late m w own ≡ Some a → run_late m w steps ≡ Some z → next_late m z own ≡ None → GoesFirst m a z own steps
+reached_quiet m h w a z id own steps timed was safe is may leads over =
     let x = quiet_exchanges m id own (not-true (is_deletable m id) safe) is in
     let here = late_run m (IsUndeleted m id) x.kept timed h (opening m) w was (opening_late m) (opening_spared m id (order_deletes id) refl) in
-    goes_anyway m id own (IsUndeleted m id) x timed steps w a z here.0 here.1 may leads
+    goes_first m id own (IsUndeleted m id) x timed steps w a z here.0 here.1 may leads over
 
 reached_own : (m : Machine) (h : List Step) (w a z : World) (id : GlobalId) (own : Step) (steps : List Step) → IsTimed m → run_late m (opening m) h ≡ Some w → is_undisturbed m id ≡ true → is_own_of id own ≡ true →
-    next_late m w own ≡ Some a → run_late m w steps ≡ Some z → GoesAnyway m a z own steps
-reached_own m h w a z id own steps timed was safe is may leads =
+    next_late m w own ≡ Some a → run_late m w steps ≡ Some z → next_late m z own ≡ None → GoesFirst m a z own steps
+reached_own m h w a z id own steps timed was safe is may leads over =
     let last = and_true (not (is_orderable m id) && not (is_tried m id)) (not (may_turn m)) safe in
     let others = and_true (not (is_orderable m id)) (not (is_tried m id)) last.0 in
     let still = not-true (may_turn m) last.1 in
     let x = own_exchanges m id own (not-true (is_orderable m id) others.0) (not-true (is_tried m id) others.1) still is in
     let fresh : IsCalm m id (opening m) = record { spared = opening_spared m id (order_concerns id) refl; tried = opening_tries m id; owes = opening_owes m still } in
     let here = late_run m (IsCalm m id) x.kept timed h (opening m) w was (opening_late m) fresh in
-    goes_anyway m id own (IsCalm m id) x timed steps w a z here.0 here.1 may leads
+    goes_first m id own (IsCalm m id) x timed steps w a z here.0 here.1 may leads over
 
-pub alone_anyway : (m : Machine) (h : List Step) (w a z : World) (own : Step) (steps : List Step) → IsTimed m → run_late m (opening m) h ≡ Some w → stands_alone m own ≡ true →
-    next_late m w own ≡ Some a → run_late m w steps ≡ Some z → GoesAnyway m a z own steps
-alone_anyway m h w a z own steps timed was alone may leads = by own alone may
-  where
-    by : (own : Step) → stands_alone m own ≡ true → next_late m w own ≡ Some a → GoesAnyway m a z own steps
-    by (Local id) alone may = reached_quiet m h w a z id (Local id) steps timed was alone (same_is id id refl) may leads
-    by (Order caller target what) alone may = reached_quiet m h w a z caller (Order caller target what) steps timed was alone (same_is caller caller refl) may leads
-    by (Begin s) alone may = reached_own m h w a z s.thread (Begin s) steps timed was alone (same_is s.thread s.thread refl) may leads
-    by (Wait id) alone may = reached_own m h w a z id (Wait id) steps timed was alone (same_is id id refl) may leads
-    by _ alone may = cc
-
--- Where it is not possible at the end, it was told.
 pub alone_first : (m : Machine) (h : List Step) (w a z : World) (own : Step) (steps : List Step) → IsTimed m → run_late m (opening m) h ≡ Some w → stands_alone m own ≡ true →
     next_late m w own ≡ Some a → run_late m w steps ≡ Some z → next_late m z own ≡ None → GoesFirst m a z own steps
-alone_first m h w a z own steps timed was alone may leads over = by (alone_anyway m h w a z own steps timed was alone may leads)
+alone_first m h w a z own steps timed was alone may leads over = by own alone may over
   where
-    by : GoesAnyway m a z own steps → GoesFirst m a z own steps
-    by (inl first) = first
-    by (inr beside) = absurd (not_both (next_late m z own) beside.last over beside.possible)
+    by : (own : Step) → stands_alone m own ≡ true → next_late m w own ≡ Some a → next_late m z own ≡ None → GoesFirst m a z own steps
+    by (Local id) alone may over = reached_quiet m h w a z id (Local id) steps timed was alone (same_is id id refl) may leads over
+    by (Order caller target what) alone may over = reached_quiet m h w a z caller (Order caller target what) steps timed was alone (same_is caller caller refl) may leads over
+    by (Begin s) alone may over = reached_own m h w a z s.thread (Begin s) steps timed was alone (same_is s.thread s.thread refl) may leads over
+    by (Wait id) alone may over = reached_own m h w a z id (Wait id) steps timed was alone (same_is id id refl) may leads over
+    by _ alone may over = cc
 
 -- The chosen steps are enough.
 

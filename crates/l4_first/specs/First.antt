@@ -1,5 +1,5 @@
 -- A thread's own next step alone: which steps may be told first, by the scripts.
-use Rattle.std.specs.Prelude.{ℕ, ◌==◌, ◌/◌, ◌%◌, ◌^◌, ◌≡◌, ◌⊎◌, ◌&&◌, not, Bool, true, false, Option, Some, None, List, [], ◌∷◌, ◌++◌, length, find, slice_get, is_some}
+use Rattle.std.specs.Prelude.{ℕ, ◌==◌, ◌/◌, ◌%◌, ◌^◌, ◌≡◌, ◌&&◌, not, Bool, true, false, Option, Some, None, List, [], ◌∷◌, ◌++◌, length, find, slice_get, is_some}
 use Rattle.std.specs.List.{list_any}
 use Rattle.l4_model.specs.Words.{GlobalId, is_id_of, same_id}
 use Rattle.l4_model.specs.Machine.{OrderKind, Delete, To, ToId, ToLast, Instr, Set, Copy, Add, Tag, Ask, Ipc, Machine}
@@ -92,15 +92,6 @@ pub record GoesFirst (m : Machine) (a z : World) (own : Step) (steps : List Step
   pub after : List Step
   pub is : steps ≡ before ++ own ∷ after
   pub leads : run_late m a (before ++ after) ≡ Some z
-
--- It is still possible at the end. Told first, it leads to the very world that it leads to from there.
-pub record GoesBeside (m : Machine) (a z : World) (own : Step) (steps : List Step) : Type 0 where
-  pub last : World
-  pub possible : next_late m z own ≡ Some last
-  pub leads : run_late m a steps ≡ Some last
-
-abbrev pub GoesAnyway : Machine → (a z : World) → (own : Step) → List Step → Type 0
-GoesAnyway m a z own steps = GoesFirst m a z own steps ⊎ GoesBeside m a z own steps
 
 -- One of the chosen steps is possible, and from there so many more lead to that world.
 pub record GoesOn (m : Machine) (w z : World) (listed : List Step) (more : ℕ) : Type 0 where

@@ -33,7 +33,6 @@ ghost use Rattle.l4_first.specs.First.{
   AreExchanged,
   stands_alone,
   GoesFirst,
-  GoesAnyway,
   ListsLate,
   GoesOn,
 };
@@ -65,15 +64,6 @@ pub fn law_alone_first()
         IsTimed m → run_late m (opening m) h ≡ Some w → stands_alone m own ≡ true →
         next_late m w own ≡ Some a → run_late m w steps ≡ Some z → next_late m z own ≡ None →
         GoesFirst m a z own steps }
-{}
-
-/// The same of each way on, wherever it leads: either it has the step, and the step may stand first;
-/// or the step is still possible at its end, and leads from there to where the way leads from behind
-/// the step.
-pub fn law_alone_anyway()
-    ensures { (m : Machine) (h : List Step) (w a z : World) (own : Step) (steps : List Step) →
-        IsTimed m → run_late m (opening m) h ≡ Some w → stands_alone m own ≡ true →
-        next_late m w own ≡ Some a → run_late m w steps ≡ Some z → GoesAnyway m a z own steps }
 {}
 
 /// Of all steps that are possible late in such a world the chosen ones are enough: where some steps

@@ -182,19 +182,6 @@ impl Head {
         }
     }
 
-    /// A copy.
-    fn duplicate(&self) -> Head
-        ensures { result ≡ self.now }
-    {
-        Head {
-            label: self.label,
-            words: self.words,
-            propagated: self.propagated,
-            shown: self.shown,
-            actual: self.actual,
-        }
-    }
-
     /// Where the words are.
     pub(crate) fn words(&self) -> Words
         ensures value { result ≡ self.now.words }
@@ -271,19 +258,6 @@ impl Send {
             period,
             since,
             receive,
-        }
-    }
-
-    /// A copy.
-    pub(crate) fn duplicate(&self) -> Send
-        ensures { result ≡ self.now }
-    {
-        Send {
-            to: self.to,
-            head: self.head.duplicate(),
-            period: self.period,
-            since: self.since,
-            receive: self.receive,
         }
     }
 

@@ -74,23 +74,6 @@ impl Tcb {
         }
     }
 
-    /// A copy.
-    pub fn duplicate(&self) -> Tcb
-        ensures { result ≡ self.now }
-    {
-        let mut apart = ArrayVec::new();
-        apart.try_extend_from_slice(self.apart.as_slice()).unwrap();
-        Tcb {
-            thread: self.thread.duplicate(),
-            phase: self.phase,
-            send: self.send.as_ref().map(|send| send.duplicate()),
-            apart,
-            order: self.order,
-            cancel_send: self.cancel_send,
-            cancel_receive: self.cancel_receive,
-        }
-    }
-
     /// The thread's id.
     pub fn id(&self) -> GlobalId
         ensures { result ≡ self.now.id }

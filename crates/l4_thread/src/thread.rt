@@ -65,18 +65,6 @@ impl Thread {
         }
     }
 
-    /// A copy.
-    pub(crate) fn duplicate(&self) -> Thread
-        ensures { result ≡ self.now }
-    {
-        Thread {
-            id: self.id,
-            regs: self.regs,
-            place: self.place,
-            begun: self.begun,
-        }
-    }
-
     /// The thread's id.
     pub fn id(&self) -> GlobalId
         ensures { result ≡ self.now.id }

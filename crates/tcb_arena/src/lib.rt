@@ -78,14 +78,6 @@ struct Sender {
     local: bool,
 }
 
-fn copied(alloc: Global, senders: &[Sender]) -> Result<Vec<Sender>, NoMemory>
-    ensures { IfOk result (λ copy. copy.items ≡ senders.now) }
-{
-    let mut copy = Vec::with_capacity(alloc, senders.len())?;
-    copy.extend_from_slice(senders)?;
-    Ok(copy)
-}
-
 /// A fixed number of blocks, numbered from 0. A block waits in one list at most, and stands once at
 /// most among the ready ones and among the armed ones.
 #[derive(Drop)]
@@ -124,18 +116,6 @@ impl Arena {
             senders,
             ready,
             wheel,
-        })
-    }
-
-    /// A copy.
-    pub fn try_clone(&self, alloc: Global) -> Result<Arena, NoMemory>
-        ensures { IfOk result (λ copy. copy ≡ self.now) }
-    {
-        Ok(Arena {
-            waiting: self.waiting.try_clone()?,
-            senders: copied(alloc, &self.senders)?,
-            ready: self.ready.try_clone()?,
-            wheel: self.wheel.try_clone()?,
         })
     }
 

@@ -57,17 +57,6 @@ impl Rings {
         Ok(Rings { names, next, prev })
     }
 
-    /// A copy.
-    pub fn try_clone(&self) -> Result<Rings, NoMemory>
-        ensures { IfOk result (λ copy. copy ≡ self.now) }
-    {
-        Ok(Rings {
-            names: self.names,
-            next: self.next.clone()?,
-            prev: self.prev.clone()?,
-        })
-    }
-
     /// How many names there are.
     pub fn names(&self) -> usize
         ensures value { result ≡ self.now.names }

@@ -73,20 +73,6 @@ impl Wheel {
         })
     }
 
-    /// A copy.
-    pub fn try_clone(&self) -> Result<Wheel, NoMemory>
-        ensures { IfOk result (λ copy. copy ≡ self.now) }
-    {
-        Ok(Wheel {
-            deadlines: self.deadlines.clone()?,
-            rings: self.rings.try_clone()?,
-            filled: self.filled,
-            floors: self.floors,
-            floor: self.floor,
-            first: self.first,
-        })
-    }
-
     /// Whether a block is armed.
     pub fn is_armed(&self, block: usize) -> bool
         requires { block < self.now.blocks }

@@ -6,6 +6,7 @@ pub mod Drawing
 pub mod Faults
 pub mod Making
 pub mod Judged
+pub mod Keeping
 pub mod Linting
 pub mod Listed
 pub mod Performed

@@ -11,6 +11,7 @@ pub mod Performing
 pub mod Reading
 pub mod Records
 pub mod Refusals
+pub mod Rounds
 pub mod Runs
 pub mod Schedules
 pub mod Searches

@@ -248,8 +248,10 @@ fn put_fault<E: Sink>(faults: &mut E, fault: &Fault<'_>) -> Result<(), NotWritte
     }
 }
 
-// The line of a fault.
-pub(crate) fn line_of(alloc: Global, fault: &Fault<'_>) -> Result<Vec<u8>, NoMemory>
+/// The line of a fault.
+///
+/// `NoMemory`: memory was refused.
+pub fn line_of(alloc: Global, fault: &Fault<'_>) -> Result<Vec<u8>, NoMemory>
     ensures { IfOk result (λ line. line.items ≡ fault_line fault.now) }
 {
     let mut line = Vec::new(alloc);

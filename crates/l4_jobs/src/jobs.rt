@@ -70,7 +70,7 @@ fn done_on<'a, R: Threads + Sync, S: Source, P: Progress>(
 }
 
 // Whether the report of one run or those of all endings have to meet what is expected.
-fn scope_of(job: &Job<'_>) -> Scope
+pub(crate) fn scope_of(job: &Job<'_>) -> Scope
     ensures { result ≡ scope_of job.now }
 {
     match job {
@@ -148,7 +148,7 @@ fn done_for<'a, R: Threads + Sync, S: Source, X: Source, P: Progress>(
 }
 
 // What a job comes to for a text with a fault.
-fn done_without<'a>(
+pub(crate) fn done_without<'a>(
     alloc: Global,
     job: &Job<'_>,
     text: &[u8],

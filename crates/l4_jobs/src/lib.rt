@@ -31,6 +31,7 @@ mod lints;
 pub mod perform;
 mod reading;
 pub mod refusal;
+pub mod rounds;
 mod runs;
 mod schedules;
 mod searches;

@@ -1,5 +1,5 @@
 -- What a search of all worlds goes on by, as entries.
-use Rattle.std.specs.Prelude.{ℕ, ◌≡◌, ◌+◌, ◌≤◌, Option, Some, IsSome, Vec, List, filter_map, length, map}
+use Rattle.std.specs.Prelude.{ℕ, ◌≡◌, ◌+◌, ◌≤◌, Option, Some, IsSome, Vec, List, filter_map, length, map, take}
 use Rattle.std.specs.List.{AllByRecursion}
 use Rattle.std.specs.Option.{option_map}
 use Rattle.std.proofs.Common.{Global}
@@ -8,6 +8,7 @@ use Rattle.l4_model.specs.World.{World}
 use Rattle.l4_explore.specs.Tries.{Next, deepest}
 use Rattle.l4_futures.specs.Choices.{Choice, after_entry, world_after}
 use Rattle.l4_futures.specs.Search.{nexts, state_in}
+use Rattle.l4_outlooks.specs.Foreseen.{Foreseen, IsLed}
 
 -- The state that an entry leads to from a world.
 abbrev pub next_at : Machine → World → ℕ → Option Next
@@ -23,6 +24,10 @@ entries_of choices = map (λ c. c.entry) choices
 -- Each of these entries is possible.
 abbrev pub AreOpen : Machine → World → List ℕ → Type 0
 AreOpen m w entries = AllByRecursion (λ entry. IsSome (after_entry m w entry)) entries
+
+-- As many of these entries lead here as led here.
+abbrev pub IsOnWay : Machine → List ℕ → Foreseen → Type 0
+IsOnWay m entries o = IsLed m (take o.taken entries) o
 
 -- These are the choices of the world that entries lead to.
 pub record AreChoicesAfter (m : Machine) (entries : List ℕ) (choices : List Next) : Type 0 where

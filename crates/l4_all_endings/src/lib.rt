@@ -17,6 +17,7 @@
 mod search;
 mod traces;
 mod tried;
+mod way;
 
 pub use search::{FoundEndings, all_endings};
 pub use traces::trace_of;

@@ -8,6 +8,7 @@ ghost use Rattle.l4_outlooks.specs.Foreseen.{IsLed};
 ghost use Rattle.l4_outlooks.specs.Standing.{left_alone};
 ghost use Rattle.l4_all_endings.specs.Tried.{next_at, nexts_at, AreChoicesAfter, AreOpen};
 
+use crate::way::Way;
 use l4_explore::found::Found;
 use l4_explore::tries::{Choice, Reached, Tries};
 use l4_outlooks::{Alone, Outlook, know_times};
@@ -20,6 +21,7 @@ use std::alloc::{AllocError, Global};
 pub(crate) struct Worlds<'m> {
     machine: &'m Machine,
     alone: Alone,
+    way: Way<'m>,
     ghost coded: { AreCoded (state_after machine.now) },
     ghost known: { alone ≡ left_alone machine.now },
 }
@@ -32,19 +34,23 @@ impl<'m> Worlds<'m> {
     {
         know_times(machine);
         let alone = Alone::new(alloc, machine)?;
-        Ok(Worlds { machine, alone })
+        Ok(Worlds {
+            machine,
+            alone,
+            way: Way::new(alloc, machine),
+        })
     }
 
     // The choices of the world that these entries lead to.
-    fn choices_after(&self, alloc: Global, entries: &[u32]) -> Result<Vec<Choice>, NoMemory>
+    fn choices_after(&mut self, alloc: Global, entries: &[u32]) -> Result<Vec<Choice>, NoMemory>
         requires leads { IsSome (world_after self.now.machine.now entries.now) }
         requires few { length entries.now + 1 < 2 ^ 20 }
         ensures { IfOk result (λ choices.
             AreChoicesAfter self.now.machine.now entries.now (map next_from choices.items)) }
     {
-        let outlook = outlook_after(alloc, self.machine, entries)?;
+        let outlook = self.way.outlook(alloc, entries)?;
         let tried = outlook.choices(alloc, &self.alone)?;
-        let choices = choices_by(alloc, self.machine, entries, outlook, &tried)?;
+        let choices = choices_by(alloc, outlook, &tried)?;
         Ok(choices)
     }
 }
@@ -64,7 +70,7 @@ impl<'m> Tries for Worlds<'m> {
     }
 
     fn choices(
-        &self,
+        &mut self,
         alloc: Global,
         found: &Found,
         place: usize,
@@ -88,23 +94,6 @@ fn reached(alloc: Global, outlook: &Outlook<'_>) -> Result<Reached, AllocError>
     })
 }
 
-// The world that entries lead to.
-fn outlook_after<'m>(
-    alloc: Global,
-    machine: &'m Machine,
-    entries: &[u32],
-) -> Result<Outlook<'m>, NoMemory>
-    requires leads { IsSome (world_after machine.now entries.now) }
-    requires few { length entries.now < 2 ^ 20 }
-    ensures { IfOk result (IsLed machine.now entries.now) }
-{
-    let mut outlook = Outlook::new(alloc, machine)?;
-    for entry in entries {
-        outlook.take(*entry)?;
-    }
-    Ok(outlook)
-}
-
 // The state that one more entry leads to.
 fn choice_by(alloc: Global, outlook: Outlook<'_>, entry: u32) -> Result<Choice, NoMemory>
     requires possible { IsSome (after_entry outlook.machine outlook.world entry) }
@@ -122,8 +111,6 @@ fn choice_by(alloc: Global, outlook: Outlook<'_>, entry: u32) -> Result<Choice, 
 // lead.
 fn choices_by(
     alloc: Global,
-    machine: &Machine,
-    entries: &[u32],
     outlook: Outlook<'_>,
     tried: &[u32],
 ) -> Result<Vec<Choice>, NoMemory>
@@ -138,8 +125,8 @@ fn choices_by(
         return Ok(choices);
     };
     for entry in others {
-        let again = outlook_after(alloc, machine, entries)?;
-        choices.push(choice_by(alloc, again, *entry)?)?;
+        let copy = outlook.try_clone(alloc)?;
+        choices.push(choice_by(alloc, copy, *entry)?)?;
     }
     choices.push(choice_by(alloc, outlook, *last)?)?;
     Ok(choices)

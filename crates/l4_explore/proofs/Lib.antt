@@ -1,5 +1,6 @@
 pub mod Orders
 mod Listed
+pub mod Lasting
 mod Trying
 mod Exploring
 pub mod Covering

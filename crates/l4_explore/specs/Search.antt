@@ -41,6 +41,12 @@ pub record AreFound (state_of : List ℕ → Option State) (found : List Seen) :
 abbrev pub Offers : Type 1
 Offers = (before : List Seen) → (seen : Seen) → (choices : List Next) → Type 0
 
+-- Both say the same of all choices.
+abbrev pub OfferTheSame : Offers → Offers → Type 0
+OfferTheSame a b =
+    (before : List Seen) (seen : Seen) (choices : List Next) →
+    (a before seen choices → b before seen choices) × (b before seen choices → a before seen choices)
+
 -- Each of these choices of a schedule leads to a found state, which was found no later than by it.
 abbrev pub AreMet : List Seen → (schedule : List ℕ) → List Next → Type 0
 AreMet found schedule choices =

@@ -8,7 +8,7 @@
 //! (`AreAllEnds`).
 //!
 //! ```rust
-//! let explored = explore(alloc, &walk, 10, 100, &mut Unheard)?;
+//! let explored = explore(alloc, &mut walk, 10, 100, &mut Unheard)?;
 //! let schedule = explored.found.schedule(alloc, 4)?; // of the fifth state
 //! ```
 #![tactic(auto)]

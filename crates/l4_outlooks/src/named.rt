@@ -1,12 +1,12 @@
 //! The steps that entries name.
-ghost use Rattle.std.specs.Prelude.{◌≡◌, ◌<◌};
+ghost use Rattle.std.specs.Prelude.{◌≡◌, ◌<◌, false, get_or};
 ghost use Rattle.std.specs.Option.{option_map};
 ghost use Rattle.l4_model.specs.Conditions.{act_of, found_at};
 ghost use Rattle.l4_model.specs.Steps.{order_of};
 ghost use Rattle.l4_types.specs.StepView.{seen};
 ghost use Rattle.l4_audit.specs.Possible.{coming_name, last_name};
-ghost use Rattle.l4_futures.specs.Choices.{kinds, order_step, step_at, step_of};
-ghost use Rattle.l4_outlooks.specs.Named.{if_told};
+ghost use Rattle.l4_futures.specs.Choices.{kinds, order_step};
+ghost use Rattle.l4_outlooks.specs.Named.{if_told, in_for, named_step, own_step};
 
 use l4_audit::found::Found;
 use l4_audit::world::World;
@@ -16,10 +16,10 @@ use l4_types::steps::Name;
 /// The number of entries of a thread: one for each kind of step, in the order of the table of steps.
 pub(crate) const KINDS: u32 = 14;
 
-/// The step that an entry names, possible or not, if a trace can tell it. Entries of threads come
-/// first, then those of owed retargets.
+/// The step that an entry names, if its thread is in for a step of this kind, and a trace can tell
+/// it. All others are not possible. Entries of threads come first, then those of owed retargets.
 pub(crate) fn named<'a>(world: &'a World<'_>, entry: u32) -> Option<StepRef<'a>>
-    ensures { option_map seen result ≡ if_told (step_at world.now.machine world.now.world entry) }
+    ensures { option_map seen result ≡ if_told (named_step world.now.machine world.now.world entry) }
 {
     let owned = world.machine().threads().len() as u32 * KINDS;
     if entry < owned {
@@ -30,13 +30,16 @@ pub(crate) fn named<'a>(world: &'a World<'_>, entry: u32) -> Option<StepRef<'a>>
     }
 }
 
-// The step of a kind of the thread at a place.
+// The step of a kind of the thread at a place, if it is in for it.
 fn own_step<'a>(world: &'a World<'_>, place: usize, kind: u32) -> Option<StepRef<'a>>
     requires { kind < kinds }
-    ensures { option_map seen result ≡ if_told (step_of world.now.machine world.now.world
+    ensures { option_map seen result ≡ if_told (own_step world.now.machine world.now.world
         (found_at world.now.machine world.now.world place) kind) }
 {
     let thread = world.found_at(place)?;
+    if !is_in_for(&thread, kind) {
+        return None;
+    }
     let id = thread.id();
     match kind {
         0 => Some(StepRef::Local(id)),
@@ -53,6 +56,19 @@ fn own_step<'a>(world: &'a World<'_>, place: usize, kind: u32) -> Option<StepRef
         11 => Some(StepRef::Drop(last_name(&thread)?)),
         12 => order(world, &thread),
         _ => Some(StepRef::Obey(id)),
+    }
+}
+
+// Whether a thread is in for a kind of step: only then that may be possible.
+fn is_in_for(thread: &Found, kind: u32) -> bool
+    requires { kind < kinds }
+    ensures { result ≡ get_or (in_for thread.now.now) kind false }
+{
+    match kind {
+        0 | 1 | 4 | 12 => thread.is_ready(),
+        2 | 3 | 5 | 7 | 9 | 11 => thread.pending().is_some(),
+        6 | 8 | 10 => thread.receiving().is_some(),
+        _ => thread.asked().is_some(),
     }
 }
 

@@ -56,6 +56,22 @@ impl<'m> Outlook<'m> {
         Ok(Outlook { world, taken: 0 })
     }
 
+    /// A copy.
+    pub fn try_clone(&self, alloc: Global) -> Result<Outlook<'m>, NoMemory>
+        ensures { IfOk result (λ copy. copy ≡ self.now) }
+    {
+        let world = self.world.try_clone(alloc)?;
+        Ok(Outlook {
+            world,
+            taken: self.taken,
+        })
+    }
+
+    /// How many entries led here.
+    pub fn taken(&self) -> u32 {
+        self.taken
+    }
+
     /// Goes on by an entry that is possible here. If memory is refused, nothing changes.
     pub fn take(&mut self, entry: u32) -> Result<(), NoMemory>
         requires possible { IsSome (after_entry self.old.machine self.old.world entry) }
@@ -63,8 +79,18 @@ impl<'m> Outlook<'m> {
         ensures ok { OnOk result (IsBehind self.old entry self.new) }
         ensures err { OnErr result (self.new ≡ self.old) }
     {
-        if let Some(step) = self.step(entry) {
-            self.world.take_late(&StepRef::from(&step))?;
+        let Some(step) = named(&self.world, entry) else {
+            return Ok(());
+        };
+        let taken = match step.as_delivery() {
+            Ok(delivery) => {
+                let delivery = delivery.to_delivery();
+                let step = Step::Deliver(delivery);
+                self.world.take_late(&StepRef::from(&step))?
+            }
+            Err(step) => self.world.take_late(&step)?,
+        };
+        if taken {
             self.taken += 1;
         }
         Ok(())
@@ -82,6 +108,7 @@ impl<'m> Outlook<'m> {
     fn open_step(&self, entry: u32) -> Option<StepRef<'_>>
         ensures { option_map seen result ≡ open_step self.now.machine self.now.world entry }
     {
+        self.world.machine().facts();
         let step = named(&self.world, entry)?;
         if self.world.is_possible_late(&step) {
             Some(step)

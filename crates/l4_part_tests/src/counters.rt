@@ -28,7 +28,7 @@ impl Tries for Counters {
     }
 
     fn choices(
-        &self,
+        &mut self,
         alloc: Global,
         found: &Found,
         place: usize,
@@ -66,7 +66,7 @@ fn choice(alloc: Global, entry: u32, left: u8, right: u8) -> Result<Choice, Allo
 fn explore_counters(alloc: Global, depth: u32) -> Result<Explored, AllocError>
     ensures { IfOk result (λ r. AreAllEnds EndsIn (at 0 0) r.found r.depth r.is_whole) }
 {
-    explore(alloc, &Counters, depth, 100, &mut Unheard)
+    explore(alloc, &mut Counters, depth, 100, &mut Unheard)
 }
 
 #[test]

@@ -37,7 +37,7 @@ def reached(below, top):
 
 def main(program, version, epoch):
     below = crates()
-    found = reached(below, "l4run")
+    found = reached(below, "l4run") | reached(below, "l4_c") | {"l4_c"}
     kit = line_of("rt", "version")
     own = sorted(found & below.keys())
     of_kit = ["std", *sorted(found - below.keys())]

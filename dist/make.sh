@@ -1,7 +1,7 @@
 #!/usr/bin/env bash
 # Makes what is handed to those who do not have the toolchain, in dist/out: a static program, a .deb, a tarball, the page, an npm package, their
-# SHA-256 and a bill of materials. It is made from the proved program, or with --unproved from the same code without a proof. Two calls write
-# the same bytes.
+# SHA-256 and a bill of materials. The .deb and the tarball have the library for other languages too. It is made from the proved program, or with
+# --unproved from the same code without a proof. Two calls write the same bytes.
 set -eu -o pipefail
 here=$(dirname "$(readlink -f "$0")")
 top=$(dirname "$here")
@@ -57,6 +57,7 @@ fill_tree() {
     install -D -m 644 "$here/vim/syntax/l4.vim" "$tree/usr/share/vim/vimfiles/syntax/l4.vim"
     install -D -m 644 "$here/vim/ftdetect/l4.vim" "$tree/usr/share/vim/vimfiles/ftdetect/l4.vim"
     install -D -m 644 "$here/textmate/l4.tmLanguage.json" "$doc/l4.tmLanguage.json"
+    fill_library "$tree"
     for page in FORMATS MODEL NAMES PROOFS BELIEVED; do
         install -m 644 "$top/docs/$page.md" "$doc/$page.md"
     done
@@ -65,6 +66,18 @@ fill_tree() {
     install -m 644 "$out/l4run-$version.cdx.json" "$doc/sbom.cdx.json"
     install -D -m 644 -t "$doc/examples" "$top"/examples/*
     echo "$licence" >"$doc/copyright"
+}
+
+# The library for programs in other languages: for a linker where it looks for one, for a loader in a folder of its own.
+fill_library() {
+    local tree=$1 doc=$1/usr/share/doc/l4run/bindings lib=$1/usr/lib/x86_64-linux-gnu from=$top/bindings
+    install -D -m 644 "$from/include/l4emu.h" "$tree/usr/include/l4emu.h"
+    install -D -m 644 "$from/out/libl4emu.a" "$lib/libl4emu.a"
+    install -D -m 644 "$from/out/libl4emu.so" "$lib/l4run/libl4emu.so"
+    install -D -m 644 "$from/README.md" "$doc/README.md"
+    install -D -m 644 "$from/python/l4emu.py" "$doc/python/l4emu.py"
+    install -D -m 644 -t "$doc/rust/l4emu" "$from"/rust/l4emu/{Cargo.toml,Cargo.lock,build.rs}
+    install -D -m 644 -t "$doc/rust/l4emu/src" "$from/rust/l4emu/src/lib.rs"
 }
 
 dated() {
@@ -101,6 +114,7 @@ Maintainer: $maintainer
 Installed-Size: $(du -sk --apparent-size "$tree/usr" | cut -f1)
 Section: devel
 Priority: optional
+Depends: libc6 (>= 2.14)
 Description: emulator of the Ipc system call of L4 X.2
  It runs machine texts (threads, and the Ipc calls that each makes), prints
  each step, and finds who waits for whom. It replays and audits traces, draws
@@ -135,6 +149,7 @@ END
 }
 
 "$top/page/make.py" "$out/l4run.html" $proof
+"$top/bindings/make.py" $proof
 static_program "$out/l4run"
 "$here/bill.py" "$out/l4run" "$version" "$SOURCE_DATE_EPOCH" >"$out/l4run-$version.cdx.json"
 fill_tree "$work/tree"

@@ -99,13 +99,18 @@ def bash(verbs, helps):
     return "\n".join(lines) + "\n"
 
 
-def in_quotes(text):
-    """A text between single quotes, without what zsh and fish read otherwise."""
-    return text.replace("'", "").replace("[", "(").replace("]", ")").replace(":", ";").replace("`", "")
+def in_zsh(text):
+    """A text between single quotes and square brackets."""
+    return text.replace("'", "").replace("[", "(").replace("]", ")").replace("`", "")
+
+
+def in_fish(text):
+    """A text between single quotes."""
+    return text.replace("\\", "\\\\").replace("'", "\\'").replace("`", "")
 
 
 def zsh(verbs, helps):
-    listed = " ".join(f"'{verb}:{in_quotes(what)}'" for verb, what in verbs)
+    listed = " ".join(f"'{verb}:{in_zsh(what)}'" for verb, what in verbs)
     lines = ["#compdef l4run", "local -a verbs", f"verbs=({listed})"]
     lines += ["if (( CURRENT == 2 )); then _describe command verbs; return; fi", "case $words[2] in"]
     for it in helps:
@@ -113,7 +118,7 @@ def zsh(verbs, helps):
         for _, name, value, what in it.options:
             names = "_files" if value in FILES else "{compset -P @ && _files}" if value == LIST else ""
             place = f":{value}:{names}" if value else ""
-            words.append(f"'--{name}[{in_quotes(what)}]{place}'")
+            words.append(f"'--{name}[{in_zsh(what)}]{place}'")
         words += [f"'{place}:{name}:_files'" for place, (name, _) in enumerate(it.arguments, 1)]
         lines += [f"{it.verb}) shift words; (( CURRENT-- )); _arguments {' '.join(words)} ;;"]
     lines += [f"help) _values command {' '.join(it.verb for it in helps)} ;;", "esac"]
@@ -124,13 +129,13 @@ def fish(verbs, helps):
     # What stands behind `@` is completed as the name of a file is.
     behind = """string match -q '@*' -- $word; and __fish_complete_path (string sub -s 2 -- $word) | string replace -r '^' '@'"""
     lines = ["function __l4run_list", "    set -l word (commandline -ct)", f"    {behind}", "end", "complete -c l4run -f"]
-    lines += [f"complete -c l4run -n __fish_use_subcommand -a {verb} -d '{in_quotes(what)}'" for verb, what in verbs]
+    lines += [f"complete -c l4run -n __fish_use_subcommand -a {verb} -d '{in_fish(what)}'" for verb, what in verbs]
     for it in helps:
         seen = f"complete -c l4run -n '__fish_seen_subcommand_from {it.verb}'"
         for short, name, value, what in it.options:
             flag = f" -s {short}" if short else ""
             takes = (" -r" if value else "") + (" -F" if value in FILES else " -a '(__l4run_list)'" if value == LIST else "")
-            lines.append(f"{seen} -l {name}{flag}{takes} -d '{in_quotes(what)}'")
+            lines.append(f"{seen} -l {name}{flag}{takes} -d '{in_fish(what)}'")
         lines.append(f"{seen} -F")
     names = " ".join(it.verb for it in helps)
     lines.append(f"complete -c l4run -n '__fish_seen_subcommand_from help; and not __fish_seen_subcommand_from {names}' -a '{names}'")

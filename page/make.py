@@ -24,7 +24,7 @@ sys.path.insert(0, str(HERE / "module"))
 import module  # noqa: E402
 
 # What a worker has, and what the page has, in this order.
-WORKER = ["../module/call.js", "reading.js", "next.js", "possible.js", "rest.js", "worker.js"]
+WORKER = ["../module/call.js", "reading.js", "possible.js", "worker.js"]
 SCRIPT = [
     "reading.js",
     "places.js",

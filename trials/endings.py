@@ -6,12 +6,13 @@
 Each ending, a world in which nothing but clocks can go on, is printed once with its report, the shortest first: whatever the scheduler does and whatever time passes, with the
 number of steps that lead there, ticks not counted; or with --placed of core runs whose ticks go to the least deadline of their processor, with the first schedule that leads
 there. The last line says how many worlds or states there are, how deep all were found, and whether there are no more. --trace prints the trace of one ending in place of all
-else. With --waits who waits for whom stands behind each report. What of NAME an ending does not meet is told on standard error. Faults but that of --trace are not told as
-the program tells them.
+else. With --stuck, but with neither --placed, --with nor --never, a line behind the endings tells of each thread that may be stuck for ever, and --trace counts these on. With
+--waits who waits for whom stands behind each report. What of NAME an ending does not meet is told on standard error. Faults but that of --trace are not told as the program tells
+them.
 """
 
 import argparse
-import dataclasses
+import functools
 import pathlib
 import sys
 
@@ -78,20 +79,37 @@ def is_asked(asked, ending):
     )
 
 
-@dataclasses.dataclass(frozen=True)
-class Found:
-    """What a search found: all endings, the lines behind them, and whether there are no more."""
+NO_STUCK = worlds.Stuck([], True)
 
-    endings: list
-    last: str
-    is_whole: bool
+
+class Found:
+    """What a search found: all endings, the lines behind them, whether there are no more, and which threads are stuck for ever: these are looked for where they are asked for."""
+
+    def __init__(self, endings, last, is_whole, look_for_stuck):
+        self.endings = endings
+        self.last = last
+        self.is_whole = is_whole
+        self.look_for_stuck = look_for_stuck
+
+    @functools.cached_property
+    def stuck(self):
+        return self.look_for_stuck()
+
+    def stuck_by(self, asked):
+        """No thread is told where an ending is asked for by a line."""
+        return self.stuck if asked.stuck and asked.with_line is None and asked.never is None else NO_STUCK
+
+
+def stuck_text(stuck):
+    lines = [f"stuck {words.spelled(thread)} for ever, steps {found.steps}\n" for thread, found in stuck.threads]
+    return "".join(lines) + ("" if stuck.is_whole else "stuck for ever: cut\n")
 
 
 def found_placed(machine, asked):
     found = searches.search(machine, asked.depth, asked.states)
     endings = [Ending(machine, searches.walk(machine, state.choices).history, ",".join(map(str, state.choices))) for state in found.endings()]
     last = f"states {len(found.states)} depth {found.depth} {whole_of_placed(machine) if found.is_whole else 'cut'}\n"
-    return Found(endings, last, found.is_whole)
+    return Found(endings, last, found.is_whole, lambda: NO_STUCK)
 
 
 def whole_of_placed(machine):
@@ -101,10 +119,12 @@ def whole_of_placed(machine):
 
 
 def found_anywhere(machine, asked):
-    found = worlds.search(machine, asked.depth, asked.states, worlds.Reduction(machine))
+    limits = asked.depth, asked.states, worlds.Reduction(machine)
+    found = worlds.search(machine, *limits)
     endings = [Ending(machine, ending.history(), f"steps {ending.steps}") for ending in found.endings()]
     last = "" if endings or not found.is_whole else "no ending: it goes on for ever\n"
-    return Found(endings, last + f"worlds {len(found.worlds)} steps {found.steps} {'whole' if found.is_whole else 'cut'}\n", found.is_whole)
+    last += f"worlds {len(found.worlds)} steps {found.steps} {'whole' if found.is_whole else 'cut'}\n"
+    return Found(endings, last, found.is_whole, lambda: worlds.stuck(machine, *limits))
 
 
 def answer(text, asked):
@@ -124,28 +144,28 @@ def found_in(text, asked):
 
 
 def answer_of(found, asked, expected):
-    endings = [ending for ending in found.endings if is_asked(asked, ending)]
+    endings, stuck = [ending for ending in found.endings if is_asked(asked, ending)], found.stuck_by(asked)
     if asked.trace is not None:
-        return trace_answer(endings, asked.trace)
+        return trace_answer([ending.history for ending in endings] + [place.history() for _, place in stuck.threads], asked.trace)
     lines = "".join(ending.text(number, asked.waits) for number, ending in enumerate(endings, 1))
     unmet = "".join(ending.unmet(number, expected) for number, ending in enumerate(endings, 1))
-    return lines + found.last, unmet, UNMET if unmet else status_of(asked, endings, found.is_whole)
+    return lines + stuck_text(stuck) + found.last, unmet, UNMET if unmet else status_of(asked, endings, stuck, found.is_whole)
 
 
-def trace_answer(endings, number):
-    if not 1 <= number <= len(endings):
+def trace_answer(histories, number):
+    if not 1 <= number <= len(histories):
         return "", OUT_OF_RANGE, FAULT
-    return traces.text(endings[number - 1].history), "", WHOLE
+    return traces.text(histories[number - 1]), "", WHOLE
 
 
-def status_of(asked, endings, is_whole):
-    if asked.none and endings:
+def status_of(asked, endings, stuck, is_whole):
+    if asked.none and (endings or stuck.threads):
         return FOUND
     if asked.some and endings:
         return WHOLE
     if asked.some and is_whole:
         return MISSED
-    return WHOLE if is_whole else CUT
+    return WHOLE if is_whole and stuck.is_whole else CUT
 
 
 def number(word):

@@ -53,7 +53,8 @@ def endings(program, text, words, *form):
     if status not in (WHOLE, FOUND):
         sys.exit(f"{text} {form} {words}: status {status}\n{said}")
     found = len(re.findall(r"^ending \d", said, re.MULTILINE))
-    if (status == FOUND) != (found > 0):
+    is_told = found > 0 or re.search(r"^stuck \S+ for ever, steps", said, re.MULTILINE) is not None
+    if (status == FOUND) != is_told:
         sys.exit(f"{text} {form} {words}: status {status} does not fit\n{said}")
     return Answer(found, number(r"^(?:worlds|states) (\d+) (?:steps|depth) \d+ whole", said))
 

@@ -32,7 +32,9 @@ function writeAll(fd, bytes) {
     }
 }
 
-run(words, files).then(({ status, out, faults, recorded }) => {
+// How far a search has come, where that can be shown.
+const tell = process.stderr.isTTY && process.env.TERM !== "dumb" ? (line) => fs.writeSync(2, line) : undefined;
+run(words, files, undefined, tell).then(({ status, out, faults, recorded }) => {
     if (record && recorded.length) fs.writeFileSync(record, recorded);
     writeAll(1, out);
     writeAll(2, faults);

@@ -5,8 +5,8 @@ const { call } = require("./call.js");
 
 let compiled;
 
-// Answers { status, out, faults, recorded }, the last three in bytes.
-exports.run = async (words, files = {}, limit) => {
+// Answers { status, out, faults, recorded }, the last three in bytes. `tell` hears once a second how far a search has come.
+exports.run = async (words, files = {}, limit, tell) => {
     compiled ??= await WebAssembly.compile(fs.readFileSync(path.join(__dirname, "l4run.wasm")));
-    return call(compiled, words, files, limit);
+    return call(compiled, words, files, limit, tell);
 };

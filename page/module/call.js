@@ -1,10 +1,12 @@
 // One call of the program. Each has an instance of the module of its own, so nothing is kept between two of them.
 //
 // `words` are those of the command line behind the program's name, `files` what the names in them stand for, as texts or bytes. Names with
-// the very same bytes are of one file. `/dev/stdin` is the standard input. With `limit` no more memory than so many bytes is taken.
-async function call(compiled, words, files, limit) {
-    const instance = await WebAssembly.instantiate(compiled, {});
-    const { memory, l4_room, l4_call, l4_at, l4_length, l4_limit, l4_is_over, l4_status } = instance.exports;
+// the very same bytes are of one file. `/dev/stdin` is the standard input. With `limit` no more memory than so many bytes is taken. `tell` hears
+// once a second how far a search has come, as the program says that on a terminal.
+async function call(compiled, words, files, limit, tell) {
+    const told = (at, length) => tell(new TextDecoder().decode(new Uint8Array(memory.buffer, Number(at), Number(length))));
+    const instance = await WebAssembly.instantiate(compiled, { host: { now: () => BigInt(Date.now()), tell: told } });
+    const { memory, l4_room, l4_call, l4_at, l4_length, l4_limit, l4_tell, l4_is_over, l4_status } = instance.exports;
     const encoder = new TextEncoder();
     const bytesOf = (text) => (typeof text === "string" ? encoder.encode(text) : text);
     const joined = (parts) => {
@@ -35,6 +37,7 @@ async function call(compiled, words, files, limit) {
     const lineAt = put(line);
     const givenAt = put(given);
     if (limit) l4_limit(BigInt(limit));
+    if (tell) l4_tell();
     let status;
     try {
         status = l4_call(lineAt, BigInt(line.length), givenAt, BigInt(given.length));

@@ -1,5 +1,5 @@
-// What the program wants of a system, for a WebAssembly module that imports nothing: a heap, the words of a command line, and files
-// that lie in memory. A call is made by l4_call, once in the life of an instance.
+// What the program wants of a system, for a WebAssembly module: a heap, the words of a command line, and files that lie in memory. A call is
+// made by l4_call, once in the life of an instance. Two functions of the host are imported, for what is told while a search is under way.
 typedef unsigned char u8;
 typedef unsigned int u32;
 typedef unsigned long u64;
@@ -7,6 +7,14 @@ typedef long i64;
 typedef unsigned __int128 u128;
 
 #define EXPORT(name) __attribute__((export_name(#name)))
+#define IMPORT(name) __attribute__((import_module("host"), import_name(#name)))
+
+// The host's clock, in milliseconds.
+IMPORT(now) extern i64 host_now(void);
+// A line is told that goes over the one before it, as on a terminal.
+IMPORT(tell) extern void host_tell(const u8 *line, u64 length);
+// Whether the host asked to be told.
+static _Bool is_told;
 
 extern u8 __heap_base;
 extern int main(void);
@@ -251,6 +259,10 @@ i64 read(int fd, u8 *to, u64 room) {
 }
 
 i64 write(int fd, const u8 *from, u64 n) {
+    if (is_told && fd == 2 && n && *from == '\r') {
+        host_tell(from, n);
+        return (i64)n;
+    }
     struct Grown *to = fd == 1 ? &grown[0] : fd == 2 ? &grown[1] : &grown[2];
     if (to->used + n > (to->at ? room_of(to->at) : 0)) {
         void *at = to->at ? retake(to->at, 2 * (to->used + n)) : take(2 * n + 4096);
@@ -267,11 +279,14 @@ int close(int fd) {
     return 0;
 }
 int isatty(int fd) {
+    if (is_told && fd == 2) return 1;
     failed(NO_TERMINAL);
     return 0;
 }
 int clock_gettime(int clock, i64 *to) {
-    to[0] = to[1] = 0;
+    i64 now = is_told ? host_now() : 0;
+    to[0] = now / 1000;
+    to[1] = now % 1000 * 1000000;
     return 0;
 }
 
@@ -305,6 +320,8 @@ _Noreturn void _exit(int status) {
 EXPORT(l4_room) u8 *l4_room(u64 n) { return take(n); }
 // No more memory than so many bytes is asked for.
 EXPORT(l4_limit) void l4_limit(u64 bytes) { most = bytes; }
+// The host is told how far a search has come, once a second. Nothing else changes by that.
+EXPORT(l4_tell) void l4_tell(void) { is_told = 1; }
 // Runs the command of these words over these files, and ends by a trap. Its standard input is the file /dev/stdin, or nothing.
 EXPORT(l4_call) int l4_call(const u8 *w, u64 words_length, const u8 *f, u64 files_length) {
     words = w, words_end = w + words_length;

@@ -6,7 +6,7 @@
 The compiler lowers a proved program to one module of LLVM's, and hands it to clang. A stand-in for clang keeps a copy of what it is
 given, and calls clang. In the copy the layout and the processor are exchanged for those of wasm64. Pointers have 64 bits in both, so
 each size and offset stays what the proof was about. Debian's binaryen then makes of it a module with a memory of 32 bits, which each
-browser and node takes without a flag. It imports nothing: host.c has what the program wants of a system.
+browser and node takes without a flag. host.c has what the program wants of a system.
 """
 
 import hashlib
@@ -105,12 +105,13 @@ def proved_module(work):
         sys.exit(f"page: not proved yet, or no longer there: {', '.join(missing)}; ./l4run or ./x gate proves them")
     copy, checked, made = work / "program.bc", work / "checked", work / "l4run.o"
     words = crate.words(["--jobs", "2"], keeps=False)
-    run([rtlib.RATTLE, "check", *words, "--empty-contracts", "-o", checked])
+    # Its sources are named as they lie in its folder.
+    run([rtlib.RATTLE, "check", *words, "--empty-contracts", "-o", checked], cwd=crate.folder)
     for flag in ("--logic-built", "--jobs"):
         at = words.index(flag)
         words = [*words[:at], *words[at + 2 :]]
     tools = ["--crate-checked", checked, "--toolchain", tools_that_keep(copy, work), "--backend", "llvm"]
-    run([rtlib.RATTLE, "build", *words, *tools, "-o", made])
+    run([rtlib.RATTLE, "build", *words, *tools, "-o", made], cwd=crate.folder)
     kit = pathlib.Path(rtlib.KIT)
     link = [kit / "bin" / "rattle-link", "--target", unproved.TARGET, "--toolchain", unproved.TOOLCHAIN, "-o", work / "l4run", made]
     run([*link, kit / "c" / "libos_c.a", kit / "c" / "liblibc_c.a"])

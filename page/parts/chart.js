@@ -9,6 +9,8 @@ class Chart {
         this.row = this.since = 0;
         this.clear("");
         root.tabIndex = 0;
+        // The chosen row stays in sight, whatever room there is.
+        new ResizeObserver(() => this.choose(this.row, this.since)).observe(root);
         root.addEventListener("keydown", (event) => {
             const by = { ArrowDown: 1, ArrowUp: -1, PageDown: 10, PageUp: -10 }[event.key];
             if (!by || !this.numbers.length) return;
@@ -75,8 +77,7 @@ class Chart {
         const number = this.numbers[place];
         row.dataset.step = number;
         const title = row.querySelector("title").textContent;
-        const short = title.replace(/^(deliver \S+) (\S+) .*$/, "$1 → $2");
-        const made = el("div", { title }, el("span", { textContent: number }), short);
+        const made = el("div", { title }, el("span", { textContent: number }), shortOf(title));
         made.dataset.step = number;
         if (row.classList.contains("failure")) made.className = "failure";
         return made;

@@ -2,7 +2,7 @@
 
 const MOST_COLOURED = 6000; // lines
 const TONES = { deliver: "go", tick: "tick", local: "soft", counts: "soft", "l4run:": "bad", "error:": "bad" };
-for (const word of ["deadlock", "circle", "stimeout", "snobody", "scancel", "rtimeout", "rnobody", "rcancel", "drop"]) TONES[word] = "bad";
+for (const word of ["deadlock", "circle", "stuck", "stimeout", "snobody", "scancel", "rtimeout", "rnobody", "rcancel", "drop"]) TONES[word] = "bad";
 
 let printed = "";
 

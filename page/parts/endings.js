@@ -1,6 +1,14 @@
 // The tab Endings: a search of all orders, and a card for each ending. Where the program searches whatever the scheduler does, an ending
 // has a trace, which is asked for by its number. Where it searches turns as the processors take them, an ending has the list of items.
 
+let searched = null; // the text that was searched last
+// What was found in a text that is no longer at the left is pale.
+function showWhetherOld() {
+    const isOld = searched !== null && searched !== editor.text;
+    $("oldsearch").hidden = !isOld;
+    for (const id of ["found", "endinglist", "count"]) $(id).classList.toggle("old", isOld);
+}
+
 const MOST_CARDS = 300;
 const MOST_THREADS = 14; // on a card
 
@@ -16,8 +24,8 @@ function searchWords() {
     return ["endings", "m.l4", ...(isPlaced ? ["--placed"] : []), "--depth", $("depth").value, "--states", $("states").value];
 }
 
-// Opens an ending that a search with these words found, at its end.
-async function openEnding({ number, list }, words, text) {
+// Opens an ending that a search with these words found, at its end; or where a thread comes to be stuck for ever.
+async function openEnding({ number, list, id }, words, text) {
     if (list) {
         tab("steps");
         await begin(new Schedule(program, text, list));
@@ -25,8 +33,10 @@ async function openEnding({ number, list }, words, text) {
     }
     const [made] = await program.perform("long", { "m.l4": text }, [...words, "--trace", number]);
     if (isFault(made)) throw new Error(made.faults.trim());
+    const trace = new Trace(program, text, stepsOf(made.out));
+    if (id) trace.forever = { id, at: trace.at };
     tab("steps");
-    await begin(new Trace(program, text, stepsOf(made.out)));
+    await begin(trace);
 }
 
 async function search(isStuckOnly) {
@@ -36,6 +46,8 @@ async function search(isStuckOnly) {
     for (const name of ["with", "never"]) if ($(name).value.trim()) asked.push(`--${name}`, $(name).value.trim());
     const words = [...asked, "--waits"];
     const { text } = editor;
+    searched = text;
+    showWhetherOld();
     sayIn("found", { tone: "", head: "Searching all orders ..", lines: [] });
     $("endinglist").replaceChildren();
     $("count").textContent = "";
@@ -50,24 +62,34 @@ async function search(isStuckOnly) {
     }
     print(made);
     if (isFault(made)) {
-        sayIn("found", { tone: "bad", head: made.faults.trim(), lines: [] });
+        sayFault("found", made, text);
     } else {
         const found = endingsOf(made.out);
         const isPart = asked.includes("--with") || asked.includes("--never");
-        sayIn("found", searchText({ ...found, isStuckOnly, isPart }));
-        $("count").textContent = found.endings.length;
-        showEndings(found.endings, (ending) => openEnding(ending, asked, text));
+        sayIn("found", searchText({ ...found, isStuckOnly, isPart, took: made.took }));
+        $("count").textContent = found.endings.length + found.forever.length;
+        showEndings(found, (ending) => openEnding(ending, asked, text));
         tellCommand(made, [], found.last);
     }
     document.body.dataset.searched = text;
 }
 
-function showEndings(endings, open) {
+function showEndings({ endings, forever }, open) {
     const differs = differences(endings);
     const cards = endings.slice(0, MOST_CARDS).map((ending) => endingCard(ending, differs, () => open(ending)));
     const more = endings.length - cards.length;
     const rest = more > 0 ? [el("p", { className: "none", textContent: `${more} more are in the tab Output.` })] : [];
-    $("endinglist").replaceChildren(...cards, ...rest);
+    const head = forever.length ? [el("h3", { textContent: "Stuck for ever, whatever the others do" })] : [];
+    const threads = forever.slice(0, MOST_CARDS).map((thread) => foreverCard(thread, () => open(thread)));
+    $("endinglist").replaceChildren(...cards, ...rest, ...head, ...threads);
+}
+
+const opens = (open) => () => guarded(() => open().then(() => $("slider").focus()));
+
+// A thread that may be stuck for ever, of which a search tells how many steps make it so.
+function foreverCard({ id, steps }, open) {
+    const name = el("span", { className: "name" }, el("b", { textContent: id }), "can never go on", el("small", { textContent: `after ${counted(steps, "step")}` }));
+    return el("button", { className: "ending bad", onclick: opens(open) }, name);
 }
 
 const fieldsOf = ({ code, from, registers }) => [["error", code], ["heard from", from], ...registers.map((word, place) => [`MR${place}`, word])];
@@ -97,7 +119,7 @@ function endingCard({ number, list, steps, report }, differs, open) {
     const name = el("span", { className: "name" }, el("b", { textContent: `Ending ${number}` }), isBad ? "somebody is stuck" : "", length);
     return el(
         "button",
-        { className: `ending ${isBad ? "bad" : "good"}`, onclick: () => guarded(() => open().then(() => $("slider").focus())) },
+        { className: `ending ${isBad ? "bad" : "good"}`, onclick: opens(open) },
         name,
         ...deadlocks,
         ...told.map(({ row }) => row),

@@ -24,34 +24,42 @@ const doc = { name: "first.l4", tab: "steps" };
 
 // The line at the bottom: what was asked, how it ended, how long it took.
 let commandShown = "";
-let told = "";
-function tell(text) {
-    told = text;
-    $("status").textContent = text;
+let told = [];
+// What was done, which is cut where it is long, and what came of it.
+function tell(...texts) {
+    told = texts;
+    $("status").replaceChildren(...texts.map((text) => el("span", { textContent: text })));
 }
 function tellCommand(made, list, note = "") {
     const names = { "m.l4": doc.name, "m.trace": `${stem()}.trace`, "@list": list.join(",") };
     const words = made.words.map((word) => names[word] ?? word);
     commandShown = `l4run ${words.map(quoted).join(" ")}`;
     const short = commandShown.length > 150 ? `${commandShown.slice(0, 110)} … ${commandShown.slice(-34)}` : commandShown;
-    const took = made.took < 10 ? made.took.toFixed(1) : made.took.toFixed(0);
-    tell([short, `status ${STATUS[made.status] ?? made.status}`, `${took} ms`, ...(note ? [note] : [])].join("  ·  "));
+    tell(short, [`status ${STATUS[made.status] ?? made.status}`, timeText(made.took), ...(note ? [note] : [])].join(" · "));
 }
 
 let busySince = 0;
 let clock = 0;
+// How far a search has come, as the program says that on a terminal: once a second, and at its end nothing.
+function onTold(line) {
+    const [, number, depth] = line.match(/looked at (\d+) states, depth (\d+)/) ?? [];
+    if (number) $("sofar").textContent = `${sizeText(number, "state")} so far, ${depth} deep`;
+}
 function onBusy(isBusy) {
     $("stop").disabled = !isBusy;
     document.body.toggleAttribute("data-busy", isBusy);
     if (isBusy === (clock !== 0)) return;
     clearInterval(clock);
     clock = 0;
-    $("status").textContent = told;
+    $("sofar").textContent = "";
+    tell(...told);
     if (!isBusy) return;
     busySince = performance.now();
     clock = setInterval(() => {
         const seconds = (performance.now() - busySince) / 1000;
-        if (seconds > 0.6) $("status").textContent = `at work for ${seconds.toFixed(0)} s; Stop ends it`;
+        const sofar = $("sofar").textContent;
+        const done = [`${seconds.toFixed(0)} s`, ...(sofar ? [sofar] : [])].join(", ");
+        if (seconds > 0.6) $("status").replaceChildren(el("span", { textContent: `at work for ${done}; Stop ends it` }));
     }, 500);
 }
 
@@ -69,7 +77,7 @@ async function guarded(work) {
 
 // Says something in the place of this id, in a tone: a sentence, and lines below it.
 function sayIn(id, { tone, head, lines }) {
-    $(id).className = `verdict ${tone}`;
+    $(id).className = `verdict ${tone} ${$(id).classList.contains("old") ? "old" : ""}`;
     $(id).replaceChildren(el("b", { textContent: head }));
     if (lines.length) $(id).append(el("ul", {}, ...lines.map((line) => el("li", {}, ...[line].flat()))));
 }
@@ -124,21 +132,31 @@ let typing = 0;
 function onTyped() {
     clearTimeout(typing);
     typing = setTimeout(() => guarded(settled), LINT_AFTER);
-    $("stale").hidden = editor.text === session.text || !session.list.length;
+    showStale(editor.text === session.text || !session.list.length);
+    showWhetherOld();
+    showLesson();
     keep();
 }
 async function settled() {
     await lint();
     // A text that nobody has stepped through yet is begun anew at once.
     if (editor.text !== session.text && !session.list.length) await begin(session.in(editor.text));
-    $("stale").hidden = editor.text === session.text;
+    showStale(editor.text === session.text);
     addressSoon();
 }
 
-// What is typed is kept, for when the page is opened again.
+// The menu names the lesson whose text is at the left, as it stands there.
+const lessonOf = (name) => lessons.find((it) => it.name === name);
+function showLesson() {
+    $("examples").value = lessonOf(doc.name)?.text === editor.text ? doc.name : "";
+}
+
+// What is typed is kept, for when another text is opened, or the page again.
+let own = null;
 function keep() {
+    own = { name: doc.name, text: editor.text };
     try {
-        localStorage.setItem("l4run", JSON.stringify({ name: doc.name, text: editor.text }));
+        localStorage.setItem("l4run", JSON.stringify(own));
     } catch {
         // A browser that keeps nothing for a page.
     }
@@ -151,6 +169,8 @@ function kept(key) {
     }
 }
 
+const lastOwn = () => own ?? JSON.parse(kept("l4run") ?? "null");
+
 // The text in the address, so that who copies that shares it.
 let ownAddress = "";
 async function addressOf() {
@@ -162,8 +182,7 @@ async function addressOf() {
     return `#z=${await packed(way)}`;
 }
 async function address() {
-    const lesson = lessons.find(({ name }) => name === doc.name);
-    const isLesson = lesson?.text === editor.text && !session.list.length;
+    const isLesson = lessonOf(doc.name)?.text === editor.text && !session.list.length;
     const found = isLesson ? `#example=${doc.name}` : await addressOf();
     go(found.length <= LONGEST_ADDRESS ? found : "#");
 }
@@ -174,8 +193,9 @@ function addressSoon() {
 }
 function go(hash) {
     clearTimeout(addressing);
-    ownAddress = hash;
-    if (location.hash !== hash) location.replace(hash);
+    // What is no more than its sign reads as nothing.
+    ownAddress = hash === "#" ? "" : hash;
+    if (location.hash !== ownAddress) location.replace(hash);
 }
 async function share() {
     go(await addressOf());
@@ -186,7 +206,7 @@ async function share() {
 async function follow() {
     const asked = new URLSearchParams(location.hash.slice(1));
     const way = await wayOf(asked);
-    const lesson = lessons.find(({ name }) => name === way.n) ?? lessons[0];
+    const lesson = lessonOf(way.n) ?? lessons[0];
     const text = way.t ?? lesson.text;
     $("wanted").value = way.e ?? "";
     tab(TABS.includes(way.v) ? way.v : "steps");
@@ -198,7 +218,7 @@ async function wayOf(asked) {
     if (asked.has("z")) return unpacked(asked.get("z")).catch(() => ({ isDamaged: true }));
     if (asked.has("text")) return { n: "linked.l4", t: asked.get("text"), s: asked.get("schedule") ?? "" };
     if (asked.has("example")) return { n: asked.get("example"), s: asked.get("schedule") ?? "" };
-    const last = JSON.parse(kept("l4run") ?? "null");
+    const last = lastOwn();
     return last ? { n: last.name, t: last.text } : {};
 }
 
@@ -212,14 +232,16 @@ async function opened(name, text, begun) {
     doc.name = name;
     document.title = `${name} – l4run`;
     editor.text = text.replaceAll("\r\n", "\n");
-    const lesson = lessons.find((it) => it.name === name);
-    $("examples").value = lesson ? name : "";
+    const lesson = lessonOf(name);
+    showLesson();
     const about = lesson ? `${lesson.about[0].toUpperCase()}${lesson.about.slice(1)}` : name;
     $("about").replaceChildren(...withCode(about));
     $("tries").hidden = !lesson?.tries.length;
     $("trieslist").replaceChildren(...(lesson?.tries ?? []).map((line) => button(line, () => command(line))));
     $("endinglist").replaceChildren();
     $("count").textContent = "";
+    searched = null;
+    showWhetherOld();
     const both = ["Who gets stuck? and All endings try every order that a scheduler may take, not one alone as Run does."];
     sayIn("found", { tone: "", head: "No search yet.", lines: both });
     tellLine(1);
@@ -227,7 +249,8 @@ async function opened(name, text, begun) {
 }
 
 async function openedLesson(name) {
-    const lesson = lessons.find((it) => it.name === name);
+    const lesson = lessonOf(name) ?? lastOwn();
+    showLesson();
     if (!lesson) return;
     tab("steps");
     await opened(lesson.name, lesson.text);
@@ -302,9 +325,10 @@ const verb = (name) =>
 
 // On to rest, by items that can be stepped through.
 async function toRest() {
-    const { at } = session;
-    const list = await session.rest(Math.min(Number($("turns").value) || 5000, 5000));
-    if (session.at === at) await perform(...list.slice(at));
+    const begun = session;
+    const { at } = begun;
+    const rested = await begun.rested($("turns").value);
+    if (session === begun && session.at === at) await begin(rested);
 }
 
 async function savedChart(kind) {
@@ -419,6 +443,7 @@ function wireTabs() {
         if (by) tab(TABS[(TABS.indexOf(doc.tab) + by + TABS.length) % TABS.length], true);
     });
     onSubmit("only", () => search($("onlystuck").checked));
+    on("searchagain", "click", () => search($("onlystuck").checked));
     onSubmit("command", () => command($("words").value));
     on("copy", "click", () => copied(printed, "output copied"));
     on("saveout", "click", () => saved(`${stem()}.txt`, printed));
@@ -434,10 +459,12 @@ function wireFiles() {
         await openedFile($("file").files[0]);
         $("file").value = "";
     });
-    $("editor").addEventListener("dragover", (event) => event.preventDefault());
-    $("editor").addEventListener("drop", (event) => {
+    addEventListener("dragover", (event) => event.dataTransfer.types.includes("Files") && event.preventDefault());
+    addEventListener("drop", (event) => {
+        const [file] = event.dataTransfer.files;
+        if (!file) return;
         event.preventDefault();
-        guarded(() => openedFile(event.dataTransfer.files[0]));
+        guarded(() => openedFile(file));
     });
     on("save", "click", () => saved(doc.name, editor.text));
     on("link", "click", share);
@@ -507,7 +534,7 @@ async function start() {
     }
     const module = await bytesThrough(bytesOf64($("packed").textContent), new DecompressionStream("gzip"));
     const limit = () => Math.max(16, Number($("memory").value) || 3072) * 2 ** 20;
-    program = new Program(await WebAssembly.compile(module), { onBusy, limit });
+    program = new Program(await WebAssembly.compile(module), { onBusy, onTold, limit });
     await guarded(askForSearches);
     await guarded(follow);
     document.body.dataset.ready = "yes";

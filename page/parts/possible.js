@@ -6,11 +6,11 @@ async function possibleOf({ text, list, ask }) {
     const machine = machineOf(text);
     const audit = ["audit", "m.l4", "m.trace"];
     const passed = await ask(audit, list);
-    if (/ quiet\n$/.test(passed.out)) return { found: [], others: [] };
+    if (/ quiet\n$/.test(passed.out)) return [];
     const made = await ask([...audit, "--explain"], [...list, `wait ${strangerOf(machine)}.1`]);
     const steps = linesOf(made.out).filter((line) => line.startsWith("possible ")).map((line) => line.slice("possible ".length));
     const found = steps.map((step) => ({ cpu: cpuOf(machine, step), item: step, kind: step.split(" ")[0], steps: [step] }));
-    return { found: [...found, ...ticksBehind(machine, list)], others: [] };
+    return [...found, ...ticksBehind(machine, list)];
 }
 
 // The number of no thread.

@@ -4,9 +4,10 @@
 class Stopped extends Error {}
 
 class Program {
-    // `onBusy` hears whether somebody but lint is at work; `limit` tells how many bytes of memory a call may take.
-    constructor(module, { onBusy, limit }) {
-        Object.assign(this, { module, onBusy, limit });
+    // `onBusy` hears whether somebody but lint is at work, `onTold` how far a search has come; `limit` tells how many bytes of memory a call may
+    // take.
+    constructor(module, { onBusy, onTold, limit }) {
+        Object.assign(this, { module, onBusy, onTold, limit });
         this.url = URL.createObjectURL(new Blob([$("worker").textContent], { type: "text/javascript" }));
         this.lanes = new Map();
         this.ids = 0;
@@ -23,24 +24,24 @@ class Program {
         return this.lanes.get(name);
     }
 
-    answered(waiting, { id, answer, trap, part }) {
-        const { done, fail, onPart } = waiting.get(id);
-        if (part) {
-            onPart?.(part);
+    answered(waiting, { id, answer, trap, told }) {
+        if (told) {
+            this.onTold(told);
             return;
         }
+        const { done, fail } = waiting.get(id);
         waiting.delete(id);
         this.tellBusy();
         if (trap) fail(new Error(trap));
         else done(answer);
     }
 
-    ask(name, question, onPart) {
+    ask(name, question) {
         const { worker, waiting } = this.lane(name);
         this.ids += 1;
         const id = this.ids;
         return new Promise((done, fail) => {
-            waiting.set(id, { done, fail, onPart });
+            waiting.set(id, { done, fail });
             this.tellBusy();
             worker.postMessage({ ...question, id, limit: this.limit() });
         });

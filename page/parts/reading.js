@@ -69,6 +69,27 @@ function isClosed(wait) {
     return !!wait && (wait.phase === "send" || (wait.to !== "any" && wait.to !== "anylocal"));
 }
 
+// What may come next behind a list, as `--next` prints it: each item, of which kind it is, and the steps that it would tell.
+function nextOf(out) {
+    const found = [];
+    for (const line of linesOf(out)) {
+        if (!line.startsWith("next ")) {
+            found.at(-1).steps.push(line);
+            continue;
+        }
+        const item = line.slice("next ".length);
+        const [, cpu, from] = item.match(/(\d+)(?::(\d+))?$/);
+        found.push({ cpu: Number(cpu), item, from, steps: [] });
+    }
+    const kindOf = ({ cpu, item, from, steps }) => {
+        if (from) return "letter";
+        if (item.startsWith("t")) return "tick";
+        if (!steps.length) return "silent";
+        return found.some((it) => it.from && it.cpu === cpu) ? "own" : "turn";
+    };
+    return found.map((choice) => ({ ...choice, kind: kindOf(choice) }));
+}
+
 // The head of an ending: its number, and either the items that lead there or the number of steps. No head has neither.
 function headOf(line) {
     const [, number, steps, items] = line.match(/^ending (\d+)(?: steps (\d+)| (\S+))?$/) ?? [];
@@ -76,12 +97,16 @@ function headOf(line) {
     return steps === undefined ? { number, list: listOf(items ?? "") } : { number, steps: Number(steps) };
 }
 
-// The endings that a search printed, and its last line. `isEndless`: nothing ends at all.
+// The endings that a search printed, and its last line. `isEndless`: nothing ends at all. `forever`: the threads that may be stuck for ever,
+// whether or not the others come to rest, of a program that looks for them; their numbers count on behind those of the endings.
 function endingsOf(out) {
-    const found = { endings: [], last: "", isEndless: false };
+    const found = { endings: [], forever: [], isForeverCut: false, last: "", isEndless: false };
     for (const line of linesOf(out)) {
         const head = headOf(line);
+        const [, id, steps] = line.match(/^stuck (\S+) for ever, steps (\d+)$/) ?? [];
         if (head) found.endings.push({ ...head, lines: [] });
+        else if (id) found.forever.push({ number: `${found.endings.length + found.forever.length + 1}`, id, steps: Number(steps) });
+        else if (line === "stuck for ever: cut") found.isForeverCut = true;
         else if (/^(states|worlds) /.test(line)) found.last = line;
         else if (line.startsWith("no ending")) found.isEndless = true;
         else found.endings.at(-1)?.lines.push(line);

@@ -1,10 +1,11 @@
 // A text and what happens in it, a list that is stepped through: what the program says of each beginning of the list. The list has the
-// items of a schedule, which a replay takes, or the steps of a trace, which an audit judges.
+// items of a schedule, which a replay takes, or the steps of a trace, which an audit judges. `forever` is a thread of which a search has told
+// that it is stuck for ever behind so many steps, and on.
 class Session {
     static KEPT = 64; // states that are remembered
 
     constructor(program, text, list = [], at = list.length) {
-        Object.assign(this, { program, text, list, at, machine: machineOf(text), states: new Map(), nexts: new Map(), whole: null });
+        Object.assign(this, { program, text, list, at, machine: machineOf(text), states: new Map(), nexts: new Map(), whole: null, forever: null });
     }
 
     // What is done.
@@ -17,6 +18,8 @@ class Session {
         const made = new this.constructor(this.program, this.text, [...this.done, ...more]);
         for (const [place, state] of this.states) if (place <= this.at) made.states.set(place, state);
         made.nexts = this.nexts;
+        // Who is stuck for ever stays so, whatever follows.
+        if (this.forever?.at <= this.at) made.forever = this.forever;
         return made;
     }
 
@@ -30,8 +33,14 @@ class Session {
         if (this.states.size > Session.KEPT) {
             for (const place of [...this.states.keys()]) if (!places.includes(place)) this.states.delete(place);
         }
-        for (const place of places) if (place >= 0 && !this.states.has(place)) this.states.set(place, await this.stateAt(place));
+        for (const place of places) if (place >= 0 && !this.states.has(place)) this.states.set(place, this.withForever(place, await this.stateAt(place)));
         return places.map((place) => this.states.get(place));
+    }
+
+    withForever(place, state) {
+        const thread = place >= this.forever?.at && state.report.byId.get(this.forever.id);
+        if (thread) thread.isStuck = thread.isForever = true;
+        return state;
     }
 
     // All steps of the list, done or yet to come.
@@ -56,10 +65,10 @@ class Session {
         return low;
     }
 
-    // What may happen next. `onPart` hears what was found so far.
-    async next(onPart) {
+    // What may happen next: items or steps, each with what it would tell.
+    async next() {
         const key = this.written(this.done);
-        if (!this.nexts.has(key)) this.nexts.set(key, await this.program.ask("next", this.question(), onPart));
+        if (!this.nexts.has(key)) this.nexts.set(key, await this.found());
         return this.nexts.get(key);
     }
 }
@@ -86,16 +95,19 @@ class Schedule extends Session {
         return { made, report: reportOf(made.out), steps: linesOf(trace.out) };
     }
 
-    question() {
-        const { cpus, threads } = this.machine;
-        const turns = Math.max(0, ...Array.from({ length: cpus }, (_, cpu) => threads.filter((thread) => thread.cpu === cpu).length));
-        return { kind: "next", text: this.text, list: this.done, cpus, turns };
+    async found() {
+        const [made] = await this.program.perform("next", this.files(this.at), this.command("--next"));
+        return nextOf(made.out);
     }
 
-    // The list by which what is done goes on to rest.
-    async rest(most) {
-        const question = { kind: "rest", text: this.text, list: this.done, cpus: this.machine.cpus, most };
-        return (await this.program.ask("long", question)).list;
+    // The session that goes on behind what is done until all is at rest, or for so many turns.
+    async rested(turns) {
+        const words = this.command("--then-rest", "--turns", turns, "--record", "rest");
+        const [made] = await this.program.perform("long", this.files(this.at), words);
+        if (isFault(made)) throw new Error(made.faults.trim());
+        const rested = this.with(listOf(made.recorded).slice(this.at));
+        rested.isCut = made.status === 3;
+        return rested;
     }
 }
 
@@ -119,7 +131,7 @@ class Trace extends Session {
         return { made, report: reportOf(made.out), steps: this.list.slice(0, place) };
     }
 
-    question() {
-        return { kind: "possible", text: this.text, list: this.done };
+    found() {
+        return this.program.ask("next", { kind: "possible", text: this.text, list: this.done });
     }
 }

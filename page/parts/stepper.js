@@ -51,7 +51,7 @@ async function show(shown, at) {
     const isOld = () => shown !== session || wanted !== null;
     if (isOld()) return;
     showTransport(shown);
-    $("stale").hidden = editor.text === shown.text;
+    showStale(editor.text === shown.text);
     if (isFault(now.made)) {
         showFault(now.made);
         tellCommand(now.made, shown.list);
@@ -68,6 +68,12 @@ async function show(shown, at) {
     editor.stand(standing(places, now));
     tellCommand(now.made, shown.done);
     await draw(shown, now.steps.length, told.length, isOld);
+}
+
+// Whether the steps are those of the text at the left. What is said of another is pale.
+function showStale(isOfText) {
+    $("stale").hidden = isOfText;
+    for (const id of ["verdict", "pane"]) $(id).classList.toggle("old", !isOfText);
 }
 
 // What has come of it, in a sentence; of each who waits the line at which that is; who waits for whom, in a picture; and what one may ask.
@@ -104,7 +110,7 @@ function showTransport(shown) {
     $("slider").setAttribute("aria-valuetext", `${at} of ${counted(list.length, UNIT)}`);
     for (const id of ["first", "back"]) $(id).disabled = at === 0;
     for (const id of ["forth", "last"]) $(id).disabled = at === list.length;
-    $("rest").hidden = !shown.rest;
+    $("rest").hidden = !shown.rested;
     $("way").value = `${UNIT}s`;
     $("listname").textContent = NAME;
     if (document.activeElement !== $("schedule")) $("schedule").value = shown.written(list);
@@ -114,10 +120,11 @@ function showWhere(shown, now, told) {
     const { list, at } = shown;
     const { UNIT } = shown.constructor;
     const item = list[at - 1];
-    const step = (line) => [el("b", { textContent: line }), ` ${meaningOf(line)}`];
-    const did = !at ? [] : UNIT === "step" ? [": ", ...step(item)] : [": ", el("b", { textContent: item }), ` ${itemText(item)}`];
+    const named = (line, meaning) => [el("b", { textContent: line }), meaning && ` (${meaning})`];
+    const step = (line) => named(line, meaningOf(line));
+    const did = !at ? [] : UNIT === "step" ? [": ", ...step(item)] : [": ", ...named(item, itemText(item))];
     const numbers = told.length > 1 ? `steps ${now.steps.length - told.length + 1}–${now.steps.length}` : `step ${now.steps.length}`;
-    const tells = told.flatMap((line, place) => [place ? "; " : ": ", ...step(line)]);
+    const tells = told.flatMap((line, place) => [place ? ", " : ": ", ...step(line)]);
     const steps = UNIT === "step" || !at ? [] : [" · ", ...(told.length ? [numbers, ...tells] : ["it tells nothing"])];
     $("where").replaceChildren(`${UNIT} ${at} of ${list.length}`, ...did, ...steps);
 }
@@ -131,15 +138,20 @@ function showFault(made) {
     chart.clear(...(session.text.trim() ? ["No chart: the text or the list has a fault."] : ofNothing()));
     chartShown = "";
     editor.stand(new Map());
+    sayFault("verdict", made, session.text);
+}
+
+// Says in the place of this id which fault the text or the list has: of the text at the left as lint says it, with a way there.
+function sayFault(id, made, text) {
     const line = made.faults.trim();
     const number = Number(line.match(/^l4run: line (\d+): /)?.[1]);
-    const mark = editor.text === session.text ? editor.marks.find((it) => it.line === number && !it.isDoubt) : undefined;
+    const mark = editor.text === text ? editor.marks.find((it) => it.line === number && !it.isDoubt) : undefined;
     const because = made.out.match(/^because .*/m) ?? [];
-    sayIn("verdict", { tone: "bad", head: mark ? `Line ${number}: ${markText(mark)}` : line || "a fault", lines: [...because] });
-    $("verdict").firstChild.replaceChildren(...withCode($("verdict").firstChild.textContent));
+    sayIn(id, { tone: "bad", head: mark ? `Line ${number}: ${markText(mark)}` : line || "a fault", lines: [...because] });
+    $(id).firstChild.replaceChildren(...withCode($(id).firstChild.textContent));
     if (!number) return;
     const go = Object.assign(button(`go to line ${number}`, () => editor.goTo(number, mark?.column)), { className: "inline" });
-    $("verdict").append(" ", go);
+    $(id).append(" ", go);
 }
 
 // A run takes one order; what of the others?
@@ -325,17 +337,10 @@ async function showNext() {
         nextIsNew();
         return;
     }
-    const began = performance.now();
     const looking = setTimeout(() => $("next").replaceChildren(el("p", { className: "none", textContent: "looking .." })), 600);
-    const onPart = (part) => {
-        if (isOld() || performance.now() - began < 400) return;
-        clearTimeout(looking);
-        drawNext(part, state, true);
-        $("next").classList.remove("old");
-    };
-    let answer;
+    let found;
     try {
-        answer = await shown.next(onPart);
+        found = await shown.next();
     } catch (trap) {
         if (trap instanceof Stopped) return;
         throw trap;
@@ -343,7 +348,7 @@ async function showNext() {
         clearTimeout(looking);
     }
     if (isOld()) return;
-    drawNext(answer, state, false);
+    drawNext(found, state);
     nextIsNew();
     document.body.dataset.next = `${at}`;
 }
@@ -351,7 +356,6 @@ async function showNext() {
 const KINDS = {
     turn: () => "takes a turn",
     letter: ({ from }) => `handles the letter from cpu ${from}`,
-    mail: () => "handles a letter",
     own: () => "takes a turn, letters wait",
     tick: () => "a clock goes on",
     silent: () => "works on",
@@ -383,20 +387,22 @@ function itemText(item) {
     return of ? `the clock of cpu ${of} goes on${clock ? ` to ${clock}` : ""}` : "";
 }
 
-function drawNext({ found, others }, state, isPart) {
+function drawNext(found, state) {
     const place = $("next");
     const focused = place.contains(document.activeElement) ? document.activeElement.dataset.cpu ?? "" : null;
     const choices = found.map((choice, number) => choiceButton(choice, number + 1));
     const isAtRest = state.report.ending === "quiet";
-    const nothing = isAtRest ? "Nothing: all is at rest." : "Nothing that tells a step, but letters are under way.";
-    const said = isPart ? "looking at the other processors .." : found.length ? null : nothing;
-    const note = said ? [el("p", { className: "none", textContent: said })] : [];
-    const more = isAtRest || isPart ? [] : [otherItems(others, !found.length)];
+    const note = found.length ? [] : [el("p", { className: "none", textContent: "Nothing: all is at rest." })];
+    const more = isAtRest ? [] : [otherItems()];
     place.replaceChildren(...choices, ...note, ...more);
     if (focused === null) return;
     const again = place.querySelector(`[data-cpu="${focused}"]`) ?? place.querySelector("[data-item]") ?? $("back");
     again.focus();
 }
+
+// A step as the chart has it: who gets a message, without the message.
+const shortOf = (step) => step.replace(/^(deliver \S+) (\S+) .*$/, "$1 → $2");
+const shortStep = (step) => el("span", { title: `${step}: ${meaningOf(step)}`, textContent: shortOf(step) });
 
 function choiceButton(choice, number) {
     const { cpu, item, kind, steps } = choice;
@@ -404,7 +410,7 @@ function choiceButton(choice, number) {
         "button",
         { className: `choice${steps.length ? "" : " silent"}`, title: `item ${item}`, onclick: () => perform(item) },
         el("kbd", { textContent: number < 10 ? number : "·" }),
-        el("span", { className: "told" }, ...(steps.length ? steps : ["nothing to tell yet"]).map((step) => el("span", { textContent: step }))),
+        el("span", { className: "told" }, ...(steps.length ? steps.map(shortStep) : [el("span", { textContent: "nothing to tell yet" })])),
         el("span", { className: "what", textContent: `${cpu === undefined ? "" : `cpu ${cpu} `}${steps[0] === item ? "· " : ""}${KINDS[kind](choice)}` }),
     );
     made.dataset.item = item;
@@ -412,8 +418,8 @@ function choiceButton(choice, number) {
     return made;
 }
 
-// Items of one's own, and those of which it is not known whether they do anything.
-function otherItems(others, isOpen) {
+// Items or steps of one's own: a tick to another time, or what does nothing yet.
+function otherItems() {
     const isSteps = session instanceof Trace;
     const typed = el("input", { placeholder: isSteps ? "tick 0 24" : "c0, 1:0, t0:24" });
     typed.setAttribute("aria-label", isSteps ? "another step" : "other items, joined by commas");
@@ -423,7 +429,5 @@ function otherItems(others, isOpen) {
         const more = isSteps ? stepsOf(typed.value) : listOf(typed.value);
         if (more.length) perform(...more);
     };
-    const silent = others.slice(0, 40).map((item) => button(item, () => perform(item)));
-    const tells = silent.length ? [el("div", { className: "bar" }, "tell nothing, if they do anything:", ...silent)] : [];
-    return el("details", { className: "others", open: isOpen }, el("summary", { textContent: isSteps ? "Another step" : "Other items" }), form, ...tells);
+    return el("details", { className: "others" }, el("summary", { textContent: isSteps ? "Another step" : "Other items" }), form);
 }

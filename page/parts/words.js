@@ -5,6 +5,8 @@ const waitLine = (thread, end = "") => ({ text: `${waitText(thread)}${end}`, id:
 const waitText = ({ id, wait }) =>
     wait.phase === "send" ? `${id} waits for ${wait.to} to take its message` : `${id} waits for a message from ${wait.to}`;
 const shortWait = (wait) => (wait.phase === "send" ? `sends to ${wait.to}` : `waits for ${wait.to}`);
+const timeText = (took) => (took < 950 ? `${took.toFixed(took < 9.5 ? 1 : 0)} ms` : `${(took / 1000).toFixed(took < 9500 ? 1 : 0)} s`);
+const sizeText = (number, one) => counted(Number(number).toLocaleString("en"), one);
 const counted = (number, one, many = `${one}s`) => `${number} ${Number(number) === 1 ? one : many}`;
 const among = (list, most) => (list.length > most ? [...list.slice(0, most), `and ${list.length - most} more`] : list);
 
@@ -14,6 +16,11 @@ function verdictOf({ report, steps }, isBeginning, cutAt) {
     const stuck = report.threads.filter((thread) => thread.isStuck);
     const open = report.threads.filter((thread) => thread.wait && !thread.isStuck);
     const isAtRest = report.ending === "quiet";
+    const forever = report.threads.find((thread) => thread.isForever);
+    if (forever && !isAtRest) {
+        const head = `${forever.id} can never go on from here, whatever the others do.`;
+        return { tone: "bad", head, lines: among(stuck.map((thread) => waitLine(thread)), 10), circle: report.deadlocks[0] };
+    }
     if (report.deadlocks.length) {
         const circles = report.deadlocks.flatMap((ids) => ids.map((id) => waitLine(report.byId.get(id))));
         const others = stuck.filter((thread) => !thread.isDead).map((thread) => waitLine(thread, ", for ever"));
@@ -43,19 +50,26 @@ function verdictOf({ report, steps }, isBeginning, cutAt) {
 }
 
 // What a search for endings came to: of all, of the stuck ones, or of those with or without a line.
-function searchText({ endings, last, isEndless, isStuckOnly, isPart }) {
+function searchText({ endings, forever, isForeverCut, last, isEndless, isStuckOnly, isPart, took }) {
     const [found, ...known] = last.split(", ");
     const [kind, number, , depth, whole] = found.split(" ");
     const isWhole = whole === "whole";
     const bad = endings.filter(({ report }) => report.threads.some((thread) => thread.isStuck)).length;
-    const tone = bad ? "bad" : isWhole ? "good" : "fair";
-    const size = kind === "states" ? [counted(number, "state"), counted(depth, "item")] : [counted(number, "world"), counted(depth, "step")];
+    const quiet = isEndless ? "" : "good";
+    const tone = bad || forever.length ? "bad" : isWhole && !isForeverCut ? quiet : "fair";
+    const [one, part] = kind === "states" ? ["state", "item"] : ["world", "step"];
+    const size = `${sizeText(number, one)}, up to ${counted(depth, part)}, in ${timeText(took)}`;
     const all = kind === "states" ? "All orders of the processors were searched" : "All orders of any scheduler were searched, whatever time passes";
-    const searched = isWhole ? `${all}: ${size.join(", up to ")}.` : `Cut off after ${size.join(", ")}: there may be more. Limits has the numbers.`;
-    const choose = endings.length ? ["Choose one to step through it."] : [];
-    const head = isEndless ? "No ending: it goes on for ever." : endingsText(endings.length, bad, isStuckOnly, isPart);
-    return { tone, head, lines: [searched, ...limitsText(known), ...choose] };
+    const searched = isWhole ? `${all}: ${size}.` : `Cut off: ${size}. There may be more; Limits has the numbers.`;
+    const choose = endings.length + forever.length ? ["Each card opens step by step."] : [];
+    const head = isEndless ? endlessText(forever) : endingsText(endings.length, bad, isStuckOnly, isPart, forever);
+    const others = isForeverCut ? ["The search for threads that are stuck for ever was cut off: there may be more of them."] : [];
+    const isTwice = new Set(endings.map(({ lines }) => lines.join("\n"))).size < endings.length;
+    const same = isTwice ? ["Some have the same report: they differ in what a report does not show."] : [];
+    return { tone, head, lines: [searched, ...limitsText(known), ...others, ...same, ...choose] };
 }
+const stuckText = (forever) => `${among(forever.map(({ id }) => id), 6).join(", ")} can get stuck for ever`;
+const endlessText = (forever) => `No ending: it goes on for ever${forever.length ? `, and ${stuckText(forever)}` : ""}.`;
 // Of which runs a whole search knows, as its last line says.
 function limitsText(known) {
     const texts = {
@@ -64,8 +78,9 @@ function limitsText(known) {
     };
     return known.map((word) => texts[word] ?? word);
 }
-function endingsText(all, bad, isStuckOnly, isPart) {
+function endingsText(all, bad, isStuckOnly, isPart, forever) {
     const such = isPart ? "such " : "";
+    if (isStuckOnly && !all && forever.length) return `No ${such}ending in which somebody waits for ever, but ${stuckText(forever)} while others go on.`;
     if (isStuckOnly) return all ? `${counted(all, `${such}ending`)} in which somebody waits for ever.` : `No ${such}ending in which somebody waits for ever.`;
     const some = bad ? `, ${bad} of them with somebody who waits for ever` : "";
     return all ? `${counted(all, `${such}ending`)}${some}.` : `No ${such}ending.`;

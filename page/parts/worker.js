@@ -2,27 +2,25 @@
 const decoder = new TextDecoder();
 let compiled;
 
-async function performed(words, files, limit) {
+async function performed(words, files, limit, tell) {
     const began = performance.now();
-    const made = await call(compiled, words, files, limit);
+    const made = await call(compiled, words, files, limit, tell);
     const [out, faults, recorded] = [made.out, made.faults, made.recorded].map((bytes) => decoder.decode(bytes));
     return { words, status: made.status, out, faults, recorded, took: performance.now() - began };
 }
 
-// Performs a command over a text and a list, of items or of the steps of a trace.
-const asker = ({ text, limit }) => (words, list) => performed(words, { "m.l4": text, list: list.join(",") }, limit);
+// Performs a command over a text and the steps of a trace.
 const auditor = ({ text, limit }) => (words, list) => performed(words, { "m.l4": text, "m.trace": list.map((step) => `${step}\n`).join("") }, limit);
 
 const WORK = {
     // Each of these commands over these files, in order.
-    async commands({ commands, files, limit }) {
+    async commands({ id, commands, files, limit }) {
+        const tell = (line) => postMessage({ id, told: line });
         const all = [];
-        for (const words of commands) all.push(await performed(words, files, limit));
+        for (const words of commands) all.push(await performed(words, files, limit, tell));
         return all;
     },
-    next: (asked) => nextOf({ ...asked, ask: asker(asked), part: (found) => postMessage({ id: asked.id, part: found }) }),
     possible: (asked) => possibleOf({ ...asked, ask: auditor(asked) }),
-    rest: (asked) => restOf({ ...asked, ask: asker(asked) }),
 };
 
 onmessage = async ({ data }) => {

@@ -1,8 +1,8 @@
 // node guesses.cjs MODULE.wasm|PROGRAM TOP [EACH]: what the page works out for itself, against what the program says.
 //
-// Of each example: is each item of the shortest schedule of its first ending offered at its place, and each step that this tells? Does going
-// on to rest tell the steps of --then-rest? Of these and of each case: does the line at which a thread is shown agree with its state? With
-// EACH every so manyth place alone is tried.
+// Of each example: is each item of the shortest schedule of its first ending offered at its place, with the steps that it tells, and is each of
+// these steps? Of the examples and of each case: does the line at which a thread is shown agree with its state? With EACH every so manyth place
+// alone is tried.
 const fs = require("fs");
 const path = require("path");
 const vm = require("vm");
@@ -11,12 +11,11 @@ const { printedBy } = require("./native.cjs");
 
 const [, , source, top, each = "1"] = process.argv;
 const MOST_ITEMS = 20; // of a list
-const EACH_REST = 7; // items, at which the way to rest is tried
 
 const scope = vm.createContext({ console });
-const parts = ["reading.js", "places.js", "next.js", "possible.js", "rest.js"].map((name) => fs.readFileSync(path.join(__dirname, "..", "parts", name), "utf8"));
-vm.runInContext(`${parts.join("\n")}\nglobalThis.parts = { machineOf, reportOf, endingsOf, linesOf, listOf, placesOf, nextOf, possibleOf, restOf };`, scope);
-const { machineOf, reportOf, endingsOf, linesOf, listOf, placesOf, nextOf, possibleOf, restOf } = scope.parts;
+const parts = ["reading.js", "places.js", "possible.js"].map((name) => fs.readFileSync(path.join(__dirname, "..", "parts", name), "utf8"));
+vm.runInContext(`${parts.join("\n")}\nglobalThis.parts = { machineOf, reportOf, endingsOf, linesOf, listOf, placesOf, nextOf, possibleOf };`, scope);
+const { machineOf, reportOf, endingsOf, linesOf, listOf, placesOf, nextOf, possibleOf } = scope.parts;
 
 const folder = path.join(top, "crates", "l4_cases", "data");
 const textsOf = (at) => fs.readdirSync(at).filter((name) => name.endsWith(".l4")).sort().map((name) => path.join(at, name));
@@ -40,7 +39,7 @@ function performer() {
 
 async function main() {
     const performed = performer();
-    const counts = { items: 0, silent: 0, missed: 0, steps: 0, impossible: 0, places: 0, wrong: 0, rests: 0, other: 0 };
+    const counts = { items: 0, missed: 0, steps: 0, impossible: 0, places: 0, wrong: 0 };
     const decoder = new TextDecoder();
     const examples = textsOf(path.join(folder, "examples"));
     // Items are those of the search of turns, where the program knows another one too.
@@ -49,32 +48,29 @@ async function main() {
     for (const file of [...examples, ...textsOf(folder)]) {
         const text = fs.readFileSync(file, "utf8");
         const name = path.basename(file);
-        const { cpus, threads } = machineOf(text);
         const perform = async (words, files = {}) => {
             const made = await performed(words, { "m.l4": text, ...files });
             return { status: made.status, out: decoder.decode(made.out), recorded: decoder.decode(made.recorded) };
         };
         const ask = (words, list) => perform(words, { list: list.join(",") });
         const askTrace = (words, steps) => perform(words, { "m.trace": steps.map((step) => `${step}\n`).join("") });
-        const turns = Math.max(0, ...Array.from({ length: cpus }, (_, cpu) => threads.filter((thread) => thread.cpu === cpu).length));
         const run = await perform(["run", "m.l4", "--turns", "300", "--record", "list"]);
         if (run.status === 1) continue;
-        const isExample = examples.includes(file);
-        const list = isExample ? endingsOf((await perform(endings)).out).endings[0].list : listOf(run.recorded);
+        // An example that goes on for ever has no ending: its items are those of the run.
+        const [ending] = examples.includes(file) ? endingsOf((await perform(endings)).out).endings : [];
+        const list = ending ? ending.list : listOf(run.recorded);
         for (let place = 0; place <= Math.min(list.length, MOST_ITEMS); place += Number(each)) {
-            const tried = { list, place, before: list.slice(0, place), name, text, cpus, turns, ask, askTrace, counts };
+            const tried = { list, place, before: list.slice(0, place), name, text, ask, askTrace, counts };
             await triesPlaces(tried);
-            if (isExample) await triesNext(tried);
-            if (isExample) await triesPossible(tried);
-            if (isExample && place % EACH_REST === 0) await triesRest(tried);
+            if (ending) await triesNext(tried);
+            if (ending) await triesPossible(tried);
         }
     }
-    console.log(`${counts.items} items of endings: ${counts.silent} offered only among those that tell nothing, ${counts.missed} not at all`);
+    console.log(`${counts.items} items of endings: ${counts.missed} not offered with their steps`);
     console.log(`${counts.steps} steps of endings: ${counts.impossible} not among those that are offered`);
     console.log(`${counts.places} threads at lines: ${counts.wrong} do not fit their state`);
-    console.log(`${counts.rests} ways to rest: ${counts.other} tell other steps than --then-rest`);
-    const { items, missed, steps, impossible, wrong, other } = counts;
-    process.exitCode = missed || impossible || wrong || other || !items || !steps ? 1 : 0;
+    const { items, missed, steps, impossible, wrong } = counts;
+    process.exitCode = missed || impossible || wrong || !items || !steps ? 1 : 0;
 }
 
 // Is each step that comes next, told by the item at this place, offered as one? Of a tick, one of its processor.
@@ -82,7 +78,7 @@ async function triesPossible({ list, place, text, name, ask, askTrace, counts })
     const before = linesOf((await ask(replay, list.slice(0, place))).out);
     const behind = linesOf((await ask(replay, list.slice(0, place + 1))).out);
     for (let at = before.length; at < behind.length; at += 1) {
-        const { found } = await possibleOf({ text, list: behind.slice(0, at), ask: askTrace });
+        const found = await possibleOf({ text, list: behind.slice(0, at), ask: askTrace });
         const part = (step) => (step.startsWith("tick ") ? step.split(" ").slice(0, 2).join(" ") : step);
         counts.steps += 1;
         if (found.some(({ item }) => part(item) === part(behind[at]))) continue;
@@ -91,23 +87,20 @@ async function triesPossible({ list, place, text, name, ask, askTrace, counts })
     }
 }
 
-async function triesNext({ list, place, before, name, cpus, turns, ask, counts }) {
-    const { found, others } = await nextOf({ list: before, cpus, turns, ask });
-    const offered = found.map(({ item }) => item);
+// An item has one spelling: a turn is offered as that of the core, or as that letter which it handles first.
+async function triesNext({ list, place, before, name, ask, counts }) {
+    const offered = nextOf((await ask([...replay, "--next"], before)).out);
     if (place === list.length) {
-        if (offered.length) console.log(`${name}: offered at rest: ${offered.join(" ")}`);
+        if (offered.length) console.log(`${name}: offered at rest: ${offered.map(({ item }) => item).join(" ")}`);
         return;
     }
     counts.items += 1;
+    const told = (await ask(replay, list.slice(0, place + 1))).out.slice((await ask(replay, before)).out.length);
     const item = list[place];
-    // Where a turn is that of the core, and where it handles this letter, the turn alone is offered.
-    if (offered.includes(item) || offered.includes(item.replace(/^c/, "").replace(/:.*/, ""))) return;
-    if (others.includes(item)) {
-        counts.silent += 1;
-        return;
-    }
+    const isIt = (it) => it.item === item || (/^\d+$/.test(item) && it.cpu === Number(item) && it.kind !== "tick");
+    if (offered.some((it) => isIt(it) && it.steps.map((step) => `${step}\n`).join("") === told)) return;
     counts.missed += 1;
-    console.log(`${name}: not offered: ${item} behind ${before.join(",") || "nothing"}; offered: ${offered.join(" ")}`);
+    console.log(`${name}: not offered: ${item} behind ${before.join(",") || "nothing"}; offered: ${offered.map((it) => it.item).join(" ")}`);
 }
 
 async function triesPlaces({ before, name, text, ask, counts }) {
@@ -121,17 +114,6 @@ async function triesPlaces({ before, name, text, ask, counts }) {
         counts.wrong += 1;
         console.log(`${name}: ${before.join(",")}: ${id} is ${state} at line ${line}: ${words.join(" ")}`);
     }
-}
-
-async function triesRest({ before, name, cpus, ask, counts }) {
-    const most = 5000;
-    const { list } = await restOf({ list: before, cpus, most, ask });
-    const theirs = await ask([...replay, "--then-rest", "--turns", `${most}`], before);
-    const mine = await ask(replay, list);
-    counts.rests += 1;
-    if (mine.out === theirs.out || theirs.status !== 0) return;
-    counts.other += 1;
-    console.log(`${name}: to rest behind ${before.join(",") || "nothing"}: ${list.slice(before.length).join(",")}`);
 }
 
 main();

@@ -17,6 +17,8 @@ const COMMANDS = [
     "run m.l4 --record ./m.l4",
     "run m.l4 --record link.l4",
     "run ./m.l4 --record m.l4",
+    "replay m.l4 --schedule 0 --then-rest --record rest.list",
+    "replay m.l4 --schedule 0 --next",
     "run - --report",
     "run nowhere.l4",
     "lint m.l4",

@@ -7,7 +7,7 @@ const zlib = require("zlib");
 const { Chromium, Firefox, sleep } = require("./browsers.cjs");
 const { allCommands } = require("./cases.cjs");
 const { printedBy, isSame } = require("./native.cjs");
-const { ring, loop, locksInRing, lostReply, lost, answered } = require("./texts.cjs");
+const { ring, loop, locksInRing, lostReply, lost, answered, beside } = require("./texts.cjs");
 
 const [, , name, page, program, top, pictures] = process.argv;
 let good = 0;
@@ -128,12 +128,13 @@ async function runsExamples(browser, hand) {
         await liesUnderItsText(hand, example);
         await hand.verb("run");
         const rows = await hand.count("#chart .lines > div");
-        check(`${example}: its chart has its steps`, rows > 0 && rows === (await hand.run("return session.whole.length")), rows);
+        const [all, last] = await hand.run("return [session.whole.length, chart.numbers.at(-1)]");
+        check(`${example}: its chart has its steps`, rows > 0 && last === all && (rows === all || all > 250), [rows, last, all]);
         await hand.verb("stuck");
         const found = await hand.run("return document.getElementById('found').textContent");
         const words = ["endings", "m.l4", "--depth", "1000", "--states", "100000", "--stuck"];
         const said = printedBy(program, { words, files: { "m.l4": await hand.run("return editor.text") } }).out.toString();
-        const wanted = / whole(,|$)/m.test(said) ? /All orders .* were searched/ : /Cut off after/;
+        const wanted = / whole(,|$)/m.test(said) ? /All orders .* were searched/ : /Cut off: /;
         check(`${example}: whether its search was whole`, wanted.test(found), found);
     }
 }
@@ -172,6 +173,9 @@ async function marksFaults(browser, hand) {
     await sleep(150);
     check("the hint is told on hover", /1 to 63/.test(await hand.run("return document.querySelector('.tip').hidden ? '' : document.querySelector('.tip').textContent")));
     await hand.picture("fault-1200");
+    await hand.verb("stuck");
+    check("a search says the same", /Line 4: 64: .*1 to 63/.test(await hand.text("found")), await hand.text("found"));
+    await hand.click("#tab-steps");
     await hand.click("#lint button");
     check("a mark leads to its word", (await hand.run("const at = document.getElementById('text'); return at.value.slice(at.selectionStart, at.selectionEnd)")) === "64");
     check("the line of the caret is told", /line 4: .*1 to 63/.test(await hand.text("atline")), await hand.text("atline"));
@@ -213,6 +217,12 @@ async function findsStuckEnding(browser, hand) {
     await hand.run("document.getElementById('only').requestSubmit();");
     await browser.until("document.querySelectorAll('.ending').length === 2");
     check("endings with a line", true);
+    await hand.type(`${await hand.run("return editor.text")}; changed\n`);
+    const isOld = await hand.run("return !document.getElementById('oldsearch').hidden");
+    check("that what was found is of another text is told", isOld && (await hand.count("#endinglist.old")) === 1);
+    await hand.picture("old-endings-1200");
+    await hand.click("#searchagain");
+    check("searched again", (await hand.count("#endinglist.old")) === 0 && (await hand.count(".ending")) === 2, await hand.count(".ending"));
 }
 
 // What a search whatever the scheduler does prints of the lost reply, for a page whose program does not have that search yet.
@@ -252,6 +262,37 @@ async function findsLostReply(browser, hand) {
     await browser.size(400, 860, true);
     await hand.picture("any-trace-400");
     await browser.size(1200, 800);
+}
+
+// A thread that can never go on though others do. For a page whose program does not look for such threads, what one prints that does.
+async function findsStuckForEver(browser, hand) {
+    await hand.go(linkOf({ n: "beside.l4", t: beside }));
+    const words = ["endings", "m.l4", "--stuck"];
+    if (!/^stuck /m.test(printedBy(program, { words, files: { "m.l4": beside } }).out.toString())) {
+        await hand.run(`
+            const all = "stuck 1.1 for ever, steps 13\\nstuck for ever: cut\\nno ending: it goes on for ever\\nworlds 77 steps 17 whole\\n";
+            const trace = ${quoted(lost.map((step) => `${step}
+`).join(""))};
+            const perform = program.perform.bind(program);
+            program.perform = async (lane, files, ...commands) =>
+                commands[0][0] === "endings" ? [{ words: commands[0], status: 0, out: commands[0].includes("--trace") ? trace : all, faults: "", took: 1 }] : perform(lane, files, ...commands);`);
+    }
+    await hand.verb("stuck");
+    const found = await hand.text("found");
+    check("what a search found is of the text", await hand.run("return document.getElementById('oldsearch').hidden"));
+    check("who can get stuck for ever is told", /No ending: it goes on for ever, and 1.1 can get stuck for ever/.test(found), found);
+    check("there is a card for it", (await hand.count(".ending")) === 1 && /can never go on/.test(await hand.text("endinglist")), await hand.text("endinglist"));
+    await hand.picture("forever-1200");
+    await hand.click(".ending.bad");
+    check("it opens where that happens", (await hand.text("where")).startsWith("step 13 of 13"), await hand.text("where"));
+    const verdict = await hand.text("verdict");
+    check("it says so there", /1.1 can never go on from here.*1.1 waits for a message from 9.1/s.test(verdict), verdict);
+    check("the others are not stuck", (await hand.count(".card.stuck")) === 1);
+    await hand.picture("forever-trace-1200");
+    await hand.click("#next [data-item]");
+    check("nor can it behind that", /1.1 can never go on/.test(await hand.text("verdict")), await hand.text("verdict"));
+    await hand.click("#first");
+    check("and at the beginning it could", !/can never go on/.test(await hand.text("verdict")), await hand.text("verdict"));
 }
 
 // Any step that may happen, whatever scheduler takes it: the reply is lost by hand. A link has the trace, and a file has one.
@@ -333,6 +374,7 @@ async function steps(browser, hand) {
     check("the steps of that are those of --then-rest", (await hand.run("return session.whole.join('\\n') + '\\n'")) === wanted.out.toString());
     await hand.type(`${await hand.run("return editor.text")}; changed\n`);
     check("that the text changed is told", !(await hand.run("return document.getElementById('stale').hidden")));
+    check("what is said of the old text is pale", (await hand.count("#verdict.old, #pane.old")) === 2);
     await hand.click("#zero");
     check("begun anew", (await hand.text("where")).startsWith("item 0 of 0"));
 }
@@ -399,6 +441,12 @@ async function shares(browser, hand) {
     await browser.until("location.hash.startsWith('#z=')");
     const hash = await hand.run("return location.hash");
     await hand.go(hash);
+    check("what was typed is one's own", (await hand.run("return document.getElementById('examples').value")) === "");
+    await hand.fill("examples", "first.l4", "change");
+    await hand.idle();
+    check("the lesson can be had again", /One message/.test(await hand.run("return editor.text")));
+    await hand.fill("examples", "", "change");
+    await hand.idle();
     check("the address has what was typed", (await hand.run("return editor.text")) === "l4 1 64\ncpus 1\nthread 1.1 cpu 0 space 1\nend\n");
     await hand.go("#example=locks.l4&schedule=c0,c0,c1");
     await hand.click("#back");
@@ -409,6 +457,13 @@ async function shares(browser, hand) {
     check("and the text", /Two locks/.test(await hand.run("return editor.text")));
     await hand.go("#text=l4%201%2064%0Acpus%201%0Athread%201.1%20cpu%200%20space%201%0Aend%0A&do=run");
     check("a text in plain letters", /At rest/.test(await hand.text("verdict")), await hand.text("verdict"));
+    const long = `l4 1 64\ncpus 1\nthread 1.1 cpu 0 space 1\n${Array.from({ length: 1000 }, (_, at) => `set ${1 + ((at * 7919) % 63)} ${(at + 1) * 987654321987}\n`).join("")}`;
+    await hand.go(linkOf({ n: "long.l4", t: long }));
+    await hand.verb("run");
+    await sleep(1000);
+    const where = await hand.text("where");
+    check("a text that is too long for the address stays, with its steps", (await hand.run("return editor.text")) === long && /^item [1-9]/.test(where), where);
+    check("and is not in it", (await hand.run("return location.hash")) === "");
     await hand.go("#z=damaged!");
     check("a damaged link is told", /damaged/.test(await hand.text("status")), await hand.text("status"));
 }
@@ -427,7 +482,8 @@ async function opensAndSaves(browser, hand) {
     for (const kind of ["svg", "html", "mermaid"]) await hand.click(`[data-save=${kind}]`);
     check("the text is saved", `${await browser.saved("late.l4")}` === text);
     check("the output is saved", `${await browser.saved("late.txt")}` === out);
-    const trace = printedBy(program, { words: ["run", "m.l4"], files: { "m.l4": text } }).out;
+    // A run on two processors may take another order.
+    const trace = printedBy(program, { words: ["replay", "m.l4", "--schedule", "", "--then-rest"], files: { "m.l4": text } }).out;
     for (const [kind, ending] of [["svg", "svg"], ["html", "html"], ["mermaid", "mmd"]]) {
         const wanted = printedBy(program, { words: ["chart", "m.l4", "trace", `--${kind}`], files: { "m.l4": text, trace } }).out;
         check(`the chart is saved as ${ending}, as the program draws it`, (await browser.saved(`late.${ending}`))?.equals(wanted) === true);
@@ -477,7 +533,8 @@ async function stops(browser, hand) {
     await hand.go(linkOf({ n: "four.l4", t: locksInRing() }));
     await hand.fill("states", "1000000");
     await hand.run("document.querySelector('[data-verb=endings]').click();");
-    await browser.until("/at work for/.test(document.getElementById('status').textContent)");
+    await browser.until("/at work for .* so far, \\d+ deep/.test(document.getElementById('status').textContent)");
+    check("how far it has come is told", /[\d,]+ states so far, \d+ deep/.test(await hand.text("sofar")), await hand.text("sofar"));
     await hand.picture("busy-1200");
     await hand.click("#stop");
     const isOver = await hand.run("return document.getElementById('stop').disabled");
@@ -569,6 +626,7 @@ const PARTS = [
     marksFaults,
     findsStuckEnding,
     findsLostReply,
+    findsStuckForEver,
     stepsByAny,
     steps,
     worksByKeys,

@@ -57,4 +57,10 @@ const asked = ["local 1.1", "local 1.1", "wait 9.1", "begin 1.1#1", "queue 1.1#1
 const lost = [...asked, "begin 9.1#1", "stimeout 9.1#1", "wait 1.1", "local 9.1", "local 9.1", "wait 9.1"];
 const answered = [...asked, "wait 1.1", "begin 9.1#1", "queue 9.1#1", "deliver 9.1#1 1.1 9.1 9.1 10001 69", "local 1.1"];
 
-module.exports = { ring, loop, locksInRing, lostReply, lost, answered };
+// The same beside a thread that sleeps again and again: there is no ending, and who lost its answer can never go on.
+const beside = `${lostReply}thread 18.1 cpu 0 space 1
+ipc nil 18.1 never 5
+jump 0
+`;
+
+module.exports = { ring, loop, locksInRing, lostReply, lost, answered, beside };

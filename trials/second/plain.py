@@ -6,7 +6,8 @@ of sends: nothing is left out because no step reads it, and no step because anot
 import dataclasses
 import enum
 
-from second import model, worlds
+from second import model, words, worlds
+from second.threads import Phase
 
 # What tells no worlds apart: what no step changes, clocks, and the numbers of sends.
 LEFT_OUT = {"machine", "format", "declaration", "clocks", "since", "begun"}
@@ -86,6 +87,44 @@ def ends(machine, most):
         level = behind
         steps += 1
     return Ends(steps_of, steps - 1, True)
+
+
+def stuck(machine, most):
+    """The threads that may be stuck for ever, or nothing where there are more worlds than these: those that wait in some world from which no chain of steps leads to one in which they
+    do not wait so."""
+    opening = Timeless(machine)
+    found, places, behind = [opening], {whole(opening): 0}, []
+    for world in found:
+        nexts = [(after, whole(after)) for after in world.next_ones()]
+        for after, key in nexts:
+            if key not in places:
+                places[key] = len(found)
+                found.append(after)
+        behind.append({places[key] for _, key in nexts})
+        if len(found) > most:
+            return None
+    return {thread for thread in machine.threads if any(stays(thread, place, found, behind) for place in range(len(found)))}
+
+
+def stays(thread, place, found, behind):
+    """Whether a thread waits in a world, and waits so in each that comes from there."""
+    phase = closed_phase(found[place].members[thread])
+    if phase is None:
+        return False
+    seen, left = {place}, [place]
+    while left:
+        for to in behind[left.pop()] - seen:
+            if closed_phase(found[to].members[thread]) is not phase:
+                return False
+            seen.add(to)
+            left.append(to)
+    return True
+
+
+def closed_phase(member):
+    """The phase of a thread that sends, or that receives from one thread alone."""
+    is_open = member.phase is Phase.RECEIVING and not (words.is_global(member.source) or words.is_local(member.source))
+    return None if not member.alive or is_open or member.phase not in (Phase.SENDING, Phase.RECEIVING) else member.phase
 
 
 def bare(report):

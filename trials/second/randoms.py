@@ -358,6 +358,75 @@ class HandingOn(Text):
         return [instruction() for _ in range(self.dice.randint(2, 6))]
 
 
+class GoingRound(Text):
+    """Machines of both profiles with few worlds, most of whose threads go round for ever, beside others that wait."""
+
+    def __init__(self, dice):
+        cpus, threads = dice.choice([1, 2, 2, 3]), dice.choice([2, 2, 3, 3, 4])
+        super().__init__(dice, dice.choice(FORMATS), cpus, range(cpus), range(1, threads + 1), FEW_VERSIONS, dice.choice(FEW_SPACES))
+        self.profile = dice.choice([1, machines.RETARGETING])
+        self.periods = dice.choice([["never"], ["never", "never", "zero"], ["never", "zero", "3"]])
+
+    def other(self):
+        """Most often another thread than the one whose script is made."""
+        others = [thread for thread in self.threads if thread != self.me]
+        return words.spelled(self.dice.choice(others if self.chance(0.95) else self.threads))
+
+    def period(self):
+        return self.dice.choice(self.periods)
+
+    def ipc(self, to, source):
+        return f"ipc {to} {source} {self.period()} {self.period()}"
+
+    def source(self):
+        return self.dice.choices(["any", "anylocal", self.other()], [3, 1, 6])[0]
+
+    def mate(self):
+        return words.spelled(self.dice.choice(self.mates()))
+
+    def script(self):
+        roles = [self.runs, self.sends, self.calls, self.receives, self.answers, self.sleeps, self.orders, self.hands_on, self.mixture]
+        lines = self.dice.choices(roles, [1, 3, 3, 3, 3, 1, 2, 2, 4])[0]()
+        if self.chance(0.65):
+            lines.append(f"{self.dice.choice(['jump', 'jump', 'onerr'])} {self.dice.randint(0, len(lines))}")
+        return lines
+
+    def runs(self):
+        return ["jump 0"]
+
+    def sends(self):
+        return [self.ipc(self.other(), "nil")]
+
+    def calls(self):
+        to = self.other()
+        return [self.ipc(to, self.dice.choice([to, to, self.source()]))]
+
+    def receives(self):
+        return [self.ipc("nil", self.source()) for _ in range(self.dice.randint(1, 2))]
+
+    def answers(self):
+        return [self.ipc("nil", self.source()), self.ipc("last", self.dice.choice(["nil", "any"])), f"jump {self.dice.randint(0, 1)}"]
+
+    def sleeps(self):
+        return ["ipc nil any never 5", "jump 0"]
+
+    def orders(self):
+        order = f"delete {self.other()}" if self.chance(0.3) else self.exregs(self.mate())
+        return [*(["ipc nil any never 3"] if self.chance(0.3) else []), order]
+
+    def hands_on(self):
+        return [self.ipc("nil", "any"), f"vs {self.mate()}", f"tag {words.PROPAGATED:#x}", self.ipc(self.other(), self.dice.choice(["nil", "any"]))]
+
+    def mixture(self):
+        def instruction():
+            orders = [self.exregs(self.mate()), f"delete {self.other()}"]
+            own = [f"vs {self.mate()}", f"tag {words.PROPAGATED:#x}", "set 1 1", "onerr 0"]
+            ipcs = [self.ipc(self.other(), "nil"), self.ipc("nil", self.source()), self.ipc(self.other(), self.source())]
+            return self.dice.choices([*ipcs, *orders, *own], [4, 4, 4, 2, 1, 1, 1, 1, 1])[0]
+
+        return [instruction() for _ in range(self.dice.randint(1, 4))]
+
+
 # Habits of schedules: which of the processors that have something to do may be next.
 
 

@@ -5,6 +5,7 @@ all that a later step may read but time and numbers of sends. So an ending comes
 
 import copy
 import dataclasses
+import enum
 
 from second import machines, threads, words
 from second.model import World, late
@@ -296,3 +297,116 @@ def search(machine, depth, most, reduction):
             worlds[key] = Found(world, found.steps + 1, possible(world), found, step)
             order.append(worlds[key])
     return Search(worlds, order[-1].steps, True)
+
+
+# Threads that are stuck for ever
+
+
+class Wait(enum.Enum):
+    """In which phase a thread waits that may wait for ever: a receive phase that takes one thread alone is closed to all others."""
+
+    SEND = "send"
+    RECEIVE = "receive"
+
+
+OPEN = (words.NIL, words.ANY, words.ANY_LOCAL)
+
+
+def wait_of(member):
+    if not member.alive:
+        return None
+    if member.phase is Phase.SENDING:
+        return Wait.SEND
+    if member.phase is Phase.RECEIVING and member.source not in OPEN:
+        return Wait.RECEIVE
+    return None
+
+
+def waits_of(world):
+    return {thread: wait_of(member) for thread, member in world.members.items()}
+
+
+def still_for_ever(waits, behind):
+    """The places at which a thread waits for ever. Of each place there is how the thread waits there, and the places that steps lead to from there: nothing where that is not known."""
+    moves = {place for place, wait in enumerate(waits) if wait is None or behind[place] is None or any(waits[to] is not wait for to in behind[place])}
+    before = [[] for _ in waits]
+    for place, onwards in enumerate(behind):
+        for to in onwards or ():
+            before[to].append(place)
+    left = list(moves)
+    while left:
+        for place in before[left.pop()]:
+            if place not in moves:
+                moves.add(place)
+                left.append(place)
+    return [place for place in range(len(waits)) if place not in moves]
+
+
+@dataclasses.dataclass(frozen=True)
+class Stuck:
+    """The threads that are stuck for ever, each with the world that was found first in which it is, and whether the search for them was whole."""
+
+    threads: list
+    is_whole: bool
+
+
+def stuck(machine, depth, most, reduction):
+    """Of all threads, in order of declaration."""
+    walk = Walk(machine)
+    walk.go(depth, most, reduction)
+    waits, behind = [waits_of(found.world) for found in walk.order], walk.onwards()
+    stands = {thread: still_for_ever([each[thread] for each in waits], behind) for thread in machine.threads}
+    return Stuck([(thread, walk.order[places[0]]) for thread, places in stands.items() if places], walk.is_whole)
+
+
+class Walk:
+    """A search that leaves no step out for ever: its worlds, in the order in which they were found, with the place of each. Where it was cut, it has gone on from each world that
+    fewer steps lead to than `steps`."""
+
+    def __init__(self, machine):
+        first = World(machine)
+        self.order, self.places = [Found(first, 0, possible(first))], {code(first): 0}
+        # Of those from which the search went on, where the steps lead that it took.
+        self.taken = []
+        self.steps, self.is_whole = 0, False
+
+    def go(self, depth, most, reduction):
+        for found in self.order:
+            self.steps = found.steps
+            if found.steps >= depth:
+                return
+            onwards = []
+            for step, world, key in self.walked(found, reduction):
+                if key not in self.places:
+                    if len(self.order) >= most:
+                        return
+                    self.places[key] = len(self.order)
+                    self.order.append(Found(world, found.steps + 1, possible(world), found, step))
+                onwards.append(self.places[key])
+            self.taken.append(onwards)
+        self.is_whole = True
+
+    def walked(self, found, reduction):
+        """The steps that are taken from a world, each with where it leads. A step that stands alone and leads back, to this world or one before it, could hide all others: so all are
+        taken there."""
+        here = len(self.taken)
+        nexts = [next_by(found, step) for step in reduction.chosen(found.possible)]
+        if len(nexts) == 1 and self.places.get(nexts[0][-1], here + 1) <= here:
+            return [next_by(found, step) for step in found.possible]
+        return nexts
+
+    def onwards(self):
+        """Of each world the places of those that steps lead to from there, or nothing where anything may come. Where the search was cut, that is so of each that is as far as it
+        went; and a step that was not taken may lead to one of these."""
+        if self.is_whole:
+            return self.taken
+        return [self.all_onwards(found) if found.steps < self.steps else None for found in self.order]
+
+    def all_onwards(self, found):
+        keys = [next_by(found, step)[-1] for step in found.possible]
+        return [self.places[key] for key in keys if key in self.places]
+
+
+def next_by(found, step):
+    world = after(found.world, (*ticks(found.world), step))
+    return step, world, code(world)

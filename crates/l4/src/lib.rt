@@ -9,9 +9,9 @@
 //!
 //! Contracts see the definitions of the model (docs/MODEL.md). The history of an outcome is one of
 //! the machine, and the laws of all histories hold for it. `check` is Ok for histories alone. The
-//! host decides which history a run of several processors takes. The crate has no code of its own;
-//! its `specs` re-export what these contracts cite. The lines below test a server (the whole test
-//! is in `crates/l4_host_tests/src/server.rt`):
+//! host decides which history a run of several processors takes. Of its own the crate has
+//! `round_trips`, calls that do what theorems say; its `specs` re-export what all these contracts
+//! cite. The lines below test a server (the whole test is in `crates/l4_host_tests/src/server.rt`):
 //!
 //! ```rust
 //! let machine = Machine::parse(alloc, text)?;
@@ -20,6 +20,8 @@
 //! assert!(rt; outcome.threads[0].regs.words[1] == 105); // the server's answer
 //! ```
 #![tactic(auto)]
+
+pub mod round_trips;
 
 // Machine texts.
 pub use l4_script::instructions::{Instr, Ipc, Register, Source, To};
@@ -37,7 +39,7 @@ pub use l4_types::reports::{Ending, State, ThreadView};
 
 // Audits.
 pub use l4_audit::audit::{Audit, AuditFault, check};
-pub use l4_round_trips::{AuditedOutcome, audited_replay, audited_run};
+pub use round_trips::{AuditedOutcome, audited_replay, audited_run};
 
 // Steps and their traces.
 pub use l4_trace::fault::TraceFault;

@@ -58,6 +58,9 @@ module _ (m : Machine) (s : List ℕ) (w : World) (is : world_after m s ≡ Some
       by None none rest = lead_weaker (state_after m) s a (a + 1) _ (omega arith) rest
       by (Some c) at rest = lead_first a c _ (entry_is a c at) rest
 
+  pub all_lead : LeadOn (state_after m) s 0 (filter_map (next_by m w) (possible m w))
+  all_lead = lead_range (entry_count m w) 0
+
   pub nexts_lead : LeadOn (state_after m) s 0 (nexts m w)
   nexts_lead = by (find (λ c. stands_alone m c.step) (possible m w)) refl
     where
@@ -113,6 +116,9 @@ tried_open m w = by (find (λ c. stands_alone m c.step) (possible m w)) refl
     by None none = rw none (entries_open m w (possible m w) all)
     by (Some own) one = rw one (find_open m w (λ c. stands_alone m c.step) (possible m w) own all one, tt)
 
+pub possible_open : (m : Machine) (w : World) → AreOpen m w (entries_of (possible m w))
+possible_open m w = entries_open m w (possible m w) (listed_open m w (range_with_len 0 (entry_count m w)))
+
 -- One entry after the other
 
 pub open_at : (m : Machine) (w : World) (entries : List ℕ) (i : ℕ) → i < length entries → AreOpen m w entries → IsSome (after_entry m w (get_or entries i 0))
@@ -158,6 +164,21 @@ open_on_way m entries i o inside leads led = by (world_after m entries) refl
     by (Some v) is =
         subst (λ n. IsSome (after_entry n o.world (get_or entries i 0))) (sym led.machine)
         (on_way m entries (opening m) o.world v i inside led.leads is)
+
+-- The first of them lead to a world too.
+
+first_lead : (m : Machine) (entries : List ℕ) (u : World) (i : ℕ) → IsSome (after_entries m u entries) → IsSome (after_entries m u (take i entries))
+first_lead m [] u zero leads = refl
+first_lead m [] u (suc i) leads = refl
+first_lead m (e ∷ es) u zero leads = refl
+first_lead m (e ∷ es) u (suc i) leads = by (after_entry m u e) (λ y. first_lead m es y i) leads
+  where
+    by : (o : Option World) → ((y : World) → IsSome (after_entries m y es) → IsSome (after_entries m y (take i es))) → IsSome (o >>= λ y. after_entries m y es) → IsSome (o >>= λ y. after_entries m y (take i es))
+    by None rest leads = leads
+    by (Some y) rest leads = rest y leads
+
+pub leads_before : (m : Machine) (entries : List ℕ) (i : ℕ) → IsSome (world_after m entries) → IsSome (world_after m (take i entries))
+leads_before m entries i leads = first_lead m entries (opening m) i leads
 
 -- Among several
 

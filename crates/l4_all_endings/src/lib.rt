@@ -17,6 +17,9 @@
 mod search;
 mod traces;
 mod tried;
+mod way;
 
 pub use search::{FoundEndings, all_endings};
 pub use traces::trace_of;
+pub use tried::{choice_by, reached_state};
+pub use way::Way;

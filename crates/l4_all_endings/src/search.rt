@@ -55,8 +55,8 @@ pub fn all_endings<P: Progress>(
     ensures led { IfOk result (λ r. AreLed machine.now (schedules_from r.endings.items)) }
 {
     know_times(machine);
-    let worlds = Worlds::new(alloc, machine)?;
-    let explored = explore(alloc, &worlds, depth.min(DEEPEST), most, progress)?;
+    let mut worlds = Worlds::new(alloc, machine)?;
+    let explored = explore(alloc, &mut worlds, depth.min(DEEPEST), most, progress)?;
     Ok(FoundEndings {
         endings: ends(alloc, &explored.found)?,
         worlds: explored.found.len(),

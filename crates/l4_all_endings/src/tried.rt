@@ -8,6 +8,7 @@ ghost use Rattle.l4_outlooks.specs.Foreseen.{IsLed};
 ghost use Rattle.l4_outlooks.specs.Standing.{left_alone};
 ghost use Rattle.l4_all_endings.specs.Tried.{next_at, nexts_at, AreChoicesAfter, AreOpen};
 
+use crate::way::Way;
 use l4_explore::found::Found;
 use l4_explore::tries::{Choice, Reached, Tries};
 use l4_outlooks::{Alone, Outlook, know_times};
@@ -20,29 +21,36 @@ use std::alloc::{AllocError, Global};
 pub(crate) struct Worlds<'m> {
     machine: &'m Machine,
     alone: Alone,
+    way: Way<'m>,
     ghost coded: { AreCoded (state_after machine.now) },
     ghost known: { alone ≡ left_alone machine.now },
+    ghost same: { way ≡ machine.now },
 }
 
 impl<'m> Worlds<'m> {
     /// The worlds of a machine.
-    #[tactic(auto, using(crate::proofs::Leading::coded))]
     pub(crate) fn new(alloc: Global, machine: &'m Machine) -> Result<Worlds<'m>, NoMemory>
         ensures { IfOk result (λ worlds. worlds.machine.now ≡ machine.now) }
     {
         know_times(machine);
         let alone = Alone::new(alloc, machine)?;
-        Ok(Worlds { machine, alone })
+        let way = Way::new(alloc, machine)?;
+        Ok(Worlds {
+            machine,
+            alone,
+            way,
+        })
     }
 
     // The choices of the world that these entries lead to.
-    fn choices_after(&self, alloc: Global, entries: &[u32]) -> Result<Vec<Choice>, NoMemory>
-        requires leads { IsSome (world_after self.now.machine.now entries.now) }
+    fn choices_after(&mut self, alloc: Global, entries: &[u32]) -> Result<Vec<Choice>, NoMemory>
+        requires leads { IsSome (world_after self.old.machine.now entries.now) }
         requires few { length entries.now + 1 < 2 ^ 20 }
-        ensures { IfOk result (λ choices.
-            AreChoicesAfter self.now.machine.now entries.now (map next_from choices.items)) }
+        ensures are { IfOk result (λ choices.
+            AreChoicesAfter self.old.machine.now entries.now (map next_from choices.items)) }
+        ensures same { self.new.machine ≡ self.old.machine }
     {
-        let outlook = outlook_after(alloc, self.machine, entries)?;
+        let outlook = self.way.outlook(alloc, entries)?;
         let tried = outlook.choices(alloc, &self.alone)?;
         let choices = choices_by(alloc, outlook, &tried)?;
         Ok(choices)
@@ -60,11 +68,11 @@ impl<'m> Tries for Worlds<'m> {
         let Ok(outlook) = Outlook::new(alloc, self.machine) else {
             return Err(AllocError);
         };
-        reached(alloc, &outlook)
+        reached_state(alloc, &outlook)
     }
 
     fn choices(
-        &self,
+        &mut self,
         alloc: Global,
         found: &Found,
         place: usize,
@@ -77,8 +85,8 @@ impl<'m> Tries for Worlds<'m> {
     }
 }
 
-// The state of a world.
-fn reached(alloc: Global, outlook: &Outlook<'_>) -> Result<Reached, AllocError>
+/// The state of a world.
+pub fn reached_state(alloc: Global, outlook: &Outlook<'_>) -> Result<Reached, AllocError>
     ensures { IfOk result (λ reached.
         state_from reached ≡ state_in outlook.now.machine outlook.now.world) }
 {
@@ -88,25 +96,8 @@ fn reached(alloc: Global, outlook: &Outlook<'_>) -> Result<Reached, AllocError>
     })
 }
 
-// The world that entries lead to.
-fn outlook_after<'m>(
-    alloc: Global,
-    machine: &'m Machine,
-    entries: &[u32],
-) -> Result<Outlook<'m>, NoMemory>
-    requires leads { IsSome (world_after machine.now entries.now) }
-    requires few { length entries.now < 2 ^ 20 }
-    ensures { IfOk result (IsLed machine.now entries.now) }
-{
-    let mut outlook = Outlook::new(alloc, machine)?;
-    for entry in entries {
-        outlook.take(*entry)?;
-    }
-    Ok(outlook)
-}
-
-// The state that one more entry leads to.
-fn choice_by(alloc: Global, outlook: Outlook<'_>, entry: u32) -> Result<Choice, NoMemory>
+/// The state that one more entry leads to.
+pub fn choice_by(alloc: Global, outlook: Outlook<'_>, entry: u32) -> Result<Choice, NoMemory>
     requires possible { IsSome (after_entry outlook.machine outlook.world entry) }
     requires room { outlook.taken + 1 < 2 ^ 20 }
     ensures { IfOk result (λ choice.
@@ -114,7 +105,7 @@ fn choice_by(alloc: Global, outlook: Outlook<'_>, entry: u32) -> Result<Choice, 
 {
     let mut behind = outlook;
     behind.take(entry)?;
-    let reached = reached(alloc, &behind)?;
+    let reached = reached_state(alloc, &behind)?;
     Ok(Choice { entry, reached })
 }
 

@@ -2,7 +2,7 @@
 
 use crate::case::Case;
 use crate::outcome::Outcome;
-use l4_jobs::job::{Extras, Job, Judged};
+use l4_jobs::job::{AuditJob, Job, Judged, NO_EXTRAS, TRACE_ALONE};
 use l4_jobs::perform::perform;
 use std::alloc::{AllocError, Global};
 use std::io;
@@ -11,11 +11,9 @@ use std::thread::Threads;
 // Whether a job prints a trace, and nothing else, where it is done.
 fn has_trace(job: &Job<'_>) -> bool {
     match *job {
-        Job::Run { printed, .. } | Job::Replay { printed, .. } => {
-            !printed.report && !printed.extras.any()
-        }
-        Job::Next { .. } | Job::Audit { .. } | Job::Lint { .. } => false,
-        Job::Chart(_) | Job::Endings(_) => false,
+        Job::Run(run) => run.printed == TRACE_ALONE,
+        Job::Replay(replay) => replay.printed == TRACE_ALONE,
+        _ => false,
     }
 }
 
@@ -39,18 +37,15 @@ pub fn audit<R: AllocGlobal + Threads + Sync>(
     if done.status == 1 || !has_trace(job) {
         return Ok(());
     }
-    let job = Job::Audit {
+    let job = Job::Audit(AuditJob {
         file: case.name,
         trace: "its trace",
         judged: Judged {
             report: false,
             explain: false,
-            extras: Extras {
-                waits: false,
-                counts: false,
-            },
+            extras: NO_EXTRAS,
         },
-    };
+    });
     let mut text = case.text;
     let mut trace = done.output.as_slice();
     let mut passed = Vec::new(rt.alloc());

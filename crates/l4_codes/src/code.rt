@@ -38,6 +38,7 @@ impl Code {
     /// Appends a number.
     ///
     /// `AllocError`: memory was refused.
+    #[inline(always)]
     pub fn put(&mut self, number: u64) -> Result<(), AllocError>
         ensures { OnOk result (Writes (number_code number) self.old self.new) }
     {
@@ -95,6 +96,7 @@ impl Code {
     }
 
     // Appends a zero.
+    #[inline(always)]
     fn put_zero(&mut self) -> Result<(), AllocError>
         ensures { OnOk result (Writes (number_code 0) self.old self.new) }
     {
@@ -106,6 +108,7 @@ impl Code {
     }
 
     // Writes the zeros that are not in the bytes yet.
+    #[inline(never)]
     fn end_zeros(&mut self) -> Result<(), AllocError>
         ensures { OnOk result (self.new ≡ zeros_told self.old) }
     {
@@ -119,6 +122,7 @@ impl Code {
 }
 
 // Appends a number, seven bits in a byte, the low ones first.
+#[inline(never)]
 fn push_number(bytes: &mut Vec<u8>, number: u64) -> Result<(), AllocError>
     ensures { OnOk result ((rest : List ℕ) →
         bytes.new.items ++ rest ≡ bytes.old.items ++ put_number number rest) }

@@ -1,7 +1,7 @@
 -- The files that a job reads, and the job as an output of a given kind needs it.
 use Rattle.std.specs.Prelude.{◌==◌, ℕ, Bool, true, false, if◌then◌else◌, Option, Some, None, List, [], ◌∷◌, codes}
 use Rattle.std.specs.Borrow.{Bor}
-use Rattle.std.specs.Option.{option_map}
+use Rattle.std.specs.Option.{option_copied}
 use Rattle.std.specs.Str.{bytes_eq}
 use Rattle.l4_commands.specs.declared.job.ChartForm.{ChartForm}
 use Rattle.l4_commands.specs.declared.job.ChartForm.TheVariants.{Lines, Ascii}
@@ -21,46 +21,37 @@ list_name (first ∷ name) = if first == 64 then Some name else None
 -- and that of the expectations.
 
 abbrev pub file_of : Job → List ℕ
-file_of (Run file turns printed record_to expected) = file.now
-file_of (Replay file schedule rest printed record_to expected) = file.now
-file_of (Next file schedule) = file.now
-file_of (Audit file trace judged) = file.now
+file_of (Run run) = run.file.now
+file_of (Replay replay) = replay.file.now
+file_of (Next next) = next.file.now
+file_of (Audit audit) = audit.file.now
 file_of (Chart chart) = chart.file.now
 file_of (Endings search) = search.file.now
-file_of (Lint file schedule) = file.now
+file_of (Lint lint) = lint.file.now
 
 abbrev pub list_name_in : Option (Bor (List ℕ)) → Option (List ℕ)
 list_name_in None = None
 list_name_in (Some schedule) = list_name schedule.now
 
 abbrev pub second_file_of : Job → Option (List ℕ)
-second_file_of (Run file turns printed record_to expected) = None
-second_file_of (Replay file schedule rest printed record_to expected) = list_name schedule.now
-second_file_of (Next file schedule) = list_name schedule.now
-second_file_of (Audit file trace judged) = Some trace.now
+second_file_of (Run run) = None
+second_file_of (Replay replay) = list_name replay.schedule.now
+second_file_of (Next next) = list_name next.schedule.now
+second_file_of (Audit audit) = Some audit.trace.now
 second_file_of (Chart chart) = Some chart.trace.now
 second_file_of (Endings search) = None
-second_file_of (Lint file schedule) = list_name_in schedule
+second_file_of (Lint lint) = list_name_in lint.schedule
 
 abbrev pub expected_of : Job → Option (List ℕ)
-expected_of (Run file turns printed record_to expected) = option_map (λ name. name.now) expected
-expected_of (Replay file schedule rest printed record_to expected) =
-    option_map (λ name. name.now) expected
-expected_of (Endings search) = option_map (λ name. name.now) search.expected
+expected_of (Run run) = option_copied run.expected
+expected_of (Replay replay) = option_copied replay.expected
+expected_of (Endings search) = option_copied search.expected
 expected_of _ = None
-
--- The name of the file that a job records its run or its replay in.
-abbrev pub record_of : Job → Option (List ℕ)
-record_of (Run file turns printed record_to expected) = option_map (λ name. name.now) record_to
-record_of (Replay file schedule rest printed record_to expected) =
-    option_map (λ name. name.now) record_to
-record_of _ = None
 
 -- The job without a record, and of which nothing is expected.
 abbrev pub alone : Job → Job
-alone (Run file turns printed record_to expected) = Run file turns printed None None
-alone (Replay file schedule rest printed record_to expected) =
-    Replay file schedule rest printed None None
+alone (Run run) = Run (record run { record_to = None; expected = None })
+alone (Replay replay) = Replay (record replay { record_to = None; expected = None })
 alone (Endings search) = Endings (record search { expected = None })
 alone job = job
 

@@ -1,8 +1,8 @@
 //! The jobs that the words of a command line can ask for.
 ghost use Rattle.std.specs.Prelude.{◌≡◌, ◌||◌};
-ghost use Rattle.std.specs.Option.{option_map};
+ghost use Rattle.std.specs.Option.{option_copied};
 ghost use Rattle.l4_commands.specs.Files.{alone, expected_of, file_of, list_name, on_output};
-ghost use Rattle.l4_commands.specs.Files.{record_of, second_file_of};
+ghost use Rattle.l4_commands.specs.Files.{second_file_of};
 
 /// The name that stands for the standard input. A file of that name is `./-`.
 pub const INPUT: &str = "-";
@@ -101,14 +101,11 @@ pub struct Extras {
     pub counts: bool,
 }
 
-impl Extras {
-    /// Whether any of them is asked for.
-    pub fn any(&self) -> bool
-        ensures { result ≡ (self.now.waits || self.now.counts) }
-    {
-        self.waits || self.counts
-    }
-}
+/// Nothing is printed last.
+pub const NO_EXTRAS: Extras = Extras {
+    waits: false,
+    counts: false,
+};
 
 /// What is printed of a run or a replay.
 #[derive(Clone, Copy, Debug, PartialEq, Eq)]
@@ -118,6 +115,12 @@ pub struct Printed {
     /// What is printed behind the trace or the report.
     pub extras: Extras,
 }
+
+/// The trace is printed, and nothing behind it.
+pub const TRACE_ALONE: Printed = Printed {
+    report: false,
+    extras: NO_EXTRAS,
+};
 
 /// What is printed of an audit.
 #[derive(Clone, Copy, Debug, PartialEq, Eq)]
@@ -140,70 +143,90 @@ impl Judged {
     }
 }
 
+/// A run of the machine text in a file until so many turns are taken or nothing is left to do.
+#[derive(Clone, Copy, Debug, PartialEq, Eq)]
+pub struct RunJob<'a> {
+    /// The name of the file with the machine text.
+    pub file: &'a str,
+    /// The greatest number of turns, 1 to 1,000,000. Any other number is the fault `Turns`.
+    pub turns: u64,
+    /// What is printed.
+    pub printed: Printed,
+    /// The name of the file that its schedule is written to, if one is. A replay of that schedule
+    /// repeats this run. It is never the file of the machine text.
+    pub record_to: Option<&'a str>,
+    /// The name of the file with what is expected of its report.
+    pub expected: Option<&'a str>,
+}
+
+/// A replay of a schedule on the machine text in a file, which goes on from its end where
+/// `then_rest` is given.
+#[derive(Clone, Copy, Debug, PartialEq, Eq)]
+pub struct ReplayJob<'a> {
+    /// The name of the file with the machine text.
+    pub file: &'a str,
+    /// The items of the schedule, with commas between them, or `@` and the name of the file that
+    /// has them.
+    pub schedule: &'a str,
+    /// For how many turns it goes on in rounds, if it does: 1 to 1,000,000 less the number of
+    /// items. Any other number is the fault `Turns`.
+    pub then_rest: Option<u64>,
+    /// What is printed.
+    pub printed: Printed,
+    /// The name of the file that its schedule is written to, with the items of the rest, if one
+    /// is. A replay of that schedule repeats this one. It is never the file of the machine text.
+    pub record_to: Option<&'a str>,
+    /// The name of the file with what is expected of its report.
+    pub expected: Option<&'a str>,
+}
+
+/// What may happen next behind a schedule on the machine text in a file.
+#[derive(Clone, Copy, Debug, PartialEq, Eq)]
+pub struct NextJob<'a> {
+    /// The name of the file with the machine text.
+    pub file: &'a str,
+    /// The schedule, as of `ReplayJob`.
+    pub schedule: &'a str,
+}
+
+/// An audit of the trace in a file against the machine text in another.
+#[derive(Clone, Copy, Debug, PartialEq, Eq)]
+pub struct AuditJob<'a> {
+    /// The name of the file with the machine text.
+    pub file: &'a str,
+    /// The name of the file with the trace.
+    pub trace: &'a str,
+    /// What is printed.
+    pub judged: Judged,
+}
+
+/// All faults of the machine text in a file, or else what is doubtful there, and all faults of a
+/// schedule for it.
+#[derive(Clone, Copy, Debug, PartialEq, Eq)]
+pub struct LintJob<'a> {
+    /// The name of the file with the machine text.
+    pub file: &'a str,
+    /// The schedule, as of `ReplayJob`, where one is given.
+    pub schedule: Option<&'a str>,
+}
+
 /// What the words of a command line ask for.
 #[derive(Clone, Copy, Debug, PartialEq, Eq)]
 pub enum Job<'a> {
-    /// Run the machine text in a file until this many turns are taken or nothing is left to do.
-    Run {
-        /// The name of the file with the machine text.
-        file: &'a str,
-        /// The greatest number of turns, 1 to 1,000,000. Any other number is the fault `Turns`.
-        turns: u64,
-        /// What is printed.
-        printed: Printed,
-        /// The name of the file that its schedule is written to, if one is. A replay of that
-        /// schedule repeats this run. It is never the file of the machine text.
-        record_to: Option<&'a str>,
-        /// The name of the file with what is expected of its report.
-        expected: Option<&'a str>,
-    },
-    /// Replay a schedule on the machine text in a file, and go on from its end where `then_rest` is
-    /// given.
-    Replay {
-        /// The name of the file with the machine text.
-        file: &'a str,
-        /// The items of the schedule, with commas between them, or `@` and the name of the file
-        /// that has them.
-        schedule: &'a str,
-        /// For how many turns it goes on in rounds, if it does: 1 to 1,000,000 less the number of
-        /// items. Any other number is the fault `Turns`.
-        then_rest: Option<u64>,
-        /// What is printed.
-        printed: Printed,
-        /// The name of the file that its schedule is written to, with the items of the rest, if one
-        /// is. A replay of that schedule repeats this one. It is never the file of the machine text.
-        record_to: Option<&'a str>,
-        /// The name of the file with what is expected of its report.
-        expected: Option<&'a str>,
-    },
-    /// Tell what may happen next behind a schedule on the machine text in a file.
-    Next {
-        /// The name of the file with the machine text.
-        file: &'a str,
-        /// The schedule, as of `Job::Replay`.
-        schedule: &'a str,
-    },
-    /// Audit the trace in a file against the machine text in another.
-    Audit {
-        /// The name of the file with the machine text.
-        file: &'a str,
-        /// The name of the file with the trace.
-        trace: &'a str,
-        /// What is printed.
-        judged: Judged,
-    },
-    /// Draw the trace in a file.
+    /// Run a machine text.
+    Run(RunJob<'a>),
+    /// Replay a schedule.
+    Replay(ReplayJob<'a>),
+    /// Tell what may happen next behind a schedule.
+    Next(NextJob<'a>),
+    /// Audit a trace.
+    Audit(AuditJob<'a>),
+    /// Draw a trace.
     Chart(ChartJob<'a>),
-    /// Search for all endings of the machine text in a file.
+    /// Search for all endings of a machine text.
     Endings(EndingsJob<'a>),
-    /// Report all faults of the machine text in a file, or else what is doubtful there, and all
-    /// faults of a schedule for it.
-    Lint {
-        /// The name of the file with the machine text.
-        file: &'a str,
-        /// The schedule, as of `Job::Replay`, where one is given.
-        schedule: Option<&'a str>,
-    },
+    /// Report all that is wrong in a machine text.
+    Lint(LintJob<'a>),
 }
 
 impl<'a> Job<'a> {
@@ -212,48 +235,39 @@ impl<'a> Job<'a> {
         ensures { result.now ≡ file_of self.now }
     {
         match *self {
-            Job::Run { file, .. } | Job::Replay { file, .. } | Job::Next { file, .. } => file,
-            Job::Audit { file, .. } | Job::Lint { file, .. } => file,
+            Job::Run(run) => run.file,
+            Job::Replay(replay) => replay.file,
+            Job::Next(next) => next.file,
+            Job::Audit(audit) => audit.file,
             Job::Chart(chart) => chart.file,
             Job::Endings(search) => search.file,
+            Job::Lint(lint) => lint.file,
         }
     }
 
     /// The name of the file with the trace, or with the schedule where that is in a file. None
     /// where the job reads neither.
     pub fn second_file(&self) -> Option<&'a str>
-        ensures { option_map (λ name. name.now) result ≡ second_file_of self.now }
+        ensures { option_copied result ≡ second_file_of self.now }
     {
         match *self {
-            Job::Run { .. } | Job::Endings(_) | Job::Lint { schedule: None, .. } => None,
-            Job::Replay { schedule, .. }
-            | Job::Next { schedule, .. }
-            | Job::Lint {
-                schedule: Some(schedule),
-                ..
-            } => list_name(schedule),
-            Job::Audit { trace, .. } => Some(trace),
+            Job::Run(_) | Job::Endings(_) => None,
+            Job::Replay(replay) => list_name(replay.schedule),
+            Job::Next(next) => list_name(next.schedule),
+            Job::Audit(audit) => Some(audit.trace),
             Job::Chart(chart) => Some(chart.trace),
+            Job::Lint(lint) => list_name(lint.schedule?),
         }
     }
 
     /// The name of the file with what is expected of it, if anything is.
     pub fn expected(&self) -> Option<&'a str>
-        ensures { option_map (λ name. name.now) result ≡ expected_of self.now }
+        ensures { option_copied result ≡ expected_of self.now }
     {
         match *self {
-            Job::Run { expected, .. } | Job::Replay { expected, .. } => expected,
+            Job::Run(run) => run.expected,
+            Job::Replay(replay) => replay.expected,
             Job::Endings(search) => search.expected,
-            Job::Next { .. } | Job::Audit { .. } | Job::Chart(_) | Job::Lint { .. } => None,
-        }
-    }
-
-    /// The name of the file that its schedule is written to, if one is.
-    pub fn record_to(&self) -> Option<&'a str>
-        ensures { option_map (λ name. name.now) result ≡ record_of self.now }
-    {
-        match *self {
-            Job::Run { record_to, .. } | Job::Replay { record_to, .. } => record_to,
             _ => None,
         }
     }
@@ -263,32 +277,16 @@ impl<'a> Job<'a> {
         ensures { result ≡ alone self.now }
     {
         match *self {
-            Job::Run {
-                file,
-                turns,
-                printed,
-                ..
-            } => Job::Run {
-                file,
-                turns,
-                printed,
+            Job::Run(run) => Job::Run(RunJob {
                 record_to: None,
                 expected: None,
-            },
-            Job::Replay {
-                file,
-                schedule,
-                then_rest,
-                printed,
-                ..
-            } => Job::Replay {
-                file,
-                schedule,
-                then_rest,
-                printed,
+                ..run
+            }),
+            Job::Replay(replay) => Job::Replay(ReplayJob {
                 record_to: None,
                 expected: None,
-            },
+                ..replay
+            }),
             Job::Endings(search) => Job::Endings(EndingsJob {
                 expected: None,
                 ..search
@@ -324,7 +322,7 @@ impl<'a> Job<'a> {
 /// The name of the file that has the schedule: what follows a first `@`. None where there is no
 /// `@`.
 pub fn list_name(schedule: &str) -> Option<&str>
-    ensures { option_map (λ name. name.now) result ≡ list_name schedule.now }
+    ensures { option_copied result ≡ list_name schedule.now }
 {
     schedule.strip_prefix('@')
 }

@@ -2,8 +2,8 @@
 
 /// The version of the program and of the kit that proves it, and the profiles and formats that it
 /// reads.
-pub const VERSION: &str = "0.36
-rattle-kit-13b logic dac8208d650f15bf
+pub const VERSION: &str = "0.37
+rattle-kit-13f logic dac8208d650f15bf
 profiles 1 and 2, words of 64 and 32 bits";
 
 pub const RUN_EXAMPLE: &str = "Example: `l4run run ping.l4`, where the file ping.l4 has the lines

@@ -4,18 +4,15 @@ ghost use Rattle.std.specs.String.{string_bytes};
 ghost use Rattle.clap.specs.Words.{subcommand_of, subcommand_rows_of, kind_of};
 ghost use Rattle.clap.specs.declared.error.kind.ErrorKind.TheVariants.{OutOfMemory as MemoryKind};
 ghost use Rattle.clap.specs.declared.error.kind.ErrorKind.TheVariants.{ArgumentConflict};
-ghost use Rattle.l4_commands.specs.Asked.{asked_by, asked_of, line_text, reason, told_of, usage_text, wrong_in};
+ghost use Rattle.l4_commands.specs.Asked.{IsAsked, line_text, reason, told_of, usage_text, wrong_in};
 ghost use Rattle.l4_commands.specs.Asked.{IsRefusal, Tells};
 ghost use Rattle.l4_commands.specs.Commands.{l4run_app, faults_of};
 ghost use Rattle.l4_commands.specs.declared.words.WordsFault.TheVariants.{NoMemory as OutOfMemory};
 
-use crate::asked::{Conflict, excluded, job_of_matches};
+use crate::asked::{Conflict, conflict_in, job_of_matches};
 use crate::commands::l4run_command;
 use crate::job::Job;
-use crate::texts::{
-    DELETED_LINE, INPUT_TWICE, NEXT_BESIDE, NONE_AND_SOME, NUMBER_LINE, OVER_ITS_FILE,
-    RECORD_AND_EXPECT, SCHEDULE_OF_RUN, TRACE_BESIDE, TURNS_ALONE, TWO_FORMS, UNKNOWN_LINE,
-};
+use crate::texts::{DELETED_LINE, NUMBER_LINE, UNKNOWN_LINE};
 use clap::error::ErrorKind;
 use clap::{ArgMatches, Error};
 use l4_lines::lines::LineFault;
@@ -90,16 +87,8 @@ fn conflict_text(alloc: Global, conflict: Conflict<'_>) -> Result<String, AllocE
     ensures { IfOk result (λ text. string_bytes text ≡ usage_text conflict.entry) }
 {
     match conflict {
-        Conflict::InputTwice => String::from_str(alloc, INPUT_TWICE),
-        Conflict::ScheduleOfRun => String::from_str(alloc, SCHEDULE_OF_RUN),
-        Conflict::RecordAndExpect => String::from_str(alloc, RECORD_AND_EXPECT),
-        Conflict::TurnsAlone => String::from_str(alloc, TURNS_ALONE),
-        Conflict::NextBeside => String::from_str(alloc, NEXT_BESIDE),
-        Conflict::OverItsFile => String::from_str(alloc, OVER_ITS_FILE),
-        Conflict::TwoForms => String::from_str(alloc, TWO_FORMS),
+        Conflict::Arguments(text) => String::from_str(alloc, text),
         Conflict::Line(line, fault) => line_text(alloc, line, reason(fault)),
-        Conflict::NoneAndSome => String::from_str(alloc, NONE_AND_SOME),
-        Conflict::TraceBeside => String::from_str(alloc, TRACE_BESIDE),
     }
 }
 
@@ -120,15 +109,14 @@ fn usage_of(alloc: Global, conflict: Conflict<'_>) -> WordsFault
 /// refused, which says nothing about the words. Where `clap` accepts the words, a usage text is that
 /// of the first conflict that they have.
 pub fn job_of<'a>(alloc: Global, words: &'a [&'a str]) -> Result<Job<'a>, WordsFault>
-    ensures ok { IfOk result (λ job.
-        asked_of (map (λ word. word.now) words.now) ≡ Some (asked_by job)) }
-    ensures right { IfOk result (λ job. faults_of (map (λ word. word.now) words.now) ≡ []) }
+    ensures ok { IfOk result (IsAsked (map (λ word. word.now) words.now)) }
+    ensures right { IfOk result (λ job. wrong_in (map (λ word. word.now) words.now) ≡ []) }
     ensures err { IfErr result (IsRefusal (wrong_in (map (λ word. word.now) words.now))) }
     ensures told { IfErr result (λ fault. faults_of (map (λ word. word.now) words.now) ≡ []
         → Tells (told_of (map (λ word. word.now) words.now)) fault) }
 {
     let matches = matches_of(alloc, words)?;
-    if let Some(conflict) = excluded(&matches) {
+    if let Some(conflict) = conflict_in(&matches) {
         return Err(usage_of(alloc, conflict));
     }
     job_of_matches(&matches).ok_or(WordsFault::NoMemory)

@@ -61,7 +61,8 @@ pub fn endings<P: Progress>(
         r.is_whole ≡ true → (r.depth < depth) × IsDeepest machine.now r.depth) }
 {
     machine.facts();
-    let explored = explore(alloc, &Choices { machine }, depth, most, progress)?;
+    let mut choices = Choices { machine };
+    let explored = explore(alloc, &mut choices, depth, most, progress)?;
     Ok(FoundEndings {
         endings: ends(alloc, machine, &explored.found)?,
         states: explored.found.len(),

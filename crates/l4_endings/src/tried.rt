@@ -41,7 +41,7 @@ impl<'m> Tries for Choices<'m> {
     }
 
     fn choices(
-        &self,
+        &mut self,
         alloc: Global,
         found: &Found,
         place: usize,

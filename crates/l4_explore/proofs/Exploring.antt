@@ -1,5 +1,5 @@
 -- Where a search ends, what it has found is what it says.
-use Rattle.std.proofs.Common.{◌≡◌, ℕ, ◌+◌, ◌-◌, ◌<◌, ◌≤◌, true, false, ◌⊎◌, inl, inr, List, length, Option, refl, ap, arith}
+use Rattle.std.proofs.Common.{◌≡◌, ℕ, ◌+◌, ◌-◌, ◌<◌, ◌≤◌, true, false, ◌⊎◌, inl, inr, List, [], ◌∷◌, length, zero, suc, Option, None, Some, refl, sym, ap, ◌∙◌, arith}
 use Rattle.std.proofs.Math.Nat.{eq-or-lt_of_le}
 use Rattle.std.proofs.lemmas.Bool.{cases_lt}
 use Rattle.l4_explore.specs.Orders.{IsBefore}
@@ -113,3 +113,44 @@ pub all_shallow : (f : List ℕ → Option State) (offers : Offers) (found : Lis
 all_shallow f offers found next depth s short i l =
     let d = no_deeper f found i next s.all (omega arith) (omega (arith, s.within)) in
     omega (arith, d, short)
+
+-- At first the opening state alone is found, and none was gone on from.
+module _ (f : List ℕ → Option State) (offers : Offers) (opening : State)
+    (is : f [] ≡ Some opening) where
+  abbrev one : List Seen
+  one = record { state = opening; schedule = [] } ∷ []
+
+  state_in : Option State → State
+  state_in (Some state) = state
+  state_in None = opening
+
+  pub opening_searched : IsSearched f offers one 0
+  unfolding state_in
+  opening_searched = record {
+    all = record {
+      opening = λ state leads. record {
+        place = 0;
+        inside = omega arith;
+        is = ap state_in (sym is ∙ leads);
+        early = inl refl;
+      };
+      reached = reached;
+      once = λ i j l m e. omega (arith, l, m);
+      rising = λ i j l m. absurd (omega (arith, l, m));
+    };
+    within = omega arith;
+    gone_on = λ i l. absurd (omega (arith, l));
+    before = λ j e l m. before j e m;
+  }
+    where
+      reached : (i : ℕ) → i < 1 → f (seen_at one i).schedule ≡ Some (seen_at one i).state
+      reached zero l = is
+      reached (suc i) l = absurd (omega (arith, l))
+
+      before : (j e : ℕ) → j < 1 → IsBefore (seen_at one j).schedule (e ∷ [])
+      before zero e l = inl (omega arith)
+      before (suc j) e l = absurd (omega (arith, l))
+
+  pub opening_within : (depth : ℕ) → AreWithin one depth
+  opening_within depth zero l = omega arith
+  opening_within depth (suc i) l = absurd (omega (arith, l))

@@ -1,5 +1,5 @@
 -- The tree of what was found, and the list that it shows.
-use Rattle.std.proofs.Common.{◌≡◌, ℕ, zero, suc, ◌+◌, ◌<◌, Bool, true, false, ◌⊎◌, inl, inr, List, [], ◌∷◌, ◌++◌, map, length, get_or, Some, refl, sym, ap, subst, ◌∙◌, arith, append_assoc}
+use Rattle.std.proofs.Common.{◌≡◌, ℕ, zero, suc, ◌+◌, ◌<◌, Bool, true, false, ◌⊎◌, inl, inr, List, [], ◌∷◌, ◌++◌, map, length, get_or, refl, sym, ap, subst, ◌∙◌, arith, append_assoc}
 use Rattle.std.specs.List.{zip}
 use Rattle.std.specs.Str.{bytes_eq}
 use Rattle.std.proofs.Math.ListN.{length-append, get_or-map, get_or-append}
@@ -11,14 +11,14 @@ use Rattle.std.proofs.lemmas.List.{map-append, length-map}
 use Rattle.l4_explore.specs.Tries.{State}
 use Rattle.l4_explore.specs.Search.{Seen, seen_at, unseen, has_code}
 use Rattle.l4_explore.specs.Grown.{Node, node_at, no_node, grown, all_grown, seen_of, AreNodes}
-use Rattle.l4_explore.specs.Views.{node_from, nodes_from, AreArrivals, IsArrived}
+use Rattle.l4_explore.specs.Views.{all_arrived, arrived_by, node_from, nodes_from, AreArrivals, AreKept, Arrived, IsStep}
 use Rattle.l4_explore.specs.Codes.{code_at}
 use Rattle.l4_explore.specs.declared.found.Arrival.{Arrival}
 use Rattle.l4_explore.proofs.Listed.{seen_at-old, seen_at-new, place_of_code}
 use Rattle.l4_explore.proofs.Trying.{below_or_last}
 
 -- What arrivals give past their end.
-abbrev pub no_arrival : Arrival
+abbrev pub no_arrival : Arrived
 no_arrival = record { from = 0; entry = 0; is_end = false }
 
 -- A state is shown for each.
@@ -121,7 +121,7 @@ state_at ns i =
     ∙ get_or-map (λ (n : Node). n.state) ns i no_node
 
 -- What is kept of each
-module _ (codes : List (List ℕ)) (arrivals : List Arrival) (are : AreArrivals codes arrivals) where
+module _ (codes : List (List ℕ)) (arrivals : List Arrived) (are : AreArrivals codes arrivals) where
   pub length-nodes : length (nodes_from codes arrivals) ≡ length codes
   length-nodes =
       length-map (zip codes arrivals) node_from ∙ length-zip codes arrivals
@@ -142,23 +142,23 @@ module _ (codes : List (List ℕ)) (arrivals : List Arrival) (are : AreArrivals 
     code_there = ap (λ (s : State). s.code) (state_at (nodes_from codes arrivals) i)
         ∙ ap (λ (n : Node). n.state.code) node_there
 
-    module _ (a : Arrival) (at : a ≡ get_or arrivals i no_arrival) where
+    module _ (a : Arrived) (at : a ≡ get_or arrivals i no_arrival) where
       node_here : node_at (nodes_from codes arrivals) i ≡ node_from (code_at codes i, a)
-      node_here = node_there ∙ ap (λ (b : Arrival). node_from (code_at codes i, b)) (sym at)
+      node_here = node_there ∙ ap (λ (b : Arrived). node_from (code_at codes i, b)) (sym at)
 
       pub is_end_there : a.is_end
           ≡ (seen_at (seen_of (nodes_from codes arrivals)) i).state.is_end
       is_end_there = ap (λ (n : Node). n.state.is_end) (sym node_here)
           ∙ ap (λ (s : State). s.is_end) (sym (state_at (nodes_from codes arrivals) i))
 
-      pub arrived : 0 < i → IsArrived (seen_of (nodes_from codes arrivals)) i (Some a)
+      pub arrived : 0 < i → IsStep (seen_of (nodes_from codes arrivals)) i a.from a.entry
       arrived some = by i some l node_here
         where
           ns : List Node
           ns = nodes_from codes arrivals
 
           by : (i : ℕ) → 0 < i → i < length codes → node_at ns i ≡ node_from (code_at codes i, a) →
-              IsArrived (seen_of ns) i (Some a)
+              IsStep (seen_of ns) i a.from a.entry
           by zero some l here = absurd (omega arith)
           by (suc j) some l here =
               let e : j + 1 ≡ suc j = omega arith in
@@ -226,7 +226,7 @@ zip_more (a ∷ xs) [] x y e = absurd (omega (arith, e))
 zip_more (a ∷ xs) (b ∷ ys) x y e =
     ap (λ ps. (a, b) ∷ ps) (zip_more xs ys x y (let f : length ys ≡ length xs = omega (arith, e) in f))
 
-module _ (codes : List (List ℕ)) (arrivals : List Arrival) (code : List ℕ) (a : Arrival)
+module _ (codes : List (List ℕ)) (arrivals : List Arrived) (code : List ℕ) (a : Arrived)
     (are : AreArrivals codes arrivals) where
   nodes_are : nodes_from (codes ++ code ∷ []) (arrivals ++ a ∷ [])
       ≡ nodes_from codes arrivals ++ node_from (code, a) ∷ []
@@ -248,3 +248,77 @@ module _ (codes : List (List ℕ)) (arrivals : List Arrival) (code : List ℕ) (
       ++ grown (seen_of (nodes_from codes arrivals)) (node_from (code, a)) ∷ []
   seen_more = ap seen_of nodes_are
       ∙ seen_of-more (nodes_from codes arrivals) (node_from (code, a)) are.nodes.some
+
+-- Ends are kept beside
+
+module _ (arrivals : List Arrival) (ends : List Bool) (each : length ends ≡ length arrivals) where
+  pub length-all_arrived : length (all_arrived arrivals ends) ≡ length arrivals
+  length-all_arrived =
+      length-map (zip arrivals ends) arrived_by ∙ length-zip arrivals ends ∙ omega (arith, each)
+
+  pub arrived_at : (i : ℕ) → i < length arrivals → (none : Arrival) →
+      get_or (all_arrived arrivals ends) i (arrived_by (none, false))
+      ≡ arrived_by (get_or arrivals i none, get_or ends i false)
+  arrived_at i l none =
+      get_or-map arrived_by (zip arrivals ends) i (none, false)
+      ∙ ap arrived_by (get_or-zip arrivals ends i (none, false) l (omega (arith, l, each)))
+
+  pub all_arrived-more : (a : Arrival) (is_end : Bool) →
+      all_arrived (arrivals ++ a ∷ []) (ends ++ is_end ∷ [])
+      ≡ all_arrived arrivals ends ++ arrived_by (a, is_end) ∷ []
+  all_arrived-more a is_end =
+      ap (map arrived_by) (zip_more arrivals ends a is_end each)
+      ∙ map-append arrived_by (zip arrivals ends) ((a, is_end) ∷ [])
+
+abbrev pub no_step : Arrival
+no_step = record { from = 0; entry = 0 }
+
+module _ (codes : List (List ℕ)) (arrivals : List Arrival) (ends : List Bool)
+    (kept : AreKept codes arrivals ends) where
+  abbrev all : List Arrived
+  all = all_arrived arrivals ends
+
+  abbrev seen : List Seen
+  seen = seen_of (nodes_from codes all)
+
+  pub length-kept : length seen ≡ length arrivals
+  length-kept = length-seen codes all kept.are ∙ sym kept.are.each
+      ∙ length-all_arrived arrivals ends kept.each_end
+
+  module _ (i : ℕ) (l : i < length seen) where
+    here : arrived_by (get_or arrivals i no_step, get_or ends i false) ≡ get_or all i no_arrival
+    here = sym (arrived_at arrivals ends kept.each_end i (omega (arith, l, length-kept)) no_step)
+
+    below : i < length codes
+    below = omega (arith, l, length-seen codes all kept.are)
+
+    pub end_there : (is_end : Bool) → is_end ≡ get_or ends i false →
+        is_end ≡ (seen_at seen i).state.is_end
+    end_there is_end is =
+        is ∙ is_end_there codes all kept.are i below
+        (arrived_by (get_or arrivals i no_step, get_or ends i false)) here
+
+    pub step_there : (a : Arrival) → a ≡ get_or arrivals i no_step → 0 < i →
+        IsStep seen i a.from a.entry
+    step_there a is some =
+        subst (λ (b : Arrival). IsStep seen i b.from b.entry) (sym is)
+        (arrived codes all kept.are i below
+        (arrived_by (get_or arrivals i no_step, get_or ends i false)) here some)
+
+  module _ (code : List ℕ) (a : Arrival) (is_end : Bool) (from : a.from < length seen) where
+    pub kept_more : AreKept (codes ++ code ∷ []) (arrivals ++ a ∷ []) (ends ++ is_end ∷ [])
+    kept_more = record {
+      each_end = length-append ends (is_end ∷ []) ∙ omega (arith, kept.each_end)
+          ∙ sym (length-append arrivals (a ∷ []));
+      are = subst (AreArrivals (codes ++ code ∷ []))
+          (sym (all_arrived-more arrivals ends kept.each_end a is_end))
+          (arrivals_more codes all code (arrived_by (a, is_end)) kept.are from);
+    }
+
+    pub seen_kept : seen_of (nodes_from (codes ++ code ∷ [])
+        (all_arrived (arrivals ++ a ∷ []) (ends ++ is_end ∷ [])))
+        ≡ seen ++ grown seen (node_from (code, arrived_by (a, is_end))) ∷ []
+    seen_kept =
+        ap (λ more. seen_of (nodes_from (codes ++ code ∷ []) more))
+        (all_arrived-more arrivals ends kept.each_end a is_end)
+        ∙ seen_more codes all code (arrived_by (a, is_end)) kept.are

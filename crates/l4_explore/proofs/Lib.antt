@@ -1,9 +1,11 @@
 pub mod Orders
 mod Listed
+pub mod Lasting
 mod Trying
 mod Exploring
 pub mod Covering
 pub mod Nearing
 mod Growing
 mod Ends
+mod Parted
 mod Chains

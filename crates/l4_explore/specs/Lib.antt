@@ -5,5 +5,6 @@ pub mod States
 pub mod Ends
 pub mod Codes
 pub mod Table
+pub mod Rows
 pub mod Grown
 pub mod Views

@@ -24,6 +24,12 @@ pub record IsFound (found : List Seen) (state : State) (schedule : List ℕ) : T
   pub is : (seen_at found place).state ≡ state
   pub early : IsNotAfter (seen_at found place).schedule schedule
 
+-- No two of these states have equal codes.
+abbrev pub AreApart : List Seen → Type 0
+AreApart found =
+    (i j : ℕ) → i < length found → j < length found →
+    (seen_at found i).state.code ≡ (seen_at found j).state.code → i ≡ j
+
 pub record AreFound (state_of : List ℕ → Option State) (found : List Seen) : Type 0 where
   -- the opening state is among them
   pub opening : (state : State) → state_of [] ≡ Some state → IsFound found state []
@@ -31,8 +37,7 @@ pub record AreFound (state_of : List ℕ → Option State) (found : List Seen) :
   pub reached : (i : ℕ) → i < length found →
       state_of (seen_at found i).schedule ≡ Some (seen_at found i).state
   -- once: no two found states have equal codes
-  pub once : (i j : ℕ) → i < length found → j < length found →
-      (seen_at found i).state.code ≡ (seen_at found j).state.code → i ≡ j
+  pub once : AreApart found
   -- rising: the found states stand in the order of their schedules
   pub rising : (i j : ℕ) → i < j → j < length found →
       IsBefore (seen_at found i).schedule (seen_at found j).schedule
@@ -40,6 +45,12 @@ pub record AreFound (state_of : List ℕ → Option State) (found : List Seen) :
 -- What is so of the choices of a found state, whose search has gone on from those before it.
 abbrev pub Offers : Type 1
 Offers = (before : List Seen) → (seen : Seen) → (choices : List Next) → Type 0
+
+-- Both say the same of all choices.
+abbrev pub OfferTheSame : Offers → Offers → Type 0
+OfferTheSame a b =
+    (before : List Seen) (seen : Seen) (choices : List Next) →
+    (a before seen choices → b before seen choices) × (b before seen choices → a before seen choices)
 
 -- Each of these choices of a schedule leads to a found state, which was found no later than by it.
 abbrev pub AreMet : List Seen → (schedule : List ℕ) → List Next → Type 0

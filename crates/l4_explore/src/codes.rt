@@ -9,8 +9,8 @@ use std::marker::Model;
 #[derive(Drop)]
 pub struct Codes {
     bytes: Vec<u8>,
-    // Where each code ends in `bytes`. It begins where the one before it ends.
-    ends: Vec<usize>,
+    // Where each code ends in `bytes`, below 2^32. It begins where the one before it ends.
+    ends: Vec<u32>,
 }
 
 impl Model for Codes {
@@ -47,27 +47,35 @@ impl Codes {
         requires { place < length self.now }
         ensures { result.now ≡ code_at self.now place }
     {
-        &self.bytes[start(&self.ends, place)..self.ends[place]]
+        &self.bytes[start(&self.ends, place)..self.ends[place] as usize]
     }
 
     /// Adds a code at the end.
     ///
-    /// `AllocError`: memory was refused.
+    /// `AllocError`: memory was refused, or all codes would have 2^32 bytes or more.
     pub(crate) fn push(&mut self, code: &[u8]) -> Result<(), AllocError>
         ensures ok { OnOk result (self.new ≡ self.old ++ code.now ∷ []) }
         ensures err { OnErr result (self.new ≡ self.old) }
     {
+        let end = self.bytes.len() + code.len();
+        if end > u32::MAX as usize {
+            return Err(AllocError);
+        }
         self.ends.reserve(1)?;
         self.bytes.extend_from_slice(code)?;
-        self.ends.push_reserved(self.bytes.len());
+        self.ends.push_reserved(end as u32);
         Ok(())
     }
 }
 
 // Where the code at a place begins, among codes that end there.
-fn start(ends: &[usize], place: usize) -> usize
+fn start(ends: &[u32], place: usize) -> usize
     requires { place ≤ length ends.now }
     ensures { result ≡ start_of ends.now place }
 {
-    if place == 0 { 0 } else { ends[place - 1] }
+    if place == 0 {
+        0
+    } else {
+        ends[place - 1] as usize
+    }
 }

@@ -3,7 +3,7 @@ ghost use Rattle.std.specs.Prelude.{◌≡◌, ◌<◌, ◌++◌, ◌∷◌, ◌
 ghost use Rattle.l4_explore.specs.Search.{has_code, seen_at, seen_next};
 ghost use Rattle.l4_explore.specs.Views.{IsArrived, state_from};
 
-use crate::table::CodeTable;
+use crate::row_table::RowTable;
 use crate::tries::Reached;
 use std::alloc::{AllocError, Global};
 use std::marker::Model;
@@ -12,9 +12,11 @@ use std::marker::Model;
 /// schedule that it was found by.
 #[derive(Drop)]
 pub struct Found {
-    codes: CodeTable,
+    codes: RowTable,
     // How each of them was found.
     arrivals: Vec<Arrival>,
+    // Whether nothing is left to do in each of them.
+    ends: Vec<bool>,
 }
 
 // How a state was found: from the state at a place, by one more entry. The first state is that of
@@ -23,20 +25,19 @@ pub struct Found {
 struct Arrival {
     from: u32,
     entry: u32,
-    is_end: bool,
 }
 
 impl Model for Found {
     ghost use Rattle.std.specs.Prelude.{List};
     ghost use Rattle.l4_explore.specs.Search.{Seen};
     ghost use Rattle.l4_explore.specs.Grown.{seen_of};
-    ghost use Rattle.l4_explore.specs.Views.{nodes_from, AreArrivals};
+    ghost use Rattle.l4_explore.specs.Views.{all_arrived, nodes_from, AreKept};
 
     ghost Value = { List Seen };
 
-    ghost view = { λ f. seen_of (nodes_from f.codes f.arrivals.items) };
+    ghost view = { λ f. seen_of (nodes_from f.codes (all_arrived f.arrivals.items f.ends.items)) };
 
-    ghost invariant = { λ f. AreArrivals f.codes f.arrivals.items };
+    ghost invariant = { λ f. AreKept f.codes f.arrivals.items f.ends.items };
 }
 
 impl Found {
@@ -47,14 +48,11 @@ impl Found {
         ensures { IfOk result (λ found.
             found ≡ record { state = state_from opening; schedule = [] } ∷ []) }
     {
-        let arrival = Arrival {
-            from: 0,
-            entry: 0,
-            is_end: opening.is_end,
-        };
-        let codes = CodeTable::new(alloc, &opening.code)?;
-        let arrivals = vec![in alloc; arrival]?;
-        Ok(Found { codes, arrivals })
+        Ok(Found {
+            codes: RowTable::new(alloc, &opening.code)?,
+            arrivals: vec![in alloc; Arrival { from: 0, entry: 0 }]?,
+            ends: vec![in alloc; opening.is_end]?,
+        })
     }
 
     /// The number of found states, at least one.
@@ -66,11 +64,13 @@ impl Found {
     }
 
     /// The code of the state at a place.
-    pub fn code(&self, place: usize) -> &[u8]
+    ///
+    /// `AllocError`: memory was refused.
+    pub fn code(&self, alloc: Global, place: usize) -> Result<Vec<u8>, AllocError>
         requires { place < length self.now }
-        ensures { result.now ≡ (seen_at self.now place).state.code }
+        ensures { IfOk result (λ code. code.items ≡ (seen_at self.now place).state.code) }
     {
-        self.codes.code(place)
+        self.codes.code(alloc, place)
     }
 
     /// Whether nothing is left to do in the state at a place.
@@ -78,7 +78,7 @@ impl Found {
         requires { place < length self.now }
         ensures { result ≡ (seen_at self.now place).state.is_end }
     {
-        self.arrival(place).is_end
+        self.ends[place]
     }
 
     /// The schedule of the state at a place.
@@ -88,7 +88,7 @@ impl Found {
         requires { place < length self.now }
         ensures { IfOk result (λ schedule. schedule.items ≡ (seen_at self.now place).schedule) }
     {
-        let mut schedule = Vec::new(alloc);
+        let mut schedule = Vec::with_capacity(alloc, self.depth(place))?;
         let mut place = place;
         while let Some(arrival) = self.last_step(place) {
             schedule.push(arrival.entry)?;
@@ -124,7 +124,6 @@ impl Found {
     // How the state at a place was found.
     fn arrival(&self, place: usize) -> Arrival
         requires { place < length self.now }
-        ensures end { result.is_end ≡ (seen_at self.now place).state.is_end }
         ensures first { IsArrived self.now 0 None }
         ensures later { 0 < place → IsArrived self.now place (Some result) }
     {
@@ -169,11 +168,12 @@ impl Found {
         let arrival = Arrival {
             from: from as u32,
             entry,
-            is_end: reached.is_end,
         };
         self.arrivals.reserve(1)?;
-        self.codes.push(&reached.code)?;
+        self.ends.reserve(1)?;
+        self.codes.push(*reached.code.allocator(), &reached.code)?;
         self.arrivals.push_reserved(arrival);
+        self.ends.push_reserved(reached.is_end);
         Ok(())
     }
 }

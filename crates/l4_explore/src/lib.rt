@@ -8,7 +8,7 @@
 //! (`AreAllEnds`).
 //!
 //! ```rust
-//! let explored = explore(alloc, &walk, 10, 100, &mut Unheard)?;
+//! let explored = explore(alloc, &mut walk, 10, 100, &mut Unheard)?;
 //! let schedule = explored.found.schedule(alloc, 4)?; // of the fifth state
 //! ```
 #![tactic(auto)]
@@ -16,6 +16,8 @@
 mod codes;
 pub mod found;
 pub mod progress;
+mod row_table;
+mod rows;
 pub mod search;
 mod table;
 pub mod tries;

@@ -1,6 +1,6 @@
 //! Breadth-first search.
 ghost use Rattle.std.specs.Prelude.{◌≡◌, ◌<◌, ◌≤◌, ◌+◌, min, false, true, IfOk, OnOk, length};
-ghost use Rattle.l4_explore.specs.Search.{depth_of, met, seen_at, AreFound, AreWithin, IsCut, IsExplored, IsSearched, IsStopped};
+ghost use Rattle.l4_explore.specs.Search.{depth_of, met, seen_at, AreFound, AreWithin, IsCut, IsExplored, IsSearched, IsStopped, OfferTheSame};
 ghost use Rattle.l4_explore.specs.Tries.{deepest};
 ghost use Rattle.l4_explore.specs.Views.{next_from};
 
@@ -30,23 +30,24 @@ pub struct Explored {
 /// than 1,000,000 entries. `progress` hears how far the search has come: once for each state that
 /// the search goes on from, and at last that it has ended.
 ///
-/// `AllocError`: memory was refused.
+/// `AllocError`: memory was refused, or a search would keep 4 GiB of parts of codes, or of their
+/// numbers.
 pub fn explore<T: Tries, P: Progress>(
     alloc: Global,
-    tries: &T,
+    tries: &mut T,
     depth: u32,
     most: u32,
     progress: &mut P,
 ) -> Result<Explored, AllocError>
     requires { 0 < most }
     ensures explored { IfOk result (λ r.
-        IsExplored (T.state_of tries.now) (T.offers tries.now) r.found r.depth r.is_whole) }
+        IsExplored (T.state_of tries.old) (T.offers tries.old) r.found r.depth r.is_whole) }
     ensures few { IfOk result (λ r. length r.found ≤ most) }
     ensures whole { IfOk result (λ r.
         r.is_whole ≡ true → (r.depth ≡ depth_of r.found) × (r.depth < depth)) }
     ensures cut { IfOk result (λ r.
         r.is_whole ≡ false →
-        IsCut (T.state_of tries.now) (T.offers tries.now) r.found (min depth deepest) most r.depth) }
+        IsCut (T.state_of tries.old) (T.offers tries.old) r.found (min depth deepest) most r.depth) }
 {
     let explored = explore_on(alloc, tries, depth.min(DEEPEST), most, progress);
     progress.ended();
@@ -56,7 +57,7 @@ pub fn explore<T: Tries, P: Progress>(
 // Goes on from one state after the other.
 fn explore_on<T: Tries, P: Progress>(
     alloc: Global,
-    tries: &T,
+    tries: &mut T,
     depth: u32,
     most: u32,
     progress: &mut P,
@@ -64,13 +65,13 @@ fn explore_on<T: Tries, P: Progress>(
     requires some { 0 < most }
     requires short { depth ≤ deepest }
     ensures explored { IfOk result (λ r.
-        IsExplored (T.state_of tries.now) (T.offers tries.now) r.found r.depth r.is_whole) }
+        IsExplored (T.state_of tries.old) (T.offers tries.old) r.found r.depth r.is_whole) }
     ensures few { IfOk result (λ r. length r.found ≤ most) }
     ensures whole { IfOk result (λ r.
         r.is_whole ≡ true → (r.depth ≡ depth_of r.found) × (r.depth < depth)) }
     ensures cut { IfOk result (λ r.
         r.is_whole ≡ false →
-        IsCut (T.state_of tries.now) (T.offers tries.now) r.found depth most r.depth) }
+        IsCut (T.state_of tries.old) (T.offers tries.old) r.found depth most r.depth) }
 {
     let mut found = Found::new(alloc, tries.opening(alloc)?)?;
     let mut next = 0;
@@ -105,25 +106,27 @@ fn explore_on<T: Tries, P: Progress>(
 // wanted.
 fn expand<T: Tries>(
     alloc: Global,
-    tries: &T,
+    tries: &mut T,
     found: &mut Found,
     next: usize,
     most: u32,
 ) -> Result<bool, AllocError>
-    requires searched { IsSearched (T.state_of tries.now) (T.offers tries.now) found.old next }
+    requires searched { IsSearched (T.state_of tries.old) (T.offers tries.old) found.old next }
     requires inside { next < length found.old }
     requires few { length found.old ≤ most }
     requires short { length (seen_at found.old next).schedule < deepest }
     ensures few { OnOk result (length found.new ≤ most) }
-    ensures found { OnOk result (AreFound (T.state_of tries.now) found.new) }
+    ensures found { OnOk result (AreFound (T.state_of tries.old) found.new) }
     ensures same { OnOk result (seen_at found.new next ≡ seen_at found.old next) }
     ensures near { OnOk result (
         AreWithin found.new (length (seen_at found.old next).schedule + 1)) }
     ensures all { IfOk result (λ all. all ≡ true →
-        IsSearched (T.state_of tries.now) (T.offers tries.now) found.new (next + 1)) }
+        IsSearched (T.state_of tries.old) (T.offers tries.old) found.new (next + 1)) }
     ensures stopped { IfOk result (λ all. all ≡ false →
-        IsStopped (T.state_of tries.now) (T.offers tries.now) found.new next) }
+        IsStopped (T.state_of tries.old) (T.offers tries.old) found.new next) }
     ensures full { IfOk result (λ all. all ≡ false → length found.new ≡ most) }
+    ensures same_states { T.state_of tries.new ≡ T.state_of tries.old }
+    ensures same_offers { OfferTheSame (T.offers tries.old) (T.offers tries.new) }
 {
     for choice in tries.choices(alloc, found, next)? {
         if !meet(found, next, choice, most)? {

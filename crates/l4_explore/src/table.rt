@@ -1,5 +1,5 @@
 //! A table of codes, in which a code is looked up.
-ghost use Rattle.std.specs.Prelude.{◌≡◌, ◌+◌, ◌<◌, ◌≤◌, ◌++◌, ◌∷◌, ◌^◌, [], ℕ, IfNone, IfOk, IfSome, OnErr, OnOk, length};
+ghost use Rattle.std.specs.Prelude.{◌≡◌, ◌+◌, ◌<◌, ◌≤◌, ◌++◌, ◌∷◌, ◌^◌, [], ℕ, List, IfNone, IfOk, IfSome, OnErr, OnOk, length};
 ghost use Rattle.std.specs.Str.{bytes_eq};
 ghost use Rattle.l4_explore.specs.Codes.{bucket_of, code_at};
 ghost use Rattle.l4_explore.specs.Table.{AreChains};
@@ -10,7 +10,7 @@ use std::hash::{FoldHasher, Hasher};
 use std::marker::Model;
 
 // How many buckets a table begins with.
-const FEWEST: usize = 8;
+pub(crate) const FEWEST: usize = 8;
 
 /// At least one code. Each is found in its bucket, in a chain from the last one to the first.
 #[derive(Drop)]
@@ -149,13 +149,34 @@ fn chain(codes: &Codes, place: usize, lasts: &mut [u32], befores: &mut [u32])
     ensures room { length befores.new ≡ length befores.old }
     ensures chains { AreChains codes.now lasts.new befores.new (place + 1) }
 {
-    let bucket = bucket(codes.code(place), lasts.len());
+    link(
+        bucket(codes.code(place), lasts.len()),
+        place,
+        lasts,
+        befores,
+    );
+}
+
+// Puts a place into a bucket, behind lower places: whatever the codes are, if the one at this place
+// belongs there.
+pub(crate) fn link(bucket: usize, place: usize, lasts: &mut [u32], befores: &mut [u32])
+    requires later { 0 < place }
+    requires fits { place < 2 ^ 32 }
+    requires inside { bucket < length lasts.old }
+    requires room { place < length befores.old }
+    ensures buckets { length lasts.new ≡ length lasts.old }
+    ensures room { length befores.new ≡ length befores.old }
+    ensures chains { (codes : List (List ℕ)) → place < length codes →
+        bucket ≡ bucket_of (length lasts.old) (code_at codes place) →
+        AreChains codes lasts.old befores.old place →
+        AreChains codes lasts.new befores.new (place + 1) }
+{
     befores[place] = lasts[bucket];
     lasts[bucket] = place as u32;
 }
 
 // Which of so many buckets a code belongs to.
-fn bucket(code: &[u8], count: usize) -> usize
+pub(crate) fn bucket(code: &[u8], count: usize) -> usize
     requires { 0 < count }
     ensures bucket { result ≡ bucket_of count code.now }
     ensures inside { result < count }

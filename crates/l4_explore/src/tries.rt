@@ -1,6 +1,6 @@
 //! What can be tried by schedules.
 ghost use Rattle.std.specs.Prelude.{ℕ, ◌≡◌, ◌<◌, List, [], Some, Option, IfOk, length, map, take};
-ghost use Rattle.l4_explore.specs.Search.{seen_at, Seen};
+ghost use Rattle.l4_explore.specs.Search.{seen_at, AreApart, OfferTheSame, Seen};
 ghost use Rattle.l4_explore.specs.Tries.{deepest, AreCoded, LeadOn, Next, State};
 ghost use Rattle.l4_explore.specs.Views.{next_from, state_from};
 
@@ -44,20 +44,28 @@ pub trait Tries {
 
     /// The choices by which a search goes on from the found state at a place, in the order of their
     /// entries, each with the state that it leads to. The search has gone on from all states before
-    /// it. The schedule of the state has fewer than 1,000,000 entries.
+    /// it. The schedule of the state has fewer than 1,000,000 entries. What is tried stays the same.
     ///
     /// `AllocError`: memory was refused.
-    fn choices(&self, alloc: Global, found: &Found, place: usize) -> Result<Vec<Choice>, AllocError>
+    fn choices(
+        &mut self,
+        alloc: Global,
+        found: &Found,
+        place: usize,
+    ) -> Result<Vec<Choice>, AllocError>
         requires inside { place < length found.now }
-        requires reached { state_of self.now (seen_at found.now place).schedule
+        requires once { AreApart found.now }
+        requires reached { state_of self.old (seen_at found.now place).schedule
             ≡ Some (seen_at found.now place).state }
         requires short { length (seen_at found.now place).schedule < deepest }
         ensures leads { IfOk result (λ cs.
-            LeadOn (state_of self.now) (seen_at found.now place).schedule 0
+            LeadOn (state_of self.old) (seen_at found.now place).schedule 0
             (map next_from cs.items)) }
         ensures offered { IfOk result (λ cs.
-            offers self.now (take place found.now) (seen_at found.now place)
-            (map next_from cs.items)) };
+            offers self.old (take place found.now) (seen_at found.now place)
+            (map next_from cs.items)) }
+        ensures same_states { state_of self.new ≡ state_of self.old }
+        ensures same_offers { OfferTheSame (offers self.old) (offers self.new) };
 
     /// States with equal codes are equal.
     ghost coded: { (x : Self) → AreCoded (state_of x) };

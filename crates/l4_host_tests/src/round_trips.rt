@@ -2,8 +2,8 @@
 // to; that they come to it if memory is ample is tested. What the program records and replays is
 // tried by `.ci/command-lines`.
 use crate::runs::machine_of;
+use l4::round_trips::{audited_replay, audited_run, replayed_run};
 use l4_proc::gate::Open;
-use l4_round_trips::{audited_replay, audited_run, replayed_run};
 use l4_samples::ACROSS;
 
 #[test]

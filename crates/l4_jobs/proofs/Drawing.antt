@@ -1,8 +1,6 @@
 -- What an audit and a chart come to, from what they print of a trace.
-use Rattle.std.proofs.Common.{◌≡◌, ℕ, Bool, true, Option, Some, None, Result, Ok, List, ap, refl, sym, subst}
-use Rattle.std.specs.Option.{option_copied}
+use Rattle.std.proofs.Common.{◌≡◌, ℕ, Option, None, List, sym, subst}
 use Rattle.l4_model.specs.Machine.{Machine}
-use Rattle.l4_model.specs.Words.{GlobalId}
 use Rattle.l4_commands.specs.declared.job.ChartJob.{ChartJob}
 use Rattle.l4_commands.specs.declared.job.Judged.{Judged}
 use Rattle.l4_jobs.specs.Audits.{IsAuditDone, IsAudited, IsRefusedAt, IsRefusedBy, refusal_text, tells_refusals}

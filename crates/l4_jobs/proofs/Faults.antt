@@ -8,17 +8,13 @@ use Rattle.l4_model.specs.Steps.{Step}
 use Rattle.l4_model.specs.History.{refused_place}
 use Rattle.l4_model.proofs.Faults.{tells_first_fault}
 use Rattle.l4_core_model.specs.Runs.{Run as CoreRun}
-use Rattle.l4_choices.specs.Entries.{Entry, replay_entries}
+use Rattle.l4_choices.specs.Entries.{replay_entries}
 use Rattle.l4_expect.specs.Expected.{Expected, expectations_of}
-use Rattle.l4_expect.specs.declared.expectations.ExpectFault.{ExpectFault}
-use Rattle.l4_expect.specs.declared.judging.Scope.{Scope}
 use Rattle.l4_trace.specs.Lines.{IsTraceOf}
 use Rattle.l4_script.specs.Texts.{machine_of_text}
 use Rattle.l4_script.specs.declared.text.fault.TextFault.{TextFault}
-use Rattle.l4_machine.specs.declared.outcome.RunFault.{RunFault}
 use Rattle.l4_next.specs.Nexts.{nexts_fault}
 use Rattle.l4_schedules.specs.InFiles.{schedule_in_file}
-use Rattle.l4_schedules.specs.Items.{schedule_of}
 use Rattle.l4_commands.specs.Files.{expected_of, list_name, list_name_in}
 use Rattle.l4_commands.specs.declared.job.EndingsJob.{EndingsJob}
 use Rattle.l4_commands.specs.declared.job.Judged.{Judged}
@@ -35,7 +31,7 @@ use Rattle.l4_jobs.specs.Inputs.{FailsWith, IsRead, gives_one}
 use Rattle.l4_jobs.specs.Jobs.{IsAskedFault, IsDoneFor, IsDoneOn, IsFaultBehind, IsFaultFor, IsFaultOn}
 use Rattle.l4_jobs.specs.Nexts.{IsNextDone, IsNextFault}
 use Rattle.l4_jobs.specs.Outputs.{Output}
-use Rattle.l4_jobs.specs.Schedules.{IsReplayFault, IsScheduleFault, asked_schedule, fault_of_result, fault_of_run, named_schedule, replayed}
+use Rattle.l4_jobs.specs.Schedules.{IsReplayFault, asked_schedule, fault_of_result, fault_of_run, named_schedule, run_by_list, run_of_schedule}
 use Rattle.l4_jobs.specs.Searches.{IsAnswerBy, IsDoneBy, fault_of_question, question_of}
 use Rattle.l4_jobs.specs.declared.fault.Fault.{Fault}
 use Rattle.l4_jobs.proofs.Spelled.{trace_right}
@@ -69,33 +65,6 @@ audited_right judged m name trace lines status f (inl (p, zero)) =
     never_faulty (tells_refusals judged) m name trace p.steps f p.reads (inr (none_refused judged m trace lines p))
 audited_right judged m name trace lines status f (inr (r, one)) = never_faulty (tells_refusals judged) m name trace r.steps f r.reads (inl r.asked)
 
--- A replay that was done has a schedule and further turns without a fault.
-
-done_by : (m : Machine) (rest : Option ℕ) (schedule : Result (List Entry) RunFault) (r : CoreRun) (f : Fault) → replayed m rest schedule ≡ Ok r →
-    fault_of_result (replayed m None schedule) ≡ Some f → ⊥
-done_by m rest (Ok entries) r f done is = absurd (let bad : None ≡ Some f = is in cc)
-done_by m rest (Err e) r f done is = absurd (let bad : Err e ≡ Ok r = done in cc)
-
-list_right : (m : Machine) (rest : Option ℕ) (list trace : List ℕ) (name : Option (List ℕ)) (r : CoreRun) (f : Fault) →
-    replayed m rest (named_schedule m name list trace) ≡ Ok r → IsScheduleFault m list name (λ given. given ≡ Ok trace) f → ⊥
-list_right m rest list trace None r f done is = done_by m rest (schedule_of m list) r f done is
-list_right m rest list trace (Some name) r f done (inl (kind, given, unread)) = never_unread trace kind given
-list_right m rest list trace (Some name) r f done (inr (text, given, faulty)) =
-    done_by m rest (schedule_in_file m text) r f (ap (λ t. replayed m rest (schedule_in_file m t)) (all_given trace text given) ∙ done) faulty
-
-rest_right : (m : Machine) (rest : Option ℕ) (list trace text : List ℕ) (name : Option (List ℕ)) (r : CoreRun) (f : Fault) →
-    replayed m rest (named_schedule m name list trace) ≡ Ok r → IsRead name (λ given. given ≡ Ok trace) text →
-    fault_of_result (replayed m rest (named_schedule m name list text)) ≡ Some f → ⊥
-rest_right m rest list trace text None r f done read faulty = absurd (let bad : None ≡ Some f = sym (ap fault_of_result done) ∙ faulty in cc)
-rest_right m rest list trace text (Some name) r f done read faulty =
-    let same = ap (λ t. replayed m rest (schedule_in_file m t)) (all_given trace text read) ∙ done in
-    absurd (let bad : None ≡ Some f = sym (ap fault_of_result same) ∙ faulty in cc)
-
-replay_right : (m : Machine) (rest : Option ℕ) (list trace : List ℕ) (r : CoreRun) (f : Fault) → replayed m rest (asked_schedule m list trace) ≡ Ok r →
-    IsReplayFault m rest list (λ given. given ≡ Ok trace) f → ⊥
-replay_right m rest list trace r f done (inl is) = list_right m rest list trace (list_name list) r f done is
-replay_right m rest list trace r f done (inr is) = rest_right m rest list trace is.text (list_name list) r f done is.read is.faulty
-
 -- What a search is asked has no fault where it was done.
 
 answered_right : (scheduler : Scheduler) (q : Question) (m : Machine) (waits : Bool) (expected : Option (List Expected)) (lines unmet : List ℕ) (status : ℕ) →
@@ -115,47 +84,51 @@ unread : (name : Option (List ℕ)) (text : List ℕ) (f : Fault) → IsSomeAnd 
 unread None text f is = is
 unread (Some name) text f (kind, given, failed) = never_unread text kind given
 
-same_list : (m : Machine) (rest : Option ℕ) (schedule : List ℕ) (name : Option (List ℕ)) (list read : List ℕ) (r : CoreRun) → IsRead name (gives_one read) list →
-    replayed m rest (named_schedule m name schedule list) ≡ Ok r → replayed m rest (named_schedule m name schedule read) ≡ Ok r
-same_list m rest schedule None list read r reads is = is
-same_list m rest schedule (Some name) list read r reads is = ap (λ t. replayed m rest (schedule_in_file m t)) (sym (all_given read list reads)) ∙ is
+-- A list that is given as one text has one schedule, so a run by it has no fault.
+
+one_schedule : (m : Machine) (list read text : List ℕ) (name : Option (List ℕ)) → IsRead name (gives_one read) text →
+    named_schedule m name list text ≡ named_schedule m name list read
+one_schedule m list read text None is = refl
+one_schedule m list read text (Some name) is = ap (schedule_in_file m) (all_given read text is)
+
+same_schedule : (m : Machine) (list read text other : List ℕ) → IsRead (list_name list) (gives_one read) text → IsRead (list_name list) (gives_one read) other →
+    asked_schedule m list text ≡ asked_schedule m list other
+same_schedule m list read text other is are =
+    one_schedule m list read text (list_name list) is ∙ sym (one_schedule m list read other (list_name list) are)
+
+replay_right : (m : Machine) (rest : Option ℕ) (list read text : List ℕ) (r : CoreRun) (f : Fault) → IsRead (list_name list) (gives_one read) text →
+    run_by_list m rest list text ≡ Ok r → IsReplayFault m rest list (gives_one read) f → ⊥
+replay_right m rest list read text r f reads done (inl is) = unread (list_name list) read f is
+replay_right m rest list read text r f reads done (inr is) =
+    let same = ap (run_of_schedule m rest) (same_schedule m list read is.text text is.read reads) ∙ done in
+    absurd (let bad : None ≡ Some f = sym (ap fault_of_result same) ∙ is.faulty in cc)
 
 -- What may happen next was told, so the schedule has no fault and has room for an entry more.
-
-same_entries : (m : Machine) (list read text other : List ℕ) (name : Option (List ℕ)) (entries others : List Entry) → IsRead name (gives_one read) text →
-    IsRead name (gives_one read) other → named_schedule m name list text ≡ Ok entries → named_schedule m name list other ≡ Ok others → entries ≡ others
-same_entries m list read text other None entries others reads given is are = let same : Ok entries ≡ Ok others = sym is ∙ are in cc
-same_entries m list read text other (Some name) entries others reads given is are =
-    let alike = all_given read text reads ∙ sym (all_given read other given) in
-    let same : Ok entries ≡ Ok others = sym is ∙ ap (schedule_in_file m) alike ∙ are in
-    cc
-
 next_right : (m : Machine) (list text read : List ℕ) (o : Output) (f : Fault) → IsRead (list_name list) (gives_one read) text → IsNextDone m list text o →
     IsNextFault m list (gives_one read) f → ⊥
 next_right m list text read o f reads s (inl is) =
-    let done = ap (replayed m None) s.asked in
-    list_right m None list read (list_name list) (replay_entries m s.entries) f
-    (same_list m None list (list_name list) text read (replay_entries m s.entries) reads done) is
+    replay_right m None list read text (replay_entries m s.entries) f reads (ap (run_of_schedule m None) s.asked) is
 next_right m list text read o f reads s (inr is) =
-    let same = same_entries m list read text is.text (list_name list) s.entries is.entries reads is.read s.asked is.asked in
+    let alike : Ok s.entries ≡ Ok is.entries = sym s.asked ∙ same_schedule m list read text is.text reads is.read ∙ is.asked in
+    let same : s.entries ≡ is.entries = cc in
     absurd (let bad : None ≡ Some f = sym (ap (option_map fault_of_run) (sym (ap (nexts_fault m) same) ∙ s.lawful)) ∙ is.faulty in cc)
 
 right_on : (job : Job) (text : List ℕ) (m : Machine) (read : List ℕ) (expected : Option (List Expected)) (o : Output) (f : Fault) →
     IsDoneOn job text m (gives_one read) expected o → IsFaultOn job m (gives_one read) f → ⊥
-right_on (Run file turns printed record_to name) text m read expected o f s is =
+right_on (Run run) text m read expected o f s is =
     absurd (let bad : None ≡ Some f = sym (ap (option_map fault_of_run) s.is.lawful) ∙ is in cc)
-right_on (Replay file schedule rest printed record_to name) text m read expected o f (list, reads, s) is =
-    replay_right m rest schedule.now read s.run f
-    (same_list m rest schedule.now (list_name schedule.now) list read s.run reads s.is) is
-right_on (Next file schedule) text m read expected o f (list, reads, s) is = next_right m schedule.now list read o f reads s is
-right_on (Audit file name judged) text m read expected o f (trace, given, s) is =
-    audited_right judged m name.now read o.lines o.status f (subst (λ t. IsAudited judged m t o.lines o.status) (all_given read trace given) s.audited) is
+right_on (Replay replay) text m read expected o f (list, reads, s) is =
+    replay_right m replay.then_rest replay.schedule.now read list s.run f reads s.is is
+right_on (Next next) text m read expected o f (list, reads, s) is = next_right m next.schedule.now list read o f reads s is
+right_on (Audit audit) text m read expected o f (trace, given, s) is =
+    audited_right audit.judged m audit.trace.now read o.lines o.status f
+    (subst (λ t. IsAudited audit.judged m t o.lines o.status) (all_given read trace given) s.audited) is
 right_on (Chart chart) text m read expected o f (trace, given, s) (inl is) = absurd (let bad : None ≡ Some f = sym (ap fault_of_threads s.charted.chosen) ∙ is in cc)
 right_on (Chart chart) text m read expected o f (trace, given, s) (inr (right, is)) =
     never_faulty true m chart.trace.now read s.charted.steps f (subst (λ t. IsTraceOf t s.charted.steps) (all_given read trace given) s.charted.reads) (inl refl) is
 right_on (Endings search) text m read expected o f s is =
     absurd (let bad : None ≡ Some f = sym (ap (option_map fault_of_question) (searched_right search.trace search m expected o s)) ∙ is in cc)
-right_on (Lint file schedule) text m read expected o f s is = unread (list_name_in schedule) read f is
+right_on (Lint lint) text m read expected o f s is = unread (list_name_in lint.schedule) read f is
 
 -- By what is expected
 
@@ -172,13 +145,7 @@ expected_right job text m read asked (Some name) expected o f (t, lines, given, 
 right_for : (job : Job) (text : List ℕ) (d : Result Machine TextFault) (read asked : List ℕ) (o : Output) (f : Fault) →
     IsDoneFor job text d (gives_one read) (gives_one asked) o → IsFaultFor job d (gives_one read) (gives_one asked) f → ⊥
 right_for job text (Ok m) read asked o f (expected, wants, is) faulty = expected_right job text m read asked (expected_of job) expected o f wants is faulty
-right_for (Lint file schedule) text (Err t) read asked o f is faulty = faulty
-right_for (Run file turns printed record_to name) text (Err t) read asked o f is faulty = is
-right_for (Replay file schedule rest printed record_to name) text (Err t) read asked o f is faulty = is
-right_for (Next file schedule) text (Err t) read asked o f is faulty = is
-right_for (Audit file name judged) text (Err t) read asked o f is faulty = is
-right_for (Chart chart) text (Err t) read asked o f is faulty = is
-right_for (Endings search) text (Err t) read asked o f is faulty = is
+right_for job text (Err t) read asked o f is faulty = absurd (let bad : true ≡ false = sym is.0 ∙ faulty.0 in cc)
 
 pub no_fault : (job : Job) (text read asked : List ℕ) (o : Output) (f : Fault) → IsDoneFor job text (machine_of_text text) (gives_one read) (gives_one asked) o →
     IsFaultFor job (machine_of_text text) (gives_one read) (gives_one asked) f → ⊥

@@ -1,10 +1,9 @@
 -- The lint of a machine text, and of a list for its machine.
-use Rattle.std.proofs.Common.{◌≡◌, ℕ, ◌+◌, Bool, true, Option, Some, None, Result, Ok, Err, List, [], ◌∷◌, ◌++◌, Bor, length, take, refl, ap, ap₂, sym, subst, inl, inr, ◌∙◌, append-nil}
-use Rattle.std.specs.Prelude.{◌⊎◌, ◌==◌, if◌then◌else◌}
+use Rattle.std.proofs.Common.{◌≡◌, ℕ, ◌+◌, Bool, Option, Some, None, Ok, List, [], ◌∷◌, ◌++◌, Bor, length, take, refl, ap, ap₂, sym, subst, ◌∙◌, append-nil}
+use Rattle.std.specs.Prelude.{◌⊎◌, ◌==◌}
 use Rattle.l4_model.specs.Machine.{Machine}
 use Rattle.l4_script.specs.Texts.{machine_of_text}
-use Rattle.l4_script.specs.declared.text.fault.TextFault.{TextFault}
-use Rattle.l4_lint.specs.Doubts.{doubts_of, doubts_text, lint_text}
+use Rattle.l4_lint.specs.Doubts.{doubts_text, lint_text}
 use Rattle.l4_lint.specs.Faults.{Fault as LintFault, faults_of, fault_in, first_in}
 use Rattle.l4_lint.specs.Spelling.{faults_text as texts_of_faults, status_of}
 use Rattle.l4_lint.proofs.First.{first_fault}
@@ -13,7 +12,7 @@ use Rattle.l4_schedules.specs.InFiles.{most_bytes}
 use Rattle.l4_schedules.proofs.Faulting.{faults_as_much}
 use Rattle.l4_commands.specs.Files.{list_name, list_name_in}
 use Rattle.l4_jobs.specs.Inputs.{Gives, IsRead}
-use Rattle.l4_jobs.specs.Lints.{IsLinted, IsListLinted, asked_faults, named_faults, status_of_list}
+use Rattle.l4_jobs.specs.Lints.{IsLinted, IsListLinted, asked_faults, named_faults}
 use Rattle.l4_jobs.specs.Outputs.{Output}
 use Rattle.l4_jobs.specs.Reading.{IsReadAs}
 
@@ -76,22 +75,5 @@ alone text m schedule gives o none right is =
         status_is = is.status_is ∙ ap status_of right;
         said = is.said;
         unrecorded = is.unrecorded;
-      },
-    )
-
-pub with_list : (text : List ℕ) (m : Machine) (schedule : Option (Bor (List ℕ))) (list : Bor (List ℕ)) (gives : Gives) (o : Output) (lines : List ℕ) (none : Bool) →
-    schedule ≡ Some list → lines ≡ lint_text text →
-    (read : List ℕ) × IsRead (list_name list.now) gives read × (o.lines ≡ lines ++ faults_text (named_faults m (list_name list.now) list.now read))
-    × (none ≡ (length (named_faults m (list_name list.now) list.now read) == 0)) → o.status ≡ (if none then 0 else 1) → o.said ≡ [] → o.list ≡ None →
-    (read : List ℕ) × IsRead (list_name_in schedule) gives read × IsListLinted text m schedule read o
-with_list text m schedule list gives o lines none is told (read, reads, added, all) ended said unrecorded =
-    subst (λ (s : Option (Bor (List ℕ))). (read : List ℕ) × IsRead (list_name_in s) gives read × IsListLinted text m s read o) (sym is) (
-      read,
-      reads,
-      record {
-        lines_are = added ∙ ap (λ l. l ++ faults_text (named_faults m (list_name list.now) list.now read)) told;
-        status_is = ended ∙ ap (λ (b : Bool). if b then 0 else 1) all;
-        said = said;
-        unrecorded = unrecorded;
       },
     )

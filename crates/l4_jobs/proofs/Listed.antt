@@ -8,7 +8,7 @@ use Rattle.l4_machine.specs.declared.outcome.RunFault.TheVariants.{NoMemory as R
 use Rattle.l4_schedules.specs.InFiles.{most_bytes, schedule_in_file}
 use Rattle.l4_schedules.proofs.Beginnings.{as_much}
 use Rattle.l4_jobs.specs.Inputs.{Gives}
-use Rattle.l4_jobs.specs.Schedules.{IsListFault, fault_of_result, fault_of_run, replayed}
+use Rattle.l4_jobs.specs.Schedules.{IsListFault, fault_of_result, fault_of_run, run_of_schedule}
 use Rattle.l4_jobs.specs.declared.fault.Fault.{Fault}
 use Rattle.l4_jobs.specs.declared.fault.Fault.TheVariants.{NoMemory as OutOfMemory}
 
@@ -27,7 +27,7 @@ file_read m gives text slice entries (all, given, much) is reads = (all, given, 
 pub file_faulty : (m : Machine) (name : List ℕ) (gives : Gives) (text slice : List ℕ) (f : RunFault) → IsReadOf gives text → slice ≡ text →
     schedule_in_file m slice ≡ Err f → IsListFault m name gives (fault_of_run f)
 file_faulty m name gives text slice f (all, given, much) is faulty =
-    inr (all, given, ap (λ r. fault_of_result (replayed m None r)) (sym (judged m all text slice much is) ∙ faulty))
+    inr (all, given, ap (λ r. fault_of_result (run_of_schedule m None r)) (sym (judged m all text slice much is) ∙ faulty))
 
 pub list_fault : {X : Type 0} (m : Machine) (name : List ℕ) (gives : Gives) (text slice : List ℕ) (r : Result X Fault) (e : RunFault) →
     IfErr r (λ f. f ≡ fault_of_run e) → IsReadOf gives text → slice ≡ text → (e ≡ RunOutOfMemory) ⊎ (schedule_in_file m slice ≡ Err e) →

@@ -1,5 +1,5 @@
 -- The last of three files can't be opened.
-use Rattle.std.proofs.Common.{List, ℕ, Option, Some, Result, inl, inr}
+use Rattle.std.proofs.Common.{List, ℕ, Some, Result, inr}
 use Rattle.std.specs.declared.io.ErrorKind.{ErrorKind}
 use Rattle.l4_commands.specs.Files.{expected_of, file_of, second_file_of}
 use Rattle.l4_commands.specs.declared.job.Job.{Job}

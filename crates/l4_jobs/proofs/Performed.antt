@@ -7,13 +7,12 @@ use Rattle.l4_core_model.specs.Runs.{Run as CoreRun}
 use Rattle.l4_expect.specs.Unmet.{expected_status}
 use Rattle.l4_script.specs.Texts.{machine_of_text}
 use Rattle.l4_script.specs.declared.text.fault.TextFault.{TextFault}
-use Rattle.l4_commands.specs.Files.{alone}
 use Rattle.l4_commands.specs.declared.job.Job.{Job}
 use Rattle.l4_commands.specs.declared.job.Job.TheVariants.{Run, Replay, Next, Audit, Chart, Endings, Lint}
 use Rattle.l4_commands.specs.declared.job.Printed.{Printed}
 use Rattle.l4_jobs.specs.Expectations.{is_met_by}
 use Rattle.l4_jobs.specs.Inputs.{Gives}
-use Rattle.l4_jobs.specs.Jobs.{IsDone, IsDoneFor, IsDoneOn, IsStatusOf, IsTrueFor, IsTrueShown}
+use Rattle.l4_jobs.specs.Jobs.{IsDone, IsDoneFor, IsDoneOn, IsStatusOf, IsTrueBy, IsTrueFor, IsTrueShown, is_lint, printed_of}
 use Rattle.l4_jobs.specs.Outputs.{Output}
 use Rattle.l4_jobs.specs.Performing.{IsKeptOut, IsLinesOut, IsPerformed, IsTrulyDone, IsUnwritten, IsWrittenOut, Sinks, Takes, sinks}
 use Rattle.l4_jobs.specs.Runs.{IsRunDone, report_of, status_of_ending}
@@ -37,22 +36,28 @@ performed_as job machine second expects list other keeps others out keeps_out fa
     by (Some p) (inl (kept, lines)) = inl (lists p.0 p.1 true kept, lines)
     by (Some p) (inr (f, named, kept, left, reported, one)) = inr (f, named, lists p.0 p.1 false kept, left, reported, one)
 
+-- Status 1, or the lines were written, and the status is that of what the job comes to.
+
+of_lines : (o : Output) (out faults : Takes) (keeps : Type 0) (status : ℕ) → IsLinesOut o out faults keeps status →
+    (status ≡ 1) ⊎ (out o.lines true × (status ≡ o.status))
+of_lines o out faults keeps status (inl (wrote, said, same)) = inr (wrote, same)
+of_lines o out faults keeps status (inr (wrote, reported, one)) = inl one
+
+of_kept : (o : Output) (l : Option (List ℕ × List ℕ)) (s : Sinks) (status : ℕ) → IsKeptOut o l s status →
+    (status ≡ 1) ⊎ (s.out o.lines true × (status ≡ o.status))
+of_kept o None s status (kept, lines) = of_lines o s.out s.faults s.keeps_faults status lines
+of_kept o (Some p) s status (inl (kept, lines)) = of_lines o s.out s.faults s.keeps_faults status lines
+of_kept o (Some p) s status (inr (f, named, kept, left, reported, one)) = inl one
+
 -- The exit status
-
-lines_status : (job : Job) (o : Output) (out faults : Takes) (keeps : Type 0) (status : ℕ) → IsStatusOf job o.status → IsLinesOut o out faults keeps status →
-    IsStatusOf job status
-lines_status job o out faults keeps status is (inl (wrote, said, same)) = subst (IsStatusOf job) (sym same) is
-lines_status job o out faults keeps status is (inr (wrote, reported, one)) = inr (inl one)
-
-kept_status : (job : Job) (o : Output) (l : Option (List ℕ × List ℕ)) (s : Sinks) (status : ℕ) → IsStatusOf job o.status → IsKeptOut o l s status → IsStatusOf job status
-kept_status job o None s status is (kept, lines) = lines_status job o s.out s.faults s.keeps_faults status is lines
-kept_status job o (Some p) s status is (inl (kept, lines)) = lines_status job o s.out s.faults s.keeps_faults status is lines
-kept_status job o (Some p) s status is (inr (f, named, kept, left, reported, one)) = inr (inl one)
 
 pub performed_status : (job : Job) (machine second expects : Gives) (s : Sinks) (status : ℕ) → IsPerformed job machine second expects s status → IsStatusOf job status
 performed_status job machine second expects s status (inl (f, is, (kept, left, reported, one))) = inr (inl one)
-performed_status job machine second expects s status (inr (o, is, wrote)) =
-    kept_status job o o.list s status (done_status job machine second expects o is) wrote
+performed_status job machine second expects s status (inr (o, is, wrote)) = by (of_kept o o.list s status wrote)
+  where
+    by : (status ≡ 1) ⊎ (s.out o.lines true × (status ≡ o.status)) → IsStatusOf job status
+    by (inl one) = inr (inl one)
+    by (inr (wrote, same)) = subst (IsStatusOf job) (sym same) (done_status job machine second expects o is)
 
 -- What was written of a run is true of its machine.
 
@@ -71,56 +76,40 @@ run_true printed m IsAsked record_to expected o is = record {
 
 true_on : (job : Job) (text : List ℕ) (m : Machine) (second : Gives) (expected : Option (List Expected)) (o : Output) → machine_of_text text ≡ Ok m →
     IsDoneOn job text m second expected o → IsTrueFor job text o.lines o.status
-true_on (Run file turns printed record_to name) text m second expected o declares is = (m, declares, run_true printed m _ _ expected o is)
-true_on (Replay file schedule rest printed record_to name) text m second expected o declares (list, reads, is) = (m, declares, run_true printed m _ _ expected o is)
-true_on (Next file schedule) text m second expected o declares is = tt
-true_on (Audit file name judged) text m second expected o declares is = tt
+true_on (Run run) text m second expected o declares is = (m, declares, run_true run.printed m _ _ expected o is)
+true_on (Replay replay) text m second expected o declares (list, reads, is) = (m, declares, run_true replay.printed m _ _ expected o is)
+true_on (Next next) text m second expected o declares is = tt
+true_on (Audit audit) text m second expected o declares is = tt
 true_on (Chart chart) text m second expected o declares is = tt
 true_on (Endings search) text m second expected o declares is = tt
-true_on (Lint file schedule) text m second expected o declares is = tt
+true_on (Lint lint) text m second expected o declares is = tt
+
+of_lint : (job : Job) (text lines : List ℕ) (status : ℕ) → is_lint job ≡ true → IsTrueFor job text lines status
+of_lint job text lines status is = subst (λ printed. IsTrueBy printed text lines status) (sym (prints_none job is)) tt
+  where
+    prints_none : (job : Job) → is_lint job ≡ true → printed_of job ≡ None
+    prints_none (Run run) is = cc
+    prints_none (Replay replay) is = cc
+    prints_none (Next next) is = refl
+    prints_none (Audit audit) is = refl
+    prints_none (Chart chart) is = refl
+    prints_none (Endings search) is = refl
+    prints_none (Lint lint) is = refl
 
 true_for : (job : Job) (text : List ℕ) (d : Result Machine TextFault) (second expects : Gives) (o : Output) → machine_of_text text ≡ d →
     IsDoneFor job text d second expects o → IsTrueFor job text o.lines o.status
 true_for job text (Ok m) second expects o declares (expected, wants, is) = true_on job text m second expected o declares is
-true_for (Run file turns printed record_to name) text (Err t) second expects o declares is = absurd is
-true_for (Replay file schedule rest printed record_to name) text (Err t) second expects o declares is = absurd is
-true_for (Next file schedule) text (Err t) second expects o declares is = tt
-true_for (Audit file name judged) text (Err t) second expects o declares is = tt
-true_for (Chart chart) text (Err t) second expects o declares is = tt
-true_for (Endings search) text (Err t) second expects o declares is = tt
-true_for (Lint file schedule) text (Err t) second expects o declares is = tt
-
-lines_true : (job : Job) (machine second expects : Gives) (o : Output) (out faults : Takes) (keeps : Type 0) (status : ℕ) → IsDone job machine second expects o →
-    IsLinesOut o out faults keeps status → (status ≡ 1 → ⊥) → IsTrulyDone job machine out status
-lines_true job machine second expects o out faults keeps status d (inl (wrote, said, same)) right =
-    (d.text, o.lines, d.given, wrote, subst (IsTrueFor job d.text o.lines) (sym same) (true_for job d.text (machine_of_text d.text) second expects o refl d.is))
-lines_true job machine second expects o out faults keeps status d (inr (wrote, reported, one)) right = elim (right one) [ ]
-
-kept_true : (job : Job) (machine second expects : Gives) (o : Output) (l : Option (List ℕ × List ℕ)) (s : Sinks) (status : ℕ) → IsDone job machine second expects o →
-    IsKeptOut o l s status → (status ≡ 1 → ⊥) → IsTrulyDone job machine s.out status
-kept_true job machine second expects o None s status d (kept, lines) right = lines_true job machine second expects o s.out s.faults s.keeps_faults status d lines right
-kept_true job machine second expects o (Some p) s status d (inl (kept, lines)) right =
-    lines_true job machine second expects o s.out s.faults s.keeps_faults status d lines right
-kept_true job machine second expects o (Some p) s status d (inr (f, named, kept, left, reported, one)) right = elim (right one) [ ]
+true_for job text (Err t) second expects o declares is = of_lint job text o.lines o.status is.0
 
 pub performed_true : (job : Job) (machine second expects : Gives) (s : Sinks) (status : ℕ) → IsPerformed job machine second expects s status → (status ≡ 1 → ⊥) →
     IsTrulyDone job machine s.out status
 performed_true job machine second expects s status (inl (f, is, (kept, left, reported, one))) right = elim (right one) [ ]
-performed_true job machine second expects s status (inr (o, is, wrote)) right = kept_true job machine second expects o o.list s status is wrote right
-
--- What is true of a job without its record is true of the job.
-
-true_alone : (job : Job) (text lines : List ℕ) (status : ℕ) → IsTrueFor (alone job) text lines status → IsTrueFor job text lines status
-true_alone (Run file turns printed record_to name) text lines status is = is
-true_alone (Replay file schedule rest printed record_to name) text lines status is = is
-true_alone (Next file schedule) text lines status is = is
-true_alone (Audit file name judged) text lines status is = is
-true_alone (Chart chart) text lines status is = is
-true_alone (Endings search) text lines status is = is
-true_alone (Lint file schedule) text lines status is = is
-
-pub truly_alone : (job : Job) (machine : Gives) (out : Takes) (status : ℕ) → IsTrulyDone (alone job) machine out status → IsTrulyDone job machine out status
-truly_alone job machine out status (text, lines, given, wrote, is) = (text, lines, given, wrote, true_alone job text lines status is)
+performed_true job machine second expects s status (inr (o, d, wrote)) right = by (of_kept o o.list s status wrote)
+  where
+    by : (status ≡ 1) ⊎ (s.out o.lines true × (status ≡ o.status)) → IsTrulyDone job machine s.out status
+    by (inl one) = elim (right one) [ ]
+    by (inr (wrote, same)) =
+        (d.text, o.lines, d.given, wrote, subst (IsTrueFor job d.text o.lines) (sym same) (true_for job d.text (machine_of_text d.text) second expects o refl d.is))
 
 -- Where a job comes to nothing, its fault is told.
 pub nothing_done : (job : Job) (machine second expects : Gives) (s : Sinks) (status : ℕ) → ((o : Output) → IsDone job machine second expects o → ⊥) →

@@ -1,5 +1,5 @@
 -- A replay of a record comes to what the run came to.
-use Rattle.std.proofs.Common.{◌≡◌, ℕ, Option, Some, None, Result, Ok, List, ◌++◌, refl, ap, sym, subst, ◌∙◌}
+use Rattle.std.proofs.Common.{◌≡◌, ℕ, Option, Some, None, Ok, List, ◌++◌, refl, ap, sym, subst, ◌∙◌}
 use Rattle.l4_model.specs.History.{reached}
 use Rattle.l4_model.specs.Machine.{Machine}
 use Rattle.l4_model.specs.World.{World}
@@ -15,14 +15,14 @@ use Rattle.l4_jobs.specs.Extras.{behind}
 use Rattle.l4_jobs.specs.Outputs.{Output}
 use Rattle.l4_jobs.specs.Records.{IsRepeatedBy, unrecorded}
 use Rattle.l4_jobs.specs.Runs.{IsRecord, IsRunDone, IsWritten, lines_of_outcome, report_of, status_of_ending}
-use Rattle.l4_jobs.specs.Schedules.{IsReplayAsked, asked_schedule, named_schedule, replayed}
+use Rattle.l4_jobs.specs.Schedules.{IsReplayAsked, asked_schedule, named_schedule, run_of_schedule}
 
 by_name : (m : Machine) (list text name : List ℕ) → list_name list ≡ Some name → asked_schedule m list text ≡ named_schedule m (Some name) list text
 by_name m list text name is = ap (λ o. named_schedule m o list text) is
 
 asked : (m : Machine) (list text name : List ℕ) (f : Findings) (r : IsRecord m f text) → list_name list ≡ Some name →
     IsReplayAsked m None list text (replay_entries m r.entries)
-asked m list text name f r is = ap (replayed m None) (by_name m list text name is ∙ r.reads)
+asked m list text name f r is = ap (run_of_schedule m None) (by_name m list text name is ∙ r.reads)
 
 again : (printed : Printed) (m : Machine) (list text name : List ℕ) (expected : Option (List Expected)) (o : Output) (f : Findings) → list_name list ≡ Some name →
     IsRecord m f text → IsWritten printed m f o.lines → o.said ≡ unmet_by expected (report_of f) →

@@ -1,28 +1,26 @@
 -- What runs and replays come to.
 use Rattle.std.proofs.Common.{◌≡◌, ℕ, ◌<◌, ◌≤◌, Bool, true, false, Option, Some, None, Result, Ok, Err, List, refl, ap, sym, subst, inl, inr, ◌∙◌}
-use Rattle.std.specs.Prelude.{◌⊎◌, ◌==◌, ◌||◌, IfErr, if◌then◌else◌, nat_lt}
+use Rattle.std.specs.Prelude.{◌⊎◌, ◌==◌, ◌||◌, IfErr, IsSomeAnd, if◌then◌else◌, nat_lt}
 use Rattle.std.proofs.lemmas.Bool.{eqb-true, ltb-true, or_cases}
 use Rattle.l4_model.specs.Machine.{Machine}
-use Rattle.l4_model.specs.History.{IsHistory}
 use Rattle.l4_core_model.specs.Runs.{Run}
 use Rattle.l4_choices.specs.Entries.{Entry, replay_entries}
 use Rattle.l4_expect.specs.Expected.{Expected}
 use Rattle.l4_machine.specs.Entries.{entries_fault, turns_fault}
-use Rattle.l4_machine.specs.Outcomes.{Findings, IsCompactReplay, IsFoundFor, IsOutcomeOf, in_order, steps_of}
-use Rattle.l4_machine.specs.declared.outcome.CompactOutcome.{CompactOutcome}
+use Rattle.l4_machine.specs.Outcomes.{Findings, IsFoundFor, IsOutcomeOf, in_order}
 use Rattle.l4_rounds.specs.ThenRest.{HaveRest, rest_fault, then_rest}
 use Rattle.l4_machine.specs.declared.outcome.RunFault.{RunFault}
-use Rattle.l4_machine.specs.declared.outcome.RunFault.TheVariants.{NoMemory as RunOutOfMemory, Turns}
+use Rattle.l4_machine.specs.declared.outcome.RunFault.TheVariants.{Turns}
 use Rattle.l4_schedules.specs.InFiles.{schedule_in_file}
 use Rattle.l4_schedules.specs.Written.{recorded_text}
 use Rattle.l4_schedules.proofs.ReadBack.{recorded_back}
 use Rattle.l4_commands.specs.Files.{list_name}
 use Rattle.l4_commands.specs.declared.job.Printed.{Printed}
 use Rattle.l4_jobs.specs.Expectations.{status_by, unmet_by}
-use Rattle.l4_jobs.specs.Inputs.{Gives, IsRead}
+use Rattle.l4_jobs.specs.Inputs.{FailsWith, Gives}
 use Rattle.l4_jobs.specs.Outputs.{Output}
 use Rattle.l4_jobs.specs.Runs.{IsRecord, IsRecorded, IsRunDone, IsWritten, list_for, report_of, status_of_ending}
-use Rattle.l4_jobs.specs.Schedules.{IsReplayAsked, IsReplayFault, IsRunAsked, asked_schedule, fault_of_result, fault_of_run, gone_on, replayed, unless_fault}
+use Rattle.l4_jobs.specs.Schedules.{IsReplayAsked, IsReplayFault, IsRunAsked, asked_schedule, fault_of_result, continued_run, run_of_schedule, unless_fault}
 use Rattle.l4_jobs.specs.declared.fault.Fault.{Fault}
 use Rattle.l4_jobs.specs.declared.fault.Fault.TheVariants as fault
 
@@ -66,17 +64,14 @@ asked_run_done printed m turns record_to expected f o right found is =
     run_done printed m (IsRunAsked m turns) record_to expected (in_order found.run) f o asked found.outcome is
 
 pub asked_replay_done : (printed : Printed) (m : Machine) (rest : Option ℕ) (list text : List ℕ) (entries : List Entry) (record_to : Option (List ℕ))
-    (expected : Option (List Expected)) (r : Run) (f : Findings) (o : Output) → asked_schedule m list text ≡ Ok entries → gone_on m rest entries ≡ Ok r →
+    (expected : Option (List Expected)) (r : Run) (f : Findings) (o : Output) → asked_schedule m list text ≡ Ok entries → continued_run m rest entries ≡ Ok r →
     IsOutcomeOf m r f → IsOf printed m record_to expected f o → IsRunDone printed m (IsReplayAsked m rest list text) record_to expected o
 asked_replay_done printed m rest list text entries record_to expected r f o asked goes outcome is =
-    run_done printed m (IsReplayAsked m rest list text) record_to expected r f o (ap (replayed m rest) asked ∙ goes) outcome is
-
-pub replay_possible : (m : Machine) (entries : List Entry) (o : CompactOutcome) → IsCompactReplay m entries o → IsHistory m (steps_of o.history)
-replay_possible m entries o is = is.is_true.possible
+    run_done printed m (IsReplayAsked m rest list text) record_to expected r f o (ap (run_of_schedule m rest) asked ∙ goes) outcome is
 
 -- The entries of the rest
 pub rest_is : (m : Machine) (entries all : List Entry) (turns : ℕ) → HaveRest m entries turns all → rest_fault m entries turns ≡ None →
-    gone_on m (Some turns) entries ≡ Ok (replay_entries m all)
+    continued_run m (Some turns) entries ≡ Ok (replay_entries m all)
 rest_is m entries all turns rest lawful =
     ap (λ f. unless_fault f (then_rest m entries turns)) lawful ∙ ap (λ (r : Run). Ok r) (sym rest.replayed)
 
@@ -96,13 +91,21 @@ pub is_recorded : (m : Machine) (f : Findings) (entries : List Entry) (name : Op
 is_recorded m f entries None list few outcome are is = is
 is_recorded m f entries (Some name) list few outcome are is = (recorded_text entries, is, is_record m f entries (recorded_text entries) few outcome are refl)
 
--- Why a replay goes on no further
-pub rest_refused : {X : Type 0} (m : Machine) (rest : Option ℕ) (list text : List ℕ) (gives : Gives) (entries : List Entry) (r : Result X Fault)
-    (e : RunFault) → IfErr r (λ f. f ≡ fault_of_run e) → IsRead (list_name list) gives text → asked_schedule m list text ≡ Ok entries →
-    (e ≡ RunOutOfMemory) ⊎ (gone_on m rest entries ≡ Err e) → IfErr r (λ f. (f ≡ fault.NoMemory) ⊎ IsReplayFault m rest list gives f)
-rest_refused m rest list text gives entries (Ok x) e is read asked faulty = tt
-rest_refused m rest list text gives entries (Err f) e is read asked (inl none) = inl (is ∙ ap fault_of_run none)
-rest_refused m rest list text gives entries (Err f) e is read asked (inr faulty) =
-    let refused : fault_of_result (replayed m rest (asked_schedule m list text)) ≡ Some (fault_of_run e) =
-    ap (λ s. fault_of_result (replayed m rest s)) asked ∙ ap fault_of_result faulty in
-    inr (inr (record { text = text; read = read; faulty = refused ∙ ap (λ (g : Fault). Some g) (sym is) }))
+-- A schedule that has a fault has it whether the replay goes on or not.
+pub faulty_anyway : (m : Machine) (rest : Option ℕ) (schedule : Result (List Entry) RunFault) (f : Fault) →
+    fault_of_result (run_of_schedule m None schedule) ≡ Some f → fault_of_result (run_of_schedule m rest schedule) ≡ Some f
+faulty_anyway m rest (Ok entries) f is = absurd (let bad : None ≡ Some f = is in cc)
+faulty_anyway m rest (Err e) f is = is
+
+pub replay_faulty : {X : Type 0} (m : Machine) (rest : Option ℕ) (list : List ℕ) (gives : Gives) (r : Result X Fault) (f : Fault) →
+    IfErr r (λ e. e ≡ f) → (f ≡ fault.NoMemory) ⊎ IsReplayFault m None list gives f → IfErr r (λ e. (e ≡ fault.NoMemory) ⊎ IsReplayFault m rest list gives e)
+replay_faulty m rest list gives (Ok x) f is faulty = tt
+replay_faulty m rest list gives (Err e) f is (inl none) = inl (is ∙ none)
+replay_faulty m rest list gives (Err e) f is (inr (inl unread)) =
+    inr (inl (subst (λ x. IsSomeAnd (list_name list) (λ name. FailsWith name gives x)) (sym is) unread))
+replay_faulty m rest list gives (Err e) f is (inr (inr run)) =
+    inr (inr (record {
+      text = run.text;
+      read = run.read;
+      faulty = faulty_anyway m rest (asked_schedule m list run.text) f run.faulty ∙ ap (λ (g : Fault). Some g) (sym is);
+    }))

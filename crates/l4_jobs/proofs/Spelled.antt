@@ -1,5 +1,5 @@
 -- What is read of a trace, by the lines that spell its steps.
-use Rattle.std.proofs.Common.{◌≡◌, ℕ, Bool, true, false, Option, Some, None, Result, Ok, Err, List, ap, subst, sym, inl, inr, ◌∙◌}
+use Rattle.std.proofs.Common.{◌≡◌, ℕ, Bool, true, false, Option, Some, None, Result, Ok, Err, List, ap, sym, inl, inr, ◌∙◌}
 use Rattle.std.specs.Prelude.{◌⊎◌, IfErr}
 use Rattle.l4_model.specs.Machine.{Machine}
 use Rattle.l4_model.specs.Steps.{Step}
@@ -9,8 +9,7 @@ use Rattle.l4_trace.specs.Reading.{HasFaultAt, Reads, steps_of}
 use Rattle.l4_trace.specs.declared.fault.TraceFault.{TraceFault}
 use Rattle.l4_trace.specs.declared.fault.TraceFault.TheVariants as trace_fault
 use Rattle.l4_trace.proofs.ReadTexts.{first_fault, one_spelling, read_back}
-use Rattle.l4_jobs.specs.Audits.{IsFaultOfTrace, IsRefusedAt, IsTraceFault, fault_of_reading}
-use Rattle.l4_jobs.specs.Inputs.{Gives}
+use Rattle.l4_jobs.specs.Audits.{IsFaultOfTrace, IsRefusedAt, fault_of_reading}
 use Rattle.l4_jobs.specs.declared.fault.Fault.{Fault}
 use Rattle.l4_jobs.specs.declared.fault.Fault.TheVariants as fault
 
@@ -41,12 +40,3 @@ pub line_fault : {X : Type 0} (tells : Bool) (m : Machine) (text : List ℕ) (r 
 line_fault tells m text (Ok x) e is reads = tt
 line_fault tells m text (Err f) trace_fault.NoMemory is reads = inl is
 line_fault tells m text (Err f) (trace_fault.Line line) is reads = inr (inl (line, is, (first_fault text line).0 reads))
-
--- The fault of what was read of a file is that of its trace.
-pub read_fault : {X : Type 0} (tells : Bool) (m : Machine) (name : List ℕ) (gives : Gives) (text slice : List ℕ) (r : Result X Fault) (f : Fault) →
-    IfErr r (λ e. e ≡ f) → gives (Ok text) → slice ≡ text → (f ≡ fault.NoMemory) ⊎ IsFaultOfTrace tells m slice f →
-    IfErr r (λ e. (e ≡ fault.NoMemory) ⊎ IsTraceFault tells m name gives e)
-read_fault tells m name gives text slice (Ok x) f is given same faulty = tt
-read_fault tells m name gives text slice (Err e) f is given same (inl none) = inl (is ∙ none)
-read_fault tells m name gives text slice (Err e) f is given same (inr faulty) =
-    inr (inr (text, given, subst (λ t. IsFaultOfTrace tells m t e) same (subst (IsFaultOfTrace tells m slice) (sym is) faulty)))

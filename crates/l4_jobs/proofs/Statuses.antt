@@ -1,6 +1,6 @@
 -- The exit statuses of jobs.
-use Rattle.std.proofs.Common.{◌≡◌, ℕ, Bool, true, false, Option, Some, None, Result, Ok, Err, List, [], ◌∷◌, refl, ap, sym, inl, inr, ◌∙◌}
-use Rattle.std.specs.Prelude.{◌⊎◌, is_some, if◌then◌else◌}
+use Rattle.std.proofs.Common.{◌≡◌, ℕ, zero, suc, Bool, true, false, Option, Some, None, Result, Ok, Err, List, [], ◌∷◌, refl, ap, subst, sym, inl, inr, ◌∙◌}
+use Rattle.std.specs.Prelude.{is_some, if◌then◌else◌}
 use Rattle.l4_model.specs.Machine.{Machine}
 use Rattle.l4_expect.specs.Expected.{Expected}
 use Rattle.l4_expect.specs.Unmet.{expected_status}
@@ -9,6 +9,7 @@ use Rattle.l4_lint.specs.Faults.{Fault as LintFault, faults_of}
 use Rattle.l4_lint.specs.Spelling.{status_of}
 use Rattle.l4_questions.specs.Endings.{Ending as Found}
 use Rattle.l4_questions.specs.Printed.{meets, status_of_asked, status_of_search}
+use Rattle.l4_questions.specs.Stuck.{if_cut, is_any, stuck_status}
 use Rattle.l4_questions.specs.declared.question.Wanted.{Wanted}
 use Rattle.l4_questions.specs.declared.question.Wanted.TheVariants as wanted
 use Rattle.l4_script.specs.Texts.{machine_of_text}
@@ -99,14 +100,30 @@ search_status search None found is_whole status same is =
 search_status search (Some lines) found is_whole status same is =
     search_met search (list_all (meets (Some lines)) found) found is_whole status (sym same) is
 
+-- Who is stuck for ever changes the status of a search to 4 or 3, or not at all.
+
+cut_arm : (search : EndingsJob) (is_whole : Bool) (told status : ℕ) → status ≡ if_cut is_whole told → IsStatusOf (Endings search) told → IsStatusOf (Endings search) status
+cut_arm search true told status is before = subst (IsStatusOf (Endings search)) (sym is) before
+cut_arm search false zero status is before = inr (inr (inl is))
+cut_arm search false (suc told) status is before = subst (IsStatusOf (Endings search)) (sym is) before
+
+stuck_arm : (search : EndingsJob) (w : Wanted) (is_any is_whole : Bool) (told status : ℕ) → wanted_of search.wanted ≡ w → status ≡ stuck_status w is_any is_whole told →
+    IsStatusOf (Endings search) told → IsStatusOf (Endings search) status
+stuck_arm search wanted.NoEnding true is_whole told status asks is before = inr (inr (inr (is, inl (inl (wants_none search.wanted asks)))))
+stuck_arm search wanted.NoEnding false is_whole told status asks is before = cut_arm search is_whole told status is before
+stuck_arm search wanted.Whatever is_any is_whole told status asks is before = cut_arm search is_whole told status is before
+stuck_arm search wanted.AnEnding is_any is_whole told status asks is before = subst (IsStatusOf (Endings search)) (sym is) before
+
 answer_status : (scheduler : Scheduler) (search : EndingsJob) (m : Machine) (expected : Option (List Expected)) (lines unmet : List ℕ) (status : ℕ) →
     is_some expected ≡ is_some (expected_of (Endings search)) →
     IsAnswerBy scheduler m (question_of search) search.waits expected lines unmet status → IsStatusOf (Endings search) status
-answer_status Any search m expected lines unmet status same is = search_status search expected _ _ status same is.told.status_is
+answer_status Any search m expected lines unmet status same is =
+    stuck_arm search (wanted_of search.wanted) (is_any is.stuck) is.is_stuck_whole is.told_status status refl is.status_is
+    (search_status search expected _ _ is.told_status same is.told.status_is)
 answer_status Placed search m expected lines unmet status same is = search_status search expected _ _ status same is.told.status_is
 
 trace_status : (search : EndingsJob) (trace : Option (List ℕ)) (o : Output) → IsTraceOut trace o → IsStatusOf (Endings search) o.status
-trace_status search (Some lines) o (printed, said, zero) = inl zero
+trace_status search (Some lines) o (printed, said, is) = inl is
 trace_status search None o (printed, said, one) = inr (inl one)
 
 done_by : (trace : Option ℕ) (search : EndingsJob) (m : Machine) (expected : Option (List Expected)) (o : Output) →
@@ -117,7 +134,7 @@ done_by (Some number) search m expected o same is = trace_status search is.trace
 -- Of what a trace or a lint tells
 
 audit_status : (job : Job) (judged : Judged) (m : Machine) (trace lines : List ℕ) (status : ℕ) → IsAudited judged m trace lines status → IsStatusOf job status
-audit_status job judged m trace lines status (inl (p, zero)) = inl zero
+audit_status job judged m trace lines status (inl (p, is)) = inl is
 audit_status job judged m trace lines status (inr (r, one)) = inr (inl one)
 
 chart_status : (job : Job) (refused : Option ℕ) (status : ℕ) → status ≡ status_of_refused refused → IsStatusOf job status
@@ -134,28 +151,22 @@ lint_status job (f ∷ found) status is = inr (inl is)
 
 status_on : (job : Job) (text : List ℕ) (m : Machine) (second : Gives) (expected : Option (List Expected)) (o : Output) →
     is_some expected ≡ is_some (expected_of job) → IsDoneOn job text m second expected o → IsStatusOf job o.status
-status_on (Run file turns printed record_to name) text m second expected o same is =
-    run_status (Run file turns printed record_to name) expected _ _ o.status same is.status_is
-status_on (Replay file schedule rest printed record_to name) text m second expected o same (list, reads, is) =
-    run_status (Replay file schedule rest printed record_to name) expected _ _ o.status same is.status_is
-status_on (Next file schedule) text m second expected o same (list, reads, is) = inl is.status_is
-status_on (Audit file name judged) text m second expected o same (trace, given, is) =
-    audit_status (Audit file name judged) judged m trace o.lines o.status is.audited
+status_on (Run run) text m second expected o same is =
+    run_status (Run run) expected _ _ o.status same is.status_is
+status_on (Replay replay) text m second expected o same (list, reads, is) =
+    run_status (Replay replay) expected _ _ o.status same is.status_is
+status_on (Next next) text m second expected o same (list, reads, is) = inl is.status_is
+status_on (Audit audit) text m second expected o same (trace, given, is) =
+    audit_status (Audit audit) audit.judged m trace o.lines o.status is.audited
 status_on (Chart chart) text m second expected o same (trace, given, is) = chart_status (Chart chart) _ o.status is.charted.status_is
 status_on (Endings search) text m second expected o same is = done_by search.trace search m expected o same is
-status_on (Lint file schedule) text m second expected o same (list, reads, is) = list_status (Lint file schedule) _ o.status is.status_is
+status_on (Lint lint) text m second expected o same (list, reads, is) = list_status (Lint lint) _ o.status is.status_is
 
 status_for : (job : Job) (text : List ℕ) (d : Result Machine TextFault) (second expects : Gives) (o : Output) → IsDoneFor job text d second expects o →
     IsStatusOf job o.status
 status_for job text (Ok m) second expects o (expected, wants, is) =
     status_on job text m second expected o (same_some (expected_of job) (scope_of job) expects expected wants) is
-status_for (Lint file schedule) text (Err t) second expects o is = lint_status (Lint file schedule) (faults_of text) o.status is.status_is
-status_for (Run file turns printed record_to name) text (Err t) second expects o is = absurd is
-status_for (Replay file schedule rest printed record_to name) text (Err t) second expects o is = absurd is
-status_for (Next file schedule) text (Err t) second expects o is = absurd is
-status_for (Audit file name judged) text (Err t) second expects o is = absurd is
-status_for (Chart chart) text (Err t) second expects o is = absurd is
-status_for (Endings search) text (Err t) second expects o is = absurd is
+status_for job text (Err t) second expects o is = lint_status job (faults_of text) o.status is.1.status_is
 
 pub done_status : (job : Job) (machine second expects : Gives) (o : Output) → IsDone job machine second expects o → IsStatusOf job o.status
 done_status job machine second expects o d = status_for job d.text (machine_of_text d.text) second expects o d.is

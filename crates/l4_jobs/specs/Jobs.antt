@@ -1,5 +1,5 @@
 -- What a job comes to, or why it comes to nothing.
-use Rattle.std.specs.Prelude.{◌≡◌, ◌⊎◌, ℕ, Bool, true, Option, Some, None, is_some, IsSomeAnd, Result, Ok, Err, List}
+use Rattle.std.specs.Prelude.{◌≡◌, ◌⊎◌, ℕ, Bool, true, false, Option, Some, None, is_some, IsSomeAnd, Result, Ok, Err, List}
 use Rattle.l4_model.specs.Machine.{Machine}
 use Rattle.l4_expect.specs.Expected.{Expected, expectations_of}
 use Rattle.l4_expect.specs.declared.expectations.ExpectFault.{ExpectFault}
@@ -8,7 +8,7 @@ use Rattle.l4_script.specs.Texts.{machine_of_text}
 use Rattle.l4_script.specs.declared.text.fault.TextFault.{TextFault}
 use Rattle.l4_script.specs.declared.text.fault.TextFaultKind.{TextFaultKind}
 use Rattle.l4_script.specs.declared.text.fault.TextFaultKind.TheVariants.{NoMemory as NoMemoryKind}
-use Rattle.l4_commands.specs.Files.{expected_of, file_of, list_name, list_name_in, record_of}
+use Rattle.l4_commands.specs.Files.{expected_of, file_of, list_name, list_name_in}
 use Rattle.l4_commands.specs.declared.job.Job.{Job}
 use Rattle.l4_commands.specs.declared.job.Job.TheVariants.{Run, Replay, Next, Audit, Chart, Endings, Lint}
 use Rattle.l4_commands.specs.declared.job.Printed.{Printed}
@@ -20,8 +20,8 @@ use Rattle.l4_jobs.specs.Inputs.{FailsWith, Gives, IsRead}
 use Rattle.l4_jobs.specs.Lints.{IsLinted, IsListLinted}
 use Rattle.l4_jobs.specs.Nexts.{IsNextDone, IsNextFault}
 use Rattle.l4_jobs.specs.Outputs.{Output}
-use Rattle.l4_jobs.specs.Runs.{IsRunDone, IsWritten, status_of_ending}
-use Rattle.l4_jobs.specs.Schedules.{IsReplayAsked, IsReplayFault, IsRunAsked, fault_of_turns}
+use Rattle.l4_jobs.specs.Runs.{IsReplayJobDone, IsRunJobDone, IsWritten, status_of_ending}
+use Rattle.l4_jobs.specs.Schedules.{IsReplayFault, fault_of_turns}
 use Rattle.l4_jobs.specs.Searches.{IsSearchDone, fault_of_search}
 use Rattle.l4_jobs.specs.declared.fault.Fault.{Fault}
 use Rattle.l4_jobs.specs.declared.fault.Fault.TheVariants as fault
@@ -30,29 +30,29 @@ use Rattle.l4_jobs.specs.declared.fault.Fault.TheVariants as fault
 -- gives the trace, or the list where that is in a file.
 abbrev pub IsDoneOn : Job → (text : List ℕ) → Machine → (second : Gives) →
     Option (List Expected) → Output → Type 0
-IsDoneOn (Run file turns printed record_to name) text m second expected o =
-    IsRunDone printed m (IsRunAsked m turns)
-    (record_of (Run file turns printed record_to name)) expected o
-IsDoneOn (Replay file schedule rest printed record_to name) text m second expected o =
-    (list : List ℕ) × IsRead (list_name schedule.now) second list
-    × IsRunDone printed m (IsReplayAsked m rest schedule.now list)
-    (record_of (Replay file schedule rest printed record_to name)) expected o
-IsDoneOn (Next file schedule) text m second expected o =
-    (list : List ℕ) × IsRead (list_name schedule.now) second list
-    × IsNextDone m schedule.now list o
-IsDoneOn (Audit file name judged) text m second expected o =
-    (trace : List ℕ) × second (Ok trace) × IsAuditDone judged m trace o
+IsDoneOn (Run run) text m second expected o = IsRunJobDone run m expected o
+IsDoneOn (Replay replay) text m second expected o =
+    (list : List ℕ) × IsRead (list_name replay.schedule.now) second list
+    × IsReplayJobDone replay m list expected o
+IsDoneOn (Next next) text m second expected o =
+    (list : List ℕ) × IsRead (list_name next.schedule.now) second list
+    × IsNextDone m next.schedule.now list o
+IsDoneOn (Audit audit) text m second expected o =
+    (trace : List ℕ) × second (Ok trace) × IsAuditDone audit.judged m trace o
 IsDoneOn (Chart chart) text m second expected o =
     (trace : List ℕ) × second (Ok trace) × IsChartDone chart m trace o
 IsDoneOn (Endings search) text m second expected o = IsSearchDone search m expected o
-IsDoneOn (Lint file schedule) text m second expected o =
-    (list : List ℕ) × IsRead (list_name_in schedule) second list
-    × IsListLinted text m schedule list o
+IsDoneOn (Lint lint) text m second expected o =
+    (list : List ℕ) × IsRead (list_name_in lint.schedule) second list
+    × IsListLinted text m lint.schedule list o
 
 -- Only a lint comes to anything for a text with a fault.
+abbrev pub is_lint : Job → Bool
+is_lint (Lint lint) = true
+is_lint _ = false
+
 abbrev pub IsFaultyDone : Job → (text : List ℕ) → Output → Type 0
-IsFaultyDone (Lint file schedule) text o = IsLinted text o
-IsFaultyDone _ text o = ⊥
+IsFaultyDone job text o = (is_lint job ≡ true) × IsLinted text o
 
 -- What a job comes to for a text, with what its file expects.
 abbrev pub IsDoneFor : Job → (text : List ℕ) → Result Machine TextFault →
@@ -76,21 +76,20 @@ text_fault line NoMemoryKind = fault.NoMemory
 text_fault line kind = fault.Text line kind
 
 abbrev pub IsFaultOn : Job → Machine → (second : Gives) → Fault → Type 0
-IsFaultOn (Run file turns printed record_to name) m second f = fault_of_turns turns ≡ Some f
-IsFaultOn (Replay file schedule rest printed record_to name) m second f =
-    IsReplayFault m rest schedule.now second f
-IsFaultOn (Next file schedule) m second f = IsNextFault m schedule.now second f
-IsFaultOn (Audit file name judged) m second f =
-    IsTraceFault (tells_refusals judged) m name.now second f
+IsFaultOn (Run run) m second f = fault_of_turns run.turns ≡ Some f
+IsFaultOn (Replay replay) m second f =
+    IsReplayFault m replay.then_rest replay.schedule.now second f
+IsFaultOn (Next next) m second f = IsNextFault m next.schedule.now second f
+IsFaultOn (Audit audit) m second f =
+    IsTraceFault (tells_refusals audit.judged) m audit.trace.now second f
 IsFaultOn (Chart chart) m second f = IsChartFault chart m second f
 IsFaultOn (Endings search) m second f = fault_of_search search ≡ Some f
-IsFaultOn (Lint file schedule) m second f =
-    IsSomeAnd (list_name_in schedule) (λ name. FailsWith name second f)
+IsFaultOn (Lint lint) m second f =
+    IsSomeAnd (list_name_in lint.schedule) (λ name. FailsWith name second f)
 
 -- The fault of a text, which a lint prints.
 abbrev pub IsTextFault : Job → TextFault → Fault → Type 0
-IsTextFault (Lint file schedule) t f = ⊥
-IsTextFault _ t f = f ≡ text_fault t.line t.kind
+IsTextFault job t f = (is_lint job ≡ false) × (f ≡ text_fault t.line t.kind)
 
 -- The fault of what is expected, or of the job where that has none.
 abbrev pub IsAskedFault : Job → Machine → (second : Gives) → Result (List Expected) ExpectFault →
@@ -138,9 +137,16 @@ pub record IsTrueShown (printed : Printed) (m : Machine) (lines : List ℕ) (sta
   pub written : IsWritten printed m findings lines
   pub status_is : (status ≡ status_of_ending findings.ending) ⊎ (status ≡ 4)
 
+-- What is printed of a run or a replay.
+abbrev pub printed_of : Job → Option Printed
+printed_of (Run run) = Some run.printed
+printed_of (Replay replay) = Some replay.printed
+printed_of _ = None
+
+abbrev pub IsTrueBy : Option Printed → (text lines : List ℕ) → (status : ℕ) → Type 0
+IsTrueBy None text lines status = Unit {0}
+IsTrueBy (Some printed) text lines status =
+    (m : Machine) × (machine_of_text text ≡ Ok m) × IsTrueShown printed m lines status
+
 abbrev pub IsTrueFor : Job → (text lines : List ℕ) → (status : ℕ) → Type 0
-IsTrueFor (Run file turns printed record_to name) text lines status =
-    (m : Machine) × (machine_of_text text ≡ Ok m) × IsTrueShown printed m lines status
-IsTrueFor (Replay file schedule rest printed record_to name) text lines status =
-    (m : Machine) × (machine_of_text text ≡ Ok m) × IsTrueShown printed m lines status
-IsTrueFor _ text lines status = Unit {0}
+IsTrueFor job text lines status = IsTrueBy (printed_of job) text lines status

@@ -12,6 +12,8 @@ pub mod Performing
 pub mod Reading
 pub mod Records
 pub mod Refusals
+pub mod Rounds
+pub mod Runners
 pub mod Runs
 pub mod Schedules
 pub mod Searches

@@ -1,5 +1,5 @@
 -- What may happen next behind a schedule, and why nothing is told of it.
-use Rattle.std.specs.Prelude.{◌≡◌, ◌⊎◌, ℕ, true, Option, Some, None, Ok, List, []}
+use Rattle.std.specs.Prelude.{◌≡◌, ◌⊎◌, ℕ, true, Some, None, Ok, List, []}
 use Rattle.std.specs.Option.{option_map}
 use Rattle.l4_model.specs.Machine.{Machine}
 use Rattle.l4_choices.specs.Entries.{Entry, replay_entries}
@@ -7,7 +7,7 @@ use Rattle.l4_commands.specs.Files.{list_name}
 use Rattle.l4_next.specs.Nexts.{Next, are_spelled, nexts, nexts_fault, nexts_text}
 use Rattle.l4_jobs.specs.Inputs.{Gives, IsRead}
 use Rattle.l4_jobs.specs.Outputs.{Output}
-use Rattle.l4_jobs.specs.Schedules.{IsScheduleFault, asked_schedule, fault_of_run}
+use Rattle.l4_jobs.specs.Schedules.{IsReplayFault, asked_schedule, fault_of_run}
 use Rattle.l4_jobs.specs.declared.fault.Fault.{Fault}
 
 -- What may happen next behind the replay of these entries.
@@ -36,4 +36,4 @@ pub record IsNoNext (m : Machine) (list : List ℕ) (gives : Gives) (f : Fault) 
 
 abbrev pub IsNextFault : Machine → (list : List ℕ) → Gives → Fault → Type 0
 IsNextFault m list gives f =
-    IsScheduleFault m list (list_name list) gives f ⊎ IsNoNext m list gives f
+    IsReplayFault m None list gives f ⊎ IsNoNext m list gives f

@@ -1,7 +1,7 @@
 -- What is printed and recorded of a run or a replay.
-use Rattle.std.specs.Prelude.{◌≡◌, ℕ, Bool, true, false, Option, Some, None, Result, Ok, List, ◌++◌}
+use Rattle.std.specs.Prelude.{◌≡◌, ℕ, Bool, true, false, Option, Some, None, Ok, List, ◌++◌}
 use Rattle.std.specs.List.{list_all}
-use Rattle.std.specs.Option.{option_map}
+use Rattle.std.specs.Option.{option_copied, option_map}
 use Rattle.l4_model.specs.Machine.{Machine}
 use Rattle.l4_model.specs.World.{World}
 use Rattle.l4_model.specs.History.{reached}
@@ -16,9 +16,12 @@ use Rattle.l4_schedules.specs.InFiles.{schedule_in_file}
 use Rattle.l4_schedules.specs.Written.{recorded_text}
 use Rattle.l4_trace.specs.Lines.{has_line, trace_of}
 use Rattle.l4_commands.specs.declared.job.Printed.{Printed}
+use Rattle.l4_commands.specs.declared.job.ReplayJob.{ReplayJob}
+use Rattle.l4_commands.specs.declared.job.RunJob.{RunJob}
 use Rattle.l4_jobs.specs.Expectations.{status_by, unmet_by}
 use Rattle.l4_jobs.specs.Extras.{behind}
 use Rattle.l4_jobs.specs.Outputs.{Output}
+use Rattle.l4_jobs.specs.Schedules.{IsReplayAsked, IsRunAsked}
 
 -- The report of an outcome has the threads, the undecided sends and the ending.
 abbrev pub report_of : Findings → List ℕ
@@ -74,3 +77,15 @@ pub record IsRunDone (printed : Printed) (m : Machine) (IsAsked : CoreRun → Ty
   pub status_is :
       o.status ≡ status_by expected (report_of findings) (status_of_ending findings.ending)
   pub recorded : IsRecorded record_to m findings o.list
+
+-- What the job of a run comes to, and that of a replay, of whose list this text was read where it is
+-- in a file.
+abbrev pub IsRunJobDone : RunJob → Machine → Option (List Expected) → Output → Type 0
+IsRunJobDone run m expected o =
+    IsRunDone run.printed m (IsRunAsked m run.turns) (option_copied run.record_to) expected o
+
+abbrev pub IsReplayJobDone : ReplayJob → Machine → (list : List ℕ) → Option (List Expected) →
+    Output → Type 0
+IsReplayJobDone replay m list expected o =
+    IsRunDone replay.printed m (IsReplayAsked m replay.then_rest replay.schedule.now list)
+    (option_copied replay.record_to) expected o

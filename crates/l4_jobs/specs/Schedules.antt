@@ -1,5 +1,5 @@
 -- The schedule that a job asks for, and the run of a machine by it.
-use Rattle.std.specs.Prelude.{◌≡◌, ◌⊎◌, ℕ, Option, Some, None, Result, Ok, Err, List}
+use Rattle.std.specs.Prelude.{◌≡◌, ◌⊎◌, ℕ, Option, Some, None, IsSomeAnd, Result, Ok, Err, List}
 use Rattle.std.specs.Option.{option_map}
 use Rattle.l4_model.specs.Machine.{Machine}
 use Rattle.l4_core_model.specs.Runs.{Run as CoreRun}
@@ -40,19 +40,19 @@ abbrev pub unless_fault : Option RunFault → CoreRun → Result CoreRun RunFaul
 unless_fault None r = Ok r
 unless_fault (Some fault) r = Err fault
 
-abbrev pub gone_on : Machine → (rest : Option ℕ) → List Entry → Result CoreRun RunFault
-gone_on m None entries = Ok (replay_entries m entries)
-gone_on m (Some turns) entries =
+abbrev pub continued_run : Machine → (rest : Option ℕ) → List Entry → Result CoreRun RunFault
+continued_run m None entries = Ok (replay_entries m entries)
+continued_run m (Some turns) entries =
     unless_fault (rest_fault m entries turns) (then_rest m entries turns)
 
-abbrev pub replayed : Machine → (rest : Option ℕ) → Result (List Entry) RunFault →
+abbrev pub run_of_schedule : Machine → (rest : Option ℕ) → Result (List Entry) RunFault →
     Result CoreRun RunFault
-replayed m rest (Ok entries) = gone_on m rest entries
-replayed m rest (Err fault) = Err fault
+run_of_schedule m rest (Ok entries) = continued_run m rest entries
+run_of_schedule m rest (Err fault) = Err fault
 
 abbrev pub run_by_list : Machine → (rest : Option ℕ) → (list text : List ℕ) →
     Result CoreRun RunFault
-run_by_list m rest list text = replayed m rest (asked_schedule m list text)
+run_by_list m rest list text = run_of_schedule m rest (asked_schedule m list text)
 
 abbrev pub IsReplayAsked : Machine → (rest : Option ℕ) → (list text : List ℕ) → CoreRun → Type 0
 IsReplayAsked m rest list text r = run_by_list m rest list text ≡ Ok r
@@ -73,27 +73,21 @@ abbrev pub fault_of_result : Result CoreRun RunFault → Option Fault
 fault_of_result (Ok r) = None
 fault_of_result (Err f) = Some (fault_of_run f)
 
--- The fault of a schedule. A list in a file is read only where there is a machine to judge it on.
-
+-- The fault of a schedule in a file, which is read only where there is a machine to judge it on.
 abbrev pub IsListFault : Machine → (name : List ℕ) → Gives → Fault → Type 0
 IsListFault m name gives f =
     FailsWith name gives f
     ⊎ ((text : List ℕ) × gives (Ok text)
-    × (fault_of_result (replayed m None (schedule_in_file m text)) ≡ Some f))
+    × (fault_of_result (run_of_schedule m None (schedule_in_file m text)) ≡ Some f))
 
-abbrev pub IsScheduleFault : Machine → (list : List ℕ) → (name : Option (List ℕ)) → Gives →
-    Fault → Type 0
-IsScheduleFault m list None gives f = fault_of_result (replayed m None (schedule_of m list)) ≡
-    Some f
-IsScheduleFault m list (Some name) gives f = IsListFault m name gives f
-
--- The fault of the further turns, where the schedule has none.
-pub record IsRestFault (m : Machine) (rest : Option ℕ) (list : List ℕ) (gives : Gives)
+-- The fault of a schedule, or else of the further turns.
+pub record IsRunFault (m : Machine) (rest : Option ℕ) (list : List ℕ) (gives : Gives)
     (f : Fault) : Type 0 where
   pub text : List ℕ
   pub read : IsRead (list_name list) gives text
   pub faulty : fault_of_result (run_by_list m rest list text) ≡ Some f
 
+-- That of a replay: the list that it names can't be read, or the run by it has this fault.
 abbrev pub IsReplayFault : Machine → (rest : Option ℕ) → (list : List ℕ) → Gives → Fault → Type 0
 IsReplayFault m rest list gives f =
-    IsScheduleFault m list (list_name list) gives f ⊎ IsRestFault m rest list gives f
+    IsSomeAnd (list_name list) (λ name. FailsWith name gives f) ⊎ IsRunFault m rest list gives f

@@ -3,29 +3,18 @@ use Rattle.std.specs.Prelude.{◌≡◌, ◌↔◌, ℕ, true, false, Some, List
 use Rattle.l4_model.specs.Machine.{Machine}
 use Rattle.l4_machine.specs.Outcomes.{Findings}
 use Rattle.l4_trace.specs.Lines.{IsTraceOf}
-use Rattle.l4_commands.specs.declared.job.Printed.{Printed}
+use Rattle.l4_commands.specs.declared.job.TheConstants.{NO_EXTRAS}
 use Rattle.l4_commands.specs.declared.job.Judged.{Judged}
 use Rattle.l4_jobs.specs.Audits.{IsPassed, passed_line}
 use Rattle.l4_types.specs.declared.reports.Ending.{Ending}
-use Rattle.l4_types.specs.declared.reports.Ending.TheVariants.{Quiet, Spent}
 use Rattle.l4_audit.specs.Audits.{is_quiet}
 use Rattle.l4_model.specs.Still.{IsStill}
 use Rattle.l4_model.specs.World.{World}
 use Rattle.l4_model.specs.History.{reached}
 
--- The trace is printed, and nothing behind it.
-pub record IsTraceAlone (printed : Printed) : Type 0 where
-  pub no_report : printed.report ≡ false
-  pub no_waits : printed.extras.waits ≡ false
-  pub no_counts : printed.extras.counts ≡ false
-
 -- An audit without options.
 abbrev pub plain : Judged
-plain = record {
-  report = false;
-  explain = false;
-  extras = record { waits = false; counts = false };
-}
+plain = record { report = false; explain = false; extras = NO_EXTRAS }
 
 -- These lines spell the history, and the line of an audit that passes fits them, whichever ending
 -- is that of the world.

@@ -14,7 +14,7 @@ ghost use Rattle.l4_trace.specs.Reading.{steps_of};
 use crate::done::Done;
 use crate::extras::write_extras;
 use crate::fault::Fault;
-use crate::job::{Extras, Judged};
+use crate::job::{Extras, Judged, NO_EXTRAS};
 use crate::reading::read_all;
 use crate::streams::Source;
 use crate::trace_output::TraceOutput;
@@ -87,7 +87,7 @@ fn fault_behind<'a>(reader: Reader<'_>, refused: StepFault) -> Fault<'a>
 
 // What an audit prints without `--report` and `--explain`. It keeps the steps only where `--waits`
 // or `--counts` needs them.
-pub(crate) fn audited<'a>(
+pub(crate) fn audit_lines<'a>(
     alloc: Global,
     machine: &Machine,
     trace: &[u8],
@@ -100,7 +100,7 @@ pub(crate) fn audited<'a>(
 {
     let passed = audit_text(alloc, machine, trace)?;
     let mut lines = passed_line(alloc, passed.steps, passed.ending)?;
-    if !judged.extras.any() {
+    if judged.extras == NO_EXTRAS {
         return Ok(lines);
     }
     let history = read_history(alloc, trace)?;
@@ -207,7 +207,7 @@ fn trace_output<'a>(
         return judged_trace(alloc, machine, trace, judged);
     }
     Ok(TraceOutput {
-        lines: audited(alloc, machine, trace, judged)?,
+        lines: audit_lines(alloc, machine, trace, judged)?,
         status: 0,
         refused: None,
     })

@@ -103,7 +103,7 @@ fn drawing(alloc: Global, chart: &ChartJob<'_>, shown: &Chart<'_>) -> Result<Vec
 }
 
 // What the chart of a history prints, with these threads or all.
-fn drawn(
+fn history_chart(
     alloc: Global,
     machine: &Machine,
     chart: &ChartJob<'_>,
@@ -149,7 +149,7 @@ fn chart_output<'a>(
         IsFaultOfTrace true machine.now text.now fault) }
 {
     let history = read_history(alloc, text)?;
-    Ok(drawn(alloc, machine, chart, threads, &history)?)
+    Ok(history_chart(alloc, machine, chart, threads, &history)?)
 }
 
 /// What a chart comes to, for the trace that its source gives.

@@ -248,8 +248,10 @@ fn put_fault<E: Sink>(faults: &mut E, fault: &Fault<'_>) -> Result<(), NotWritte
     }
 }
 
-// The line of a fault.
-pub(crate) fn line_of(alloc: Global, fault: &Fault<'_>) -> Result<Vec<u8>, NoMemory>
+/// The line of a fault.
+///
+/// `NoMemory`: memory was refused.
+pub fn line_of(alloc: Global, fault: &Fault<'_>) -> Result<Vec<u8>, NoMemory>
     ensures { IfOk result (λ line. line.items ≡ fault_line fault.now) }
 {
     let mut line = Vec::new(alloc);
@@ -274,7 +276,7 @@ pub fn report<E: Sink>(alloc: Global, faults: &mut E, fault: &Fault<'_>) -> u8
 }
 
 // The fault of the file of this name that can't be opened or read.
-pub(crate) fn unread(name: &str, kind: ErrorKind) -> Fault<'_>
+pub(crate) fn read_fault(name: &str, kind: ErrorKind) -> Fault<'_>
     ensures { IsUnread name.now kind result }
 {
     match kind {

@@ -9,13 +9,14 @@ ghost use Rattle.l4_jobs.specs.Expectations.{scope_of};
 ghost use Rattle.l4_jobs.specs.Jobs.{IsAskedFault, IsDone, IsDoneFor, IsDoneOn, IsFault, IsFaultFor};
 ghost use Rattle.l4_jobs.specs.Jobs.{IsFaultOn, IsFaultyDone, IsTextFault};
 ghost use Rattle.l4_jobs.specs.Outputs.{output_of};
+ghost use Rattle.l4_jobs.specs.Runners.{MakesRuns};
 ghost use Rattle.l4_jobs.specs.declared.fault.Fault.TheVariants.{NoMemory as OutOfMemory};
 
 use crate::audits::audit_done;
 use crate::charts::chart_done;
 use crate::done::Done;
 use crate::fault::Fault;
-use crate::job::Job;
+use crate::job::{Job, RunJob};
 use crate::lints::{lint_done, list_lint_done};
 use crate::nexts::next_done;
 use crate::reading::{read_all, read_text};
@@ -30,9 +31,13 @@ use l4_script::text::{TextFault, TextFaultKind};
 use std::alloc::Global;
 use std::thread::Threads;
 
-// What a job comes to on the machine of a text, where this is expected of it.
-fn done_on<'a, R: Threads + Sync, S: Source, P: Progress>(
-    rt: &R,
+// What a job comes to on the machine of a text, where this is expected of it. `run` makes a run.
+fn done_on<
+    'a,
+    S: Source,
+    P: Progress,
+    F: Fn(&Machine, RunJob<'a>, Option<&Expectations<'_>>) -> Result<Done<'a>, Fault<'a>>,
+>(
     alloc: Global,
     job: &Job<'a>,
     text: &[u8],
@@ -40,8 +45,11 @@ fn done_on<'a, R: Threads + Sync, S: Source, P: Progress>(
     second: &mut S,
     expected: Option<&Expectations<'_>>,
     progress: &mut P,
+    run: F,
 ) -> Result<Done<'a>, Fault<'a>>
-    requires { machine_of_text text.now ≡ Ok machine.now }
+    requires callable { F.IsAlwaysCallable run }
+    requires runs { MakesRuns (F.post run) }
+    requires parsed { machine_of_text text.now ≡ Ok machine.now }
     ensures ok { IfOk result (λ done. IsDoneOn job.now text.now machine.now
         (S.gives second.old) (option_copied expected.entry) (output_of done)) }
     ensures err { IfErr result (λ fault. (fault ≡ OutOfMemory) ⊎
@@ -49,26 +57,13 @@ fn done_on<'a, R: Threads + Sync, S: Source, P: Progress>(
     ensures unread { second_file_of job.now ≡ None → second.new ≡ second.old }
 {
     match *job {
-        Job::Run {
-            turns,
-            printed,
-            record_to,
-            ..
-        } => run_done(rt, alloc, machine, turns, printed, record_to, expected),
-        Job::Replay {
-            schedule,
-            then_rest,
-            printed,
-            record_to,
-            ..
-        } => replay_done(
-            alloc, machine, schedule, then_rest, printed, record_to, second, expected,
-        ),
-        Job::Next { schedule, .. } => next_done(alloc, machine, schedule, second),
-        Job::Audit { trace, judged, .. } => audit_done(alloc, machine, trace, judged, second),
+        Job::Run(asked) => run(machine, asked, expected),
+        Job::Replay(replay) => replay_done(alloc, machine, &replay, second, expected),
+        Job::Next(next) => next_done(alloc, machine, next.schedule, second),
+        Job::Audit(audit) => audit_done(alloc, machine, audit.trace, audit.judged, second),
         Job::Chart(chart) => chart_done(alloc, machine, &chart, second),
         Job::Endings(search) => search_done(alloc, machine, &search, expected, progress),
-        Job::Lint { schedule, .. } => list_lint_done(alloc, text, machine, schedule, second),
+        Job::Lint(lint) => list_lint_done(alloc, text, machine, lint.schedule, second),
     }
 }
 
@@ -83,8 +78,12 @@ fn scope_of(job: &Job<'_>) -> Scope
 }
 
 // What a job comes to on the machine of a text, by this text of expectations.
-fn done_by<'a, R: Threads + Sync, S: Source, P: Progress>(
-    rt: &R,
+fn done_by<
+    'a,
+    S: Source,
+    P: Progress,
+    F: Fn(&Machine, RunJob<'a>, Option<&Expectations<'_>>) -> Result<Done<'a>, Fault<'a>>,
+>(
     alloc: Global,
     job: &Job<'a>,
     text: &[u8],
@@ -92,8 +91,11 @@ fn done_by<'a, R: Threads + Sync, S: Source, P: Progress>(
     second: &mut S,
     asked: &[u8],
     progress: &mut P,
+    run: F,
 ) -> Result<Done<'a>, Fault<'a>>
-    requires { machine_of_text text.now ≡ Ok machine.now }
+    requires callable { F.IsAlwaysCallable run }
+    requires runs { MakesRuns (F.post run) }
+    requires parsed { machine_of_text text.now ≡ Ok machine.now }
     ensures ok { IfOk result (λ done. (lines : List Expected) ×
         (expectations_of (scope_of job.now) asked.now ≡ Ok lines) ×
         IsDoneOn job.now text.now machine.now (S.gives second.old) (Some lines)
@@ -105,7 +107,6 @@ fn done_by<'a, R: Threads + Sync, S: Source, P: Progress>(
 {
     let expected = Expectations::parse(alloc, scope_of(job), asked)?;
     done_on(
-        rt,
         alloc,
         job,
         text,
@@ -113,12 +114,18 @@ fn done_by<'a, R: Threads + Sync, S: Source, P: Progress>(
         second,
         Some(&expected),
         progress,
+        run,
     )
 }
 
 // What a job comes to on the machine of a text. What is expected of it is read and judged first.
-fn done_for<'a, R: Threads + Sync, S: Source, X: Source, P: Progress>(
-    rt: &R,
+fn done_for<
+    'a,
+    S: Source,
+    X: Source,
+    P: Progress,
+    F: Fn(&Machine, RunJob<'a>, Option<&Expectations<'_>>) -> Result<Done<'a>, Fault<'a>>,
+>(
     alloc: Global,
     job: &Job<'a>,
     text: &[u8],
@@ -126,8 +133,11 @@ fn done_for<'a, R: Threads + Sync, S: Source, X: Source, P: Progress>(
     second: &mut S,
     expects: &mut X,
     progress: &mut P,
+    run: F,
 ) -> Result<Done<'a>, Fault<'a>>
-    requires { machine_of_text text.now ≡ Ok machine.now }
+    requires callable { F.IsAlwaysCallable run }
+    requires runs { MakesRuns (F.post run) }
+    requires parsed { machine_of_text text.now ≡ Ok machine.now }
     ensures ok { IfOk result (λ done. IsDoneFor job.now text.now (Ok machine.now)
         (S.gives second.old) (X.gives expects.old) (output_of done)) }
     ensures err { IfErr result (λ fault. (fault ≡ OutOfMemory) ⊎
@@ -135,11 +145,10 @@ fn done_for<'a, R: Threads + Sync, S: Source, X: Source, P: Progress>(
     ensures unread { second_file_of job.now ≡ None → second.new ≡ second.old }
 {
     let Some(name) = job.expected() else {
-        return done_on(rt, alloc, job, text, machine, second, None, progress);
+        return done_on(alloc, job, text, machine, second, None, progress, run);
     };
     let asked = read_all(alloc, name, expects)?;
     done_by(
-        rt,
         alloc,
         job,
         text,
@@ -147,6 +156,7 @@ fn done_for<'a, R: Threads + Sync, S: Source, X: Source, P: Progress>(
         second,
         asked.as_slice(),
         progress,
+        run,
     )
 }
 
@@ -164,21 +174,29 @@ fn done_without<'a>(
 {
     match (job, fault.kind) {
         (_, TextFaultKind::NoMemory) => Err(Fault::NoMemory),
-        (Job::Lint { .. }, _) => Ok(lint_done(alloc, text)?),
+        (Job::Lint(_), _) => Ok(lint_done(alloc, text)?),
         _ => Err(Fault::from(fault)),
     }
 }
 
-// What a job comes to for a text, which is parsed first.
-fn done_of<'a, R: Threads + Sync, S: Source, X: Source, P: Progress>(
-    rt: &R,
+// What a job comes to for a text, which is parsed first. `run` makes a run.
+pub(crate) fn done_of<
+    'a,
+    S: Source,
+    X: Source,
+    P: Progress,
+    F: Fn(&Machine, RunJob<'a>, Option<&Expectations<'_>>) -> Result<Done<'a>, Fault<'a>>,
+>(
     alloc: Global,
     job: &Job<'a>,
     text: &[u8],
     second: &mut S,
     expects: &mut X,
     progress: &mut P,
+    run: F,
 ) -> Result<Done<'a>, Fault<'a>>
+    requires callable { F.IsAlwaysCallable run }
+    requires runs { MakesRuns (F.post run) }
     ensures ok { IfOk result (λ done. IsDoneFor job.now text.now (machine_of_text text.now)
         (S.gives second.old) (X.gives expects.old) (output_of done)) }
     ensures err { IfErr result (λ fault. (fault ≡ OutOfMemory) ⊎
@@ -187,7 +205,7 @@ fn done_of<'a, R: Threads + Sync, S: Source, X: Source, P: Progress>(
     ensures unread { second_file_of job.now ≡ None → second.new ≡ second.old }
 {
     match Machine::parse(alloc, text) {
-        Ok(machine) => done_for(rt, alloc, job, text, &machine, second, expects, progress),
+        Ok(machine) => done_for(alloc, job, text, &machine, second, expects, progress, run),
         Err(fault) => done_without(alloc, job, text, fault),
     }
 }
@@ -219,5 +237,8 @@ pub fn done<'a, R: Threads + Sync, M: Source, S: Source, X: Source, P: Progress>
     ensures unread { second_file_of job.now ≡ None → second.new ≡ second.old }
 {
     let text = read_text(alloc, job.file(), machine)?;
-    done_of(rt, alloc, job, text.as_slice(), second, expects, progress)
+    let run = |machine: &Machine, run, expected: Option<&Expectations<'_>>| {
+        run_done(rt, alloc, machine, &run, expected)
+    };
+    done_of(alloc, job, text.as_slice(), second, expects, progress, run)
 }

@@ -3,6 +3,7 @@ ghost use Rattle.std.specs.Prelude.{◌≡◌, ℕ, List, None, Some, Option};
 ghost use Rattle.l4_commands.specs.Files.{list_name};
 ghost use Rattle.l4_commands.specs.declared.job.Job.{Job as AJob};
 ghost use Rattle.l4_commands.specs.declared.job.Printed.{Printed};
+ghost use Rattle.l4_commands.specs.declared.job.TheConstants.{TRACE_ALONE};
 ghost use Rattle.l4_expect.specs.Expected.{Expected};
 ghost use Rattle.l4_machine.specs.Outcomes.{Findings, IsTrueOf};
 ghost use Rattle.l4_model.specs.Machine.{Machine as ModelMachine};
@@ -13,7 +14,7 @@ ghost use Rattle.l4_jobs.specs.Outputs.{Output};
 ghost use Rattle.l4_jobs.specs.Records.{IsRepeatedBy};
 ghost use Rattle.l4_jobs.specs.Runs.{IsRunDone, IsWritten};
 ghost use Rattle.l4_jobs.specs.Schedules.{IsReplayAsked, IsRunAsked};
-ghost use Rattle.l4_jobs.specs.Traces.{IsTraceAlone, IsTraceThatPasses};
+ghost use Rattle.l4_jobs.specs.Traces.{IsTraceThatPasses};
 ghost use Rattle.l4_jobs.specs.declared.fault.Fault.{Fault as AFault};
 
 /// On the machine of a recorded run or replay, a replay of its record prints exactly what that
@@ -36,9 +37,8 @@ pub fn law_recorded()
 /// A trace that is printed of outcomes which are true of a machine is read back as a history of the
 /// machine, and passes its audit.
 pub fn law_trace_passes()
-    ensures { (printed : Printed) (m : ModelMachine) (o : Findings) (lines : List ℕ) →
-        IsTraceAlone printed → IsTrueOf m o → IsWritten printed m o lines →
-        IsTraceThatPasses m o lines }
+    ensures { (m : ModelMachine) (o : Findings) (lines : List ℕ) → IsTrueOf m o →
+        IsWritten TRACE_ALONE m o lines → IsTraceThatPasses m o lines }
 {}
 
 /// A job that has a fault for a text, a trace or a list, and expectations comes to nothing for

@@ -32,6 +32,7 @@ mod nexts;
 pub mod perform;
 mod reading;
 pub mod refusal;
+pub mod rounds;
 mod runs;
 mod schedules;
 mod searches;

@@ -11,7 +11,7 @@ ghost use Rattle.l4_jobs.specs.Performing.{IsTrulyDoneOn, IsUnopened, IsWrittenO
 ghost use Rattle.l4_jobs.specs.Streams.{IsWrittenApart};
 
 use crate::done::Done;
-use crate::fault::{Fault, report, unread};
+use crate::fault::{Fault, read_fault, report};
 use crate::job::Job;
 use crate::jobs::done;
 use crate::streams::{Folder, Given, InFolder, NoRecords, Records, Sink, Source};
@@ -150,7 +150,7 @@ pub fn perform<R: Threads + Sync, M: Source, T: Source, W: Sink, E: Sink>(
 }
 
 // Opens the file of this name, where there is one.
-fn opened<'a, F: Folder>(folder: &F, name: Option<&'a str>) -> Result<Given<F::File>, Fault<'a>>
+fn given_file<'a, F: Folder>(folder: &F, name: Option<&'a str>) -> Result<Given<F::File>, Fault<'a>>
     ensures ok { IfOk result (λ given.
         IsOpened (F.opens folder.now) (option_copied name.entry) given) }
     ensures err { IfErr result (IsUnopened (F.opens folder.now) (option_copied name.entry)) }
@@ -160,7 +160,7 @@ fn opened<'a, F: Folder>(folder: &F, name: Option<&'a str>) -> Result<Given<F::F
     };
     match folder.open(name) {
         Ok(file) => Ok(Given::Source(file)),
-        Err(kind) => Err(unread(name, kind)),
+        Err(kind) => Err(read_fault(name, kind)),
     }
 }
 
@@ -180,9 +180,9 @@ fn files_of<'a, F: Folder>(folder: &F, job: &Job<'a>) -> Result<Files<F::File>, 
     ensures err { IfErr result (AreUnopened (F.opens folder.now) job.now) }
 {
     Ok(Files {
-        machine: opened(folder, Some(job.file()))?,
-        second: opened(folder, job.second_file())?,
-        expects: opened(folder, job.expected())?,
+        machine: given_file(folder, Some(job.file()))?,
+        second: given_file(folder, job.second_file())?,
+        expects: given_file(folder, job.expected())?,
     })
 }
 

@@ -4,7 +4,7 @@ ghost use Rattle.l4_schedules.specs.InFiles.{most_bytes};
 ghost use Rattle.l4_jobs.specs.Inputs.{FailsWith};
 ghost use Rattle.l4_jobs.specs.Reading.{IsReadAs};
 
-use crate::fault::{Fault, unread};
+use crate::fault::{Fault, read_fault};
 use crate::streams::Source;
 use l4_schedules::files::MOST_FILE_BYTES;
 use l4_script::text::MOST_BYTES;
@@ -25,7 +25,7 @@ fn read_most<'a, S: Source>(
 {
     match source.read_beginning(alloc, most) {
         Ok(text) => Ok(text),
-        Err(kind) => Err(unread(name, kind)),
+        Err(kind) => Err(read_fault(name, kind)),
     }
 }
 
@@ -41,7 +41,7 @@ pub(crate) fn read_all<'a, S: Source>(
 {
     match source.read_whole(alloc) {
         Ok(text) => Ok(text),
-        Err(kind) => Err(unread(name, kind)),
+        Err(kind) => Err(read_fault(name, kind)),
     }
 }
 

@@ -12,16 +12,16 @@ ghost use Rattle.l4_trace.specs.Lines.{has_line};
 ghost use Rattle.l4_jobs.specs.Expectations.{is_met_by, status_by, unmet_by};
 ghost use Rattle.l4_jobs.specs.Inputs.{IsRead};
 ghost use Rattle.l4_jobs.specs.Outputs.{list_of, output_of};
-ghost use Rattle.l4_jobs.specs.Runs.{IsRunDone, IsWritten, lines_of_outcome, list_for, report_of};
-ghost use Rattle.l4_jobs.specs.Runs.{status_of_ending};
-ghost use Rattle.l4_jobs.specs.Schedules.{IsReplayAsked, IsReplayFault, IsRunAsked, fault_of_turns};
+ghost use Rattle.l4_jobs.specs.Runs.{IsReplayJobDone, IsRunDone, IsRunJobDone, IsWritten};
+ghost use Rattle.l4_jobs.specs.Runs.{lines_of_outcome, list_for, report_of, status_of_ending};
+ghost use Rattle.l4_jobs.specs.Schedules.{IsReplayFault, IsRunAsked, fault_of_turns};
 ghost use Rattle.l4_jobs.specs.declared.fault.Fault.TheVariants.{NoMemory as OutOfMemory};
 
 use crate::done::{Done, Kept};
 use crate::extras::write_extras;
 use crate::fault::Fault;
-use crate::job::Printed;
-use crate::schedules::{asked_entries, gone_on};
+use crate::job::{NO_EXTRAS, Printed, ReplayJob, RunJob};
+use crate::schedules::{asked_entries, whole_replay};
 use crate::streams::Source;
 use crate::trace_lines::trace_of;
 use l4_expect::expectations::Expectations;
@@ -76,7 +76,7 @@ fn printed_lines(
         IsWritten printed machine.now (compact_findings_of outcome.entry) lines.items) }
 {
     let mut lines = lines_of(alloc, printed.report, &outcome)?;
-    if !printed.extras.any() {
+    if printed.extras == NO_EXTRAS {
         return Ok(lines);
     }
     let history = outcome.history.into_history(alloc)?;
@@ -204,30 +204,27 @@ fn recorded_run<'a, R: Threads + Sync>(
     Ok(outcome_done(alloc, printed, machine, outcome, expected, list)?)
 }
 
-/// What a run comes to. It is recorded where `record_to` names a file.
+/// What a run comes to. It is recorded where a file is named for that.
 pub(crate) fn run_done<'a, R: Threads + Sync>(
     rt: &R,
     alloc: Global,
     machine: &Machine,
-    turns: u64,
-    printed: Printed,
-    record_to: Option<&'a str>,
+    run: &RunJob<'a>,
     expected: Option<&Expectations<'_>>,
 ) -> Result<Done<'a>, Fault<'a>>
     ensures ok { IfOk result (λ done.
-        IsRunDone printed machine.now (IsRunAsked machine.now turns) (option_copied record_to.entry)
-        (option_copied expected.entry) (output_of done)) }
+        IsRunJobDone run.now machine.now (option_copied expected.entry) (output_of done)) }
     ensures err { IfErr result (λ fault. (fault ≡ OutOfMemory) ⊎
-        (fault_of_turns turns ≡ Some fault)) }
+        (fault_of_turns run.now.turns ≡ Some fault)) }
 {
-    match record_to {
-        None => plain_run(rt, alloc, machine, turns, printed, expected),
-        Some(name) => recorded_run(rt, alloc, machine, turns, printed, name, expected),
+    match run.record_to {
+        None => plain_run(rt, alloc, machine, run.turns, run.printed, expected),
+        Some(name) => recorded_run(rt, alloc, machine, run.turns, run.printed, name, expected),
     }
 }
 
-// What is kept of a replay of these entries, where a file is named for it.
-fn kept<'a>(
+// The record of a replay of these entries, where a file is named for it.
+fn record_of<'a>(
     alloc: Global,
     name: Option<&'a str>,
     entries: &[Entry],
@@ -244,29 +241,34 @@ fn kept<'a>(
     }
 }
 
-/// What a replay comes to. `list` gives its schedule where that is in a file. It is recorded where
-/// `record_to` names a file.
+/// What a replay comes to. `list` gives its schedule where that is in a file. It is recorded where a
+/// file is named for that.
 pub(crate) fn replay_done<'a, L: Source>(
     alloc: Global,
     machine: &Machine,
-    schedule: &'a str,
-    rest: Option<u64>,
-    printed: Printed,
-    record_to: Option<&'a str>,
+    replay: &ReplayJob<'a>,
     list: &mut L,
     expected: Option<&Expectations<'_>>,
 ) -> Result<Done<'a>, Fault<'a>>
     ensures ok { IfOk result (λ done. (text : List ℕ) ×
-        IsRead (list_name schedule.now) (L.gives list.old) text ×
-        IsRunDone printed machine.now (IsReplayAsked machine.now rest schedule.now text)
-        (option_copied record_to.entry) (option_copied expected.entry) (output_of done)) }
+        IsRead (list_name replay.now.schedule.now) (L.gives list.old) text ×
+        IsReplayJobDone replay.now machine.now text (option_copied expected.entry)
+        (output_of done)) }
     ensures err { IfErr result (λ fault. (fault ≡ OutOfMemory) ⊎
-        IsReplayFault machine.now rest schedule.now (L.gives list.old) fault) }
-    ensures unread { list_name schedule.now ≡ None → list.new ≡ list.old }
+        IsReplayFault machine.now replay.now.then_rest replay.now.schedule.now (L.gives list.old)
+        fault) }
+    ensures unread { list_name replay.now.schedule.now ≡ None → list.new ≡ list.old }
 {
     machine.facts();
-    let entries = asked_entries(alloc, machine, schedule, list)?;
-    let replayed = gone_on(alloc, machine, entries, rest)?;
-    let list = kept(alloc, record_to, replayed.entries.as_slice())?;
-    Ok(outcome_done(alloc, printed, machine, replayed.outcome, expected, list)?)
+    let entries = asked_entries(alloc, machine, replay.schedule, list)?;
+    let whole = whole_replay(alloc, machine, entries, replay.then_rest)?;
+    let list = record_of(alloc, replay.record_to, whole.entries.as_slice())?;
+    Ok(outcome_done(
+        alloc,
+        replay.printed,
+        machine,
+        whole.outcome,
+        expected,
+        list,
+    )?)
 }

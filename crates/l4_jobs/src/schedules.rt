@@ -6,8 +6,8 @@ ghost use Rattle.l4_machine.specs.Entries.{entries_fault, entry_from};
 ghost use Rattle.l4_machine.specs.Outcomes.{IsCompactReplay};
 ghost use Rattle.l4_schedules.specs.InFiles.{schedule_in_file};
 ghost use Rattle.l4_jobs.specs.Inputs.{IsRead};
-ghost use Rattle.l4_jobs.specs.Schedules.{IsListFault, IsScheduleFault};
-ghost use Rattle.l4_jobs.specs.Schedules.{asked_schedule, gone_on};
+ghost use Rattle.l4_jobs.specs.Schedules.{IsListFault, IsReplayFault};
+ghost use Rattle.l4_jobs.specs.Schedules.{asked_schedule, continued_run};
 ghost use Rattle.l4_jobs.specs.declared.fault.Fault.TheVariants.{NoMemory as OutOfMemory};
 
 use crate::fault::Fault;
@@ -54,8 +54,7 @@ pub(crate) fn asked_entries<'a, L: Source>(
     ensures lawful { IfOk result (λ entries.
         entries_fault machine.now (map entry_from entries.items) ≡ None) }
     ensures err { IfErr result (λ fault. (fault ≡ OutOfMemory) ⊎
-        IsScheduleFault machine.now schedule.now (list_name schedule.now) (L.gives list.old)
-        fault) }
+        IsReplayFault machine.now None schedule.now (L.gives list.old) fault) }
     ensures unread { list_name schedule.now ≡ None → list.new ≡ list.old }
 {
     match list_name(schedule) {
@@ -72,12 +71,12 @@ fn with_asked_rest(
     rest: Option<u64>,
 ) -> Result<Vec<Entry>, RunFault>
     requires { entries_fault machine.now (map entry_from entries.items) ≡ None }
-    ensures ok { IfOk result (λ all. gone_on machine.now rest (map entry_from entries.items)
+    ensures ok { IfOk result (λ all. continued_run machine.now rest (map entry_from entries.items)
         ≡ Ok (replay_entries machine.now (map entry_from all.items))) }
     ensures lawful { IfOk result (λ all.
         entries_fault machine.now (map entry_from all.items) ≡ None) }
     ensures err { IfErr result (λ fault. (fault ≡ RunFault.NoMemory) ⊎
-        (gone_on machine.now rest (map entry_from entries.items) ≡ Err fault)) }
+        (continued_run machine.now rest (map entry_from entries.items) ≡ Err fault)) }
 {
     match rest {
         None => Ok(entries),
@@ -86,7 +85,7 @@ fn with_asked_rest(
 }
 
 // A replay of these entries on the machine, which are entries of it.
-fn replayed<'m>(
+fn replay_outcome<'m>(
     alloc: Global,
     machine: &'m Machine,
     entries: &[Entry],
@@ -108,25 +107,25 @@ pub struct WholeReplay<'m> {
 }
 
 // The replay of these entries, which may go on in rounds.
-pub(crate) fn gone_on<'m>(
+pub(crate) fn whole_replay<'m>(
     alloc: Global,
     machine: &'m Machine,
     entries: Vec<Entry>,
     rest: Option<u64>,
 ) -> Result<WholeReplay<'m>, RunFault>
     requires { entries_fault machine.now (map entry_from entries.items) ≡ None }
-    ensures ok { IfOk result (λ r. gone_on machine.now rest (map entry_from entries.items)
+    ensures ok { IfOk result (λ r. continued_run machine.now rest (map entry_from entries.items)
         ≡ Ok (replay_entries machine.now (map entry_from r.entries.items))) }
     ensures replayed { IfOk result (λ r.
         IsCompactReplay machine.now (map entry_from r.entries.items) r.outcome) }
     ensures lawful { IfOk result (λ r.
         entries_fault machine.now (map entry_from r.entries.items) ≡ None) }
     ensures err { IfErr result (λ fault. (fault ≡ RunFault.NoMemory) ⊎
-        (gone_on machine.now rest (map entry_from entries.items) ≡ Err fault)) }
+        (continued_run machine.now rest (map entry_from entries.items) ≡ Err fault)) }
 {
     let all = with_asked_rest(alloc, machine, entries, rest)?;
     Ok(WholeReplay {
-        outcome: replayed(alloc, machine, all.as_slice())?,
+        outcome: replay_outcome(alloc, machine, all.as_slice())?,
         entries: all,
     })
 }

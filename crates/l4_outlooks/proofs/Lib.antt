@@ -8,3 +8,4 @@ pub mod Leading
 pub mod Opening
 pub mod Sparing
 pub mod Taking
+pub mod Looking

@@ -11,6 +11,8 @@ ghost use Rattle.l4_outlooks.specs.Foreseen.{Foreseen, IsBehind, IsLed, opens};
 ghost use Rattle.l4_outlooks.specs.Named.{open_step};
 ghost use Rattle.l4_outlooks.specs.Standing.{left_alone};
 
+mod looks;
+
 use crate::alone::Alone;
 use crate::code::code_of;
 use crate::named::{KINDS, named};

@@ -28,12 +28,13 @@ impl Tries for Counters {
     }
 
     fn choices(
-        &self,
+        &mut self,
         alloc: Global,
         found: &Found,
         place: usize,
     ) -> Result<Vec<Choice>, AllocError> {
-        let code = found.code(place);
+        let kept = found.code(alloc, place)?;
+        let code = kept.as_slice();
         let (left, right) = (code[0], code[1]);
         if left < 2 {
             return Ok(vec![in alloc; choice(alloc, 0, left + 1, right)?]?);
@@ -66,12 +67,17 @@ fn choice(alloc: Global, entry: u32, left: u8, right: u8) -> Result<Choice, Allo
 fn explore_counters(alloc: Global, depth: u32) -> Result<Explored, AllocError>
     ensures { IfOk result (λ r. AreAllEnds EndsIn (at 0 0) r.found r.depth r.is_whole) }
 {
-    explore(alloc, &Counters, depth, 100, &mut Unheard)
+    explore(alloc, &mut Counters, depth, 100, &mut Unheard)
 }
 
 #[test]
 fn the_end_is_found(rt: HostRuntime) {
     let explored = explore_counters(rt.alloc(), 100).ok().expect(&rt, "memory");
     assert!(rt; explored.is_whole && explored.depth == 4 && explored.found.len() == 5);
-    assert!(rt; explored.found.is_end(4) && explored.found.code(4) == [2, 2].as_slice());
+    let code = explored
+        .found
+        .code(rt.alloc(), 4)
+        .ok()
+        .expect(&rt, "memory");
+    assert!(rt; explored.found.is_end(4) && code.as_slice() == [2, 2].as_slice());
 }

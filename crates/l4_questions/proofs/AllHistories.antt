@@ -1,5 +1,5 @@
 -- What an answer says of all histories.
-use Rattle.std.proofs.Common.{◌≡◌, ℕ, zero, suc, Bool, true, false, cond, Option, Some, List, [], ◌∷◌, refl, ap, subst, sym, ◌∙◌}
+use Rattle.std.proofs.Common.{◌≡◌, ◌<◌, ℕ, zero, suc, Bool, true, false, cond, Option, Some, None, List, [], ◌∷◌, length, refl, ap, subst, sym, ◌∙◌}
 use Rattle.std.specs.Prelude.{filter, slice_get}
 use Rattle.std.specs.List.{list_all}
 use Rattle.std.proofs.lemmas.Bool.{and_parts}
@@ -20,12 +20,15 @@ use Rattle.l4_questions.specs.Answers.{ending_after, ending_in, ending_or_none, 
 use Rattle.l4_questions.specs.Asked.{asked_of, asks, is_asked}
 use Rattle.l4_questions.specs.Endings.{Ending}
 use Rattle.l4_questions.specs.Met.{EachIsMet}
-use Rattle.l4_questions.specs.Printed.{meets}
+use Rattle.l4_questions.specs.Printed.{answer_status, meets}
 use Rattle.l4_questions.specs.Runs.{AsksForLines}
+use Rattle.l4_questions.specs.Stuck.{asks_who_is_stuck, is_any, AreAsked}
+use Rattle.l4_stuck.specs.Stuck.{AreStuckThreads, Stuck}
+use Rattle.l4_forever.specs.Moves.{IsNeverStuck}
 use Rattle.l4_questions.specs.declared.question.Question.{Question}
 use Rattle.l4_questions.specs.declared.question.Wanted.TheVariants.{AnEnding, NoEnding, Whatever}
 use Rattle.l4_questions.proofs.Asking.{asked_alike}
-use Rattle.l4_questions.proofs.Statuses.{by_status, met_by_status, some_by_status}
+use Rattle.l4_questions.proofs.Statuses.{by_status, met_by_status, nobody_by_status, some_by_status, told_nothing}
 use Rattle.l4_questions.proofs.Telling.{all_told}
 
 none_at : (m : Machine) (q : Question) (traces : List (List Step)) (i : ℕ) (trace : List Step) →
@@ -111,11 +114,19 @@ found m q traces depth may all h w ending =
           ∙ ap (is_asked q) (sym same);
     }
 
+-- Status 0 is that of the endings too.
+status_told : {m : Machine} {q : Question} {waits : Bool} {expected : Option (List Expected)}
+    {lines unmet : List ℕ} → (a : IsAnswer m q waits expected lines unmet 0) →
+    0 ≡ answer_status expected q (endings_after m a.traces) a.is_whole
+status_told {m} {q} a =
+    told_nothing q.wanted (is_any a.stuck) a.is_stuck_whole a.told_status a.status_is
+    ∙ a.told.status_is
+
 pub none_reached : (m : Machine) (q : Question) (waits : Bool)
     (expected : Option (List Expected)) (lines unmet : List ℕ) → AsksForLines q →
     q.wanted ≡ NoEnding → IsAnswer m q waits expected lines unmet 0 → NoneIsReached m q
 none_reached m q waits expected lines unmet may none a h w ending =
-    let is = by_status q expected (endings_after m a.traces) a.is_whole none a.told.status_is in
+    let is = by_status q expected (endings_after m a.traces) a.is_whole none (status_told a) in
     let one = found m q a.traces a.depth may
     (subst (AreAllEndings m a.traces a.depth) is.whole a.searched.all) h w ending in
     one.asked ∙ none_at m q a.traces one.place one.trace one.at is.none
@@ -139,7 +150,7 @@ pub met_of_status : (m : Machine) (q : Question) (waits : Bool) (expected : List
     EachIsMet m q expected
 met_of_status m q waits expected lines unmet asks may any a =
     let is = met_by_status q (Some expected) (endings_after m a.traces) a.is_whole any
-    a.told.status_is in
+    (status_told a) in
     all_met m q expected a.traces a.depth asks may
     (subst (AreAllEndings m a.traces a.depth) is.whole a.searched.all) is.met
 
@@ -186,7 +197,7 @@ pub one_reached : (m : Machine) (q : Question) (waits : Bool)
     (expected : Option (List Expected)) (lines unmet : List ℕ) →
     q.wanted ≡ AnEnding → IsAnswer m q waits expected lines unmet 0 → OneIsReached m q
 one_reached m q waits expected lines unmet one a =
-    let some = some_by_status q expected (endings_after m a.traces) a.is_whole one a.told.status_is in
+    let some = some_by_status q expected (endings_after m a.traces) a.is_whole one (status_told a) in
     let at = asked_at m q a.traces some.first some.others some.is in
     let comes = a.searched.all.sound at.place at.trace at.at in
     record {
@@ -196,3 +207,27 @@ one_reached m q waits expected lines unmet one a =
       asked =
           sym (ap (λ o. is_asked q (ending_or_none m at.trace o)) comes.1.comes.reaches) ∙ at.asked;
     }
+
+-- Nobody gets stuck for ever where nobody is told, and the search was whole.
+
+none_of : (m : Machine) (stuck : List Stuck) → is_any stuck ≡ false →
+    AreStuckThreads m stuck true → (thread : ℕ) → thread < length m.threads →
+    IsNeverStuck m thread
+none_of m [] none are thread inside = are.complete refl thread inside (λ k s at. cc)
+none_of m (s ∷ stuck) none are thread inside = cc
+
+asked_are : (asked is_whole : Bool) (m : Machine) (stuck : List Stuck) → asked ≡ true →
+    is_whole ≡ true → AreAsked asked m stuck is_whole → AreStuckThreads m stuck true
+asked_are true true m stuck asked whole are = are
+asked_are true false m stuck asked whole are = cc
+asked_are false is_whole m stuck asked whole are = cc
+
+pub nobody_stuck : (m : Machine) (q : Question) (waits : Bool)
+    (expected : Option (List Expected)) (lines unmet : List ℕ) → asks_who_is_stuck q ≡ true →
+    q.wanted ≡ NoEnding → IsAnswer m q waits expected lines unmet 0 → (thread : ℕ) →
+    thread < length m.threads → IsNeverStuck m thread
+nobody_stuck m q waits expected lines unmet asks none a =
+    let is = nobody_by_status q.wanted (is_any a.stuck) a.is_stuck_whole a.told_status none
+    a.status_is in
+    none_of m a.stuck is.none
+    (asked_are (asks_who_is_stuck q) a.is_stuck_whole m a.stuck asks is.whole a.stuck_are)

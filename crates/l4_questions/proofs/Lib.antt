@@ -3,6 +3,7 @@ pub mod Printing
 pub mod Telling
 pub mod Sharing
 pub mod Listing
+mod StuckThreads
 pub mod Audited
 pub mod Counting
 mod Alike

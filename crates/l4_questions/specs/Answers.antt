@@ -20,6 +20,8 @@ use Rattle.l4_questions.specs.Asked.{asks, is_asked}
 use Rattle.l4_questions.specs.Endings.{Ending}
 use Rattle.l4_questions.specs.Limits.{question_fault}
 use Rattle.l4_questions.specs.Printed.{IsTold}
+use Rattle.l4_questions.specs.Stuck.{is_any, stuck_lines, stuck_status, stuck_traces, AreAskedStuck}
+use Rattle.l4_stuck.specs.Stuck.{Stuck}
 use Rattle.l4_questions.specs.declared.question.Question.{Question}
 
 -- The histories that entries stand for, and that all of them are possible.
@@ -91,8 +93,9 @@ pub record AreFound (m : Machine) (q : Question) (traces : List (List Step)) (wo
   pub all : AreAllEndings m traces depth is_whole
   pub looked : HasLooked m q.depth q.states worlds depth is_whole
 
--- These lines and this status are the answer: those of all endings that the question asks for. It
--- may also ask who waits for whom, and expect something of each ending.
+-- These lines and this status are the answer: those of all endings that the question asks for, and of
+-- the threads that may get stuck for ever. It may also ask who waits for whom, and expect something of
+-- each ending.
 pub record IsAnswer (m : Machine) (q : Question) (waits : Bool)
     (expected : Option (List Expected)) (lines unmet : List ℕ) (status : ℕ) : Type 0 where
   pub lawful : question_fault q ≡ None
@@ -101,11 +104,17 @@ pub record IsAnswer (m : Machine) (q : Question) (waits : Bool)
   pub depth : ℕ
   pub is_whole : Bool
   pub searched : AreFound m q traces worlds depth is_whole
+  pub stuck : List Stuck
+  pub is_stuck_whole : Bool
+  pub stuck_are : AreAskedStuck m q stuck is_stuck_whole
+  pub told_status : ℕ
   pub told :
-      IsTold q waits expected (endings_after m traces) (last_lines traces worlds depth is_whole)
-      is_whole lines unmet status
+      IsTold q waits expected (endings_after m traces)
+      (stuck_lines m stuck is_stuck_whole ++ last_lines traces worlds depth is_whole)
+      is_whole lines unmet told_status
+  pub status_is : status ≡ stuck_status q.wanted (is_any stuck) is_stuck_whole told_status
 
--- The trace of one ending
+-- The trace of one ending, or of one thread that is stuck for ever
 
 abbrev pub asked_traces : Machine → Question → (traces : List (List Step)) → List (List Step)
 asked_traces m q traces = filter (λ trace. is_asked q (ending_after m trace)) traces
@@ -125,9 +134,14 @@ pub record IsTraceAnswer (m : Machine) (q : Question) (number : ℕ) (lines : Op
   pub depth : ℕ
   pub is_whole : Bool
   pub searched : AreFound m q traces worlds depth is_whole
-  pub told : lines ≡ option_map trace_of (numbered 1 number (asked_traces m q traces))
+  pub stuck : List Stuck
+  pub is_stuck_whole : Bool
+  pub stuck_are : AreAskedStuck m q stuck is_stuck_whole
+  pub told : lines ≡ option_map trace_of
+      (numbered 1 number (asked_traces m q traces ++ stuck_traces m stuck))
   -- each step of the trace has a line of its own
-  pub spelled : (trace : List Step) → numbered 1 number (asked_traces m q traces) ≡ Some trace →
+  pub spelled : (trace : List Step) →
+      numbered 1 number (asked_traces m q traces ++ stuck_traces m stuck) ≡ Some trace →
       list_all has_line trace ≡ true
 
 -- What status 0 says where no such ending should exist: no history comes to an ending that is asked

@@ -10,3 +10,4 @@ pub mod Runs
 pub mod Shown
 pub mod Waiting
 pub mod Writing
+pub mod Stuck

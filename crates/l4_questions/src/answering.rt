@@ -1,21 +1,25 @@
 //! The answer to a question about all histories.
-ghost use Rattle.std.specs.Prelude.{◌≡◌, ◌⊎◌, IfErr, IfOk, List, Some, map};
+ghost use Rattle.std.specs.Prelude.{◌≡◌, ◌⊎◌, ◌++◌, IfErr, IfOk, List, Some, map};
 ghost use Rattle.std.specs.Option.{option_copied};
 ghost use Rattle.l4_all_endings.specs.Tried.{schedules_from, AreLed};
 ghost use Rattle.l4_futures.specs.Traces.{trace_along};
 ghost use Rattle.l4_questions.specs.Answers.{endings_after, last_lines, traces_along, whole_word};
 ghost use Rattle.l4_questions.specs.Answers.{AreHistories, IsAnswer};
 ghost use Rattle.l4_questions.specs.Limits.{question_fault};
+ghost use Rattle.l4_questions.specs.Stuck.{stuck_lines, AreAllStuck};
 ghost use Rattle.l4_questions.specs.Writing.{AreWritten};
+ghost use Rattle.l4_stuck.specs.Stuck.{stuck_of};
 ghost use Rattle.l4_questions.specs.declared.question.QuestionFault.TheVariants.{NoMemory as OutOfMemory};
 
 use crate::beside::Beside;
 use crate::judged::{Answer, Written};
 use crate::question::{Question, QuestionFault};
 use crate::reached::ReachedEnding;
+use crate::stuck::{asked_stuck, stuck_lines, stuck_status};
 use l4_all_endings::{FoundEndings, all_endings, trace_of};
 use l4_explore::progress::Progress;
 use l4_script::machine::Machine;
+use l4_stuck::FoundThreads;
 use l4_types::errors::NoMemory;
 use std::alloc::Global;
 
@@ -62,6 +66,25 @@ fn last_lines(alloc: Global, found: &FoundEndings) -> Result<Vec<u8>, NoMemory>
     Ok(lines.into_bytes())
 }
 
+// What stands behind the endings: the threads that are stuck for ever, and what the search says of
+// itself.
+fn lines_behind(
+    alloc: Global,
+    machine: &Machine,
+    found: &FoundEndings,
+    stuck: &FoundThreads,
+) -> Result<Vec<u8>, NoMemory>
+    requires { AreAllStuck machine.now (stuck_of stuck.now.threads.items) }
+    ensures { IfOk result (λ lines. lines.items ≡
+        stuck_lines machine.now (stuck_of stuck.now.threads.items) stuck.now.is_whole
+        ++ last_lines found.now.endings.items found.now.worlds found.now.depth found.now.is_whole) }
+{
+    let mut lines = stuck_lines(alloc, machine, stuck)?;
+    let last = last_lines(alloc, found)?;
+    lines.extend_from_slice(&last)?;
+    Ok(lines)
+}
+
 /// The answer to a question: the endings that it asks for, numbered from 1, shorter histories first.
 /// They are among the endings of all histories of at most `depth` steps but ticks, each once, with a
 /// shortest history. Only their entries and lines are kept. `progress` hears how far the search has
@@ -83,7 +106,12 @@ pub fn answer<P: Progress>(
 {
     let (depth, most) = question.limits()?;
     let found = all_endings(alloc, machine, depth, most, progress)?;
+    let stuck = asked_stuck(alloc, machine, question, depth, most, progress)?;
     let written = written(alloc, machine, question, beside, found.endings.as_slice())?;
-    let last = last_lines(alloc, &found)?;
-    Ok(written.into_answer(question, last.as_slice(), found.is_whole)?)
+    let last = lines_behind(alloc, machine, &found, &stuck)?;
+    let answer = written.into_answer(question, last.as_slice(), found.is_whole)?;
+    Ok(Answer {
+        status: stuck_status(question.wanted, &stuck, answer.status),
+        ..answer
+    })
 }

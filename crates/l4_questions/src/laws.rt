@@ -6,7 +6,7 @@
 //! ```rust
 //! law_none_is_reached(); // from here on: after status 0 of `NoEnding` no ending is asked for
 //! ```
-ghost use Rattle.std.specs.Prelude.{ℕ, ◌≡◌, Bool, true, List, Option};
+ghost use Rattle.std.specs.Prelude.{ℕ, ◌≡◌, ◌<◌, Bool, true, List, Option, length};
 ghost use Rattle.l4_model.specs.Machine.{Machine};
 ghost use Rattle.l4_core_model.specs.Runs.{IsMachine, Run};
 ghost use Rattle.l4_model.specs.Steps.{Step};
@@ -20,6 +20,8 @@ ghost use Rattle.l4_machine.specs.Outcomes.{Findings, IsFoundFor, IsOutcomeOf};
 ghost use Rattle.l4_futures.specs.Endings.{AreAllEndings as AreAllWorldEndings};
 ghost use Rattle.l4_questions.specs.Placed.{IsPlacedAnswer};
 ghost use Rattle.l4_questions.specs.Quiet.{QuietIsListed, QuietIsNotAsked};
+ghost use Rattle.l4_forever.specs.Moves.{IsNeverStuck};
+ghost use Rattle.l4_questions.specs.Stuck.{asks_who_is_stuck};
 ghost use Rattle.l4_questions.specs.Runs.{AsksForLines, ComesToRest, NoneIsAsked, StandsFor};
 ghost use Rattle.l4_questions.specs.declared.question.Question.{Question as AskedQuestion};
 ghost use Rattle.l4_questions.specs.declared.question.Wanted.TheVariants.{AnEnding, NoEnding};
@@ -31,6 +33,16 @@ pub fn law_none_is_reached()
     ensures { (m : Machine) (q : AskedQuestion) (waits : Bool)
         (expected : Option (List Expected)) (lines unmet : List ℕ) → AsksForLines q →
         q.wanted ≡ NoEnding → IsAnswer m q waits expected lines unmet 0 → NoneIsReached m q }
+{}
+
+/// Status 0, where a question asks that nothing be stuck, says that no history makes a thread stuck
+/// for ever, whether the text comes to rest or not.
+pub fn law_nobody_is_stuck()
+    ensures { (m : Machine) (q : AskedQuestion) (waits : Bool)
+        (expected : Option (List Expected)) (lines unmet : List ℕ) →
+        asks_who_is_stuck q ≡ true → q.wanted ≡ NoEnding →
+        IsAnswer m q waits expected lines unmet 0 → (thread : ℕ) → thread < length m.threads →
+        IsNeverStuck m thread }
 {}
 
 /// Status 0, where a question asks that such an ending exist, says that one does: a history of the

@@ -30,6 +30,7 @@ mod printed;
 pub mod question;
 mod reached;
 mod shown;
+mod stuck;
 mod traces;
 
 pub use answering::answer;

@@ -7,7 +7,7 @@ use Rattle.l4_explore.proofs.search.expand.Given as goal
 -- What was found so far, and the choices that are left.
 abbrev pub invariant-loop-choice : goal.invariant-loop-choice
 invariant-loop-choice g l = record {
-  going : GoingOn (g.T.Tries.state_of l.tries) (g.T.Tries.offers l.tries) l.found l.next
+  going : GoingOn (g.T.Tries.state_of l.fn.tries) (g.T.Tries.offers l.fn.tries) l.found l.next
       (seen_at l.fn.found l.next) (map next_from l.choice-iterator.rest.items);
   few : length l.found ≤ l.most;
 }

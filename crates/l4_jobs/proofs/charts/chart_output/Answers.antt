@@ -15,9 +15,9 @@ returns-in_err-history-clause-err c =
 pub returns-clause-charted : goal.returns-clause-charted
 returns-clause-charted c = λ chosen.
     let reads = written c.args.text.now _ c.in_ok-history.ensures in
-    let drawn = c.in_ok-drawn.ensures in
+    let drawn = c.in_ok-history_chart.ensures in
     charted c.args.chart.now c.args.machine.now c.args.text.now _ _ _ _ _ chosen refl reads drawn.status drawn.lines
 
 pub returns-clause-refused : goal.returns-clause-refused
 returns-clause-refused c =
-    refused_is c.args.machine.now c.args.text.now _ _ (written c.args.text.now _ c.in_ok-history.ensures) c.in_ok-drawn.ensures.refused
+    refused_is c.args.machine.now c.args.text.now _ _ (written c.args.text.now _ c.in_ok-history.ensures) c.in_ok-history_chart.ensures.refused

@@ -1,6 +1,5 @@
 use Rattle.std.proofs.Common.{Some, inr}
 use Rattle.l4_commands.specs.Files.{expected_of, file_of, second_file_of}
-use Rattle.l4_jobs.specs.Performing.{sinks}
 use Rattle.l4_jobs.specs.Streams.{GivenGives, IsWrittenApart}
 use Rattle.l4_jobs.proofs.Performed.{apart_as, performed_as, performed_status, performed_true}
 use Rattle.l4_jobs.proofs.perform.perform_on_files.Goals as goal

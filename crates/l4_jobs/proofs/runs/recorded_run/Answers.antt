@@ -1,4 +1,4 @@
-use Rattle.std.proofs.Common.{◌≡◌, ◌∙◌, ℕ, List, Option, Some, ap, map}
+use Rattle.std.proofs.Common.{◌∙◌, List, Option, Some, ap, map}
 use Rattle.std.specs.Option.{option_copied, option_map}
 use Rattle.l4_machine.specs.Entries.{entry_from}
 use Rattle.l4_machine.specs.declared.entries.Entry.{Entry}

@@ -1,4 +1,4 @@
-use Rattle.std.proofs.Common.{◌≡◌, ◌∙◌, List, Option, ap, map}
+use Rattle.std.proofs.Common.{◌∙◌, List, Option, ap, map}
 use Rattle.std.specs.Option.{option_copied}
 use Rattle.l4_machine.specs.Entries.{entry_from}
 use Rattle.l4_machine.specs.declared.entries.Entry.{Entry}
@@ -11,16 +11,17 @@ use Rattle.l4_jobs.proofs.runs.replay_done.Goals as goal
 pub returns-clause-ok : goal.returns-clause-ok
 returns-clause-ok g c =
     let asked = c.in_ok-entries.ensures.ok in
-    let on = c.in_ok-replayed.ensures in
+    let on = c.in_ok-whole.ensures in
     let done = c.in_ok-outcome_done.ensures in
-    let name = option_copied c.args.record_to in
+    let replay = c.args.replay.now in
+    let name = option_copied replay.record_to in
     let list =
     ap (λ (list : Option Kept). list_of list) done.list
     ∙ c.in_ok-list.ensures
     ∙ ap (λ (es : List Entry). list_for name (map entry_from es)) c.as_slice.ensures.value in (
       asked.0,
       asked.1,
-      asked_replay_done c.args.printed c.args.machine.now c.args.rest c.args.schedule.now asked.0 _ name (option_copied c.args.expected) _ _ _
+      asked_replay_done replay.printed c.args.machine.now replay.then_rest replay.schedule.now asked.0 _ name (option_copied c.args.expected) _ _ _
           asked.2 on.ok on.replayed
           (record {
             written = done.lines;

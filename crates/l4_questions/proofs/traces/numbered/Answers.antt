@@ -4,6 +4,8 @@ use Rattle.l4_history.specs.Rows.{Told}
 use Rattle.l4_questions.specs.Answers.{ending_after, traces_along}
 use Rattle.l4_questions.specs.Asked.{is_asked}
 use Rattle.l4_questions.specs.Shown.{reached_in}
+use Rattle.l4_questions.specs.Stuck.{stuck_traces}
+use Rattle.l4_stuck.specs.Stuck.{stuck_of}
 use Rattle.l4_questions.proofs.Listing.{as_many_traces, asked_behind, asked_here, history_at, led_at, not_asked, schedule_at, trace_at}
 use Rattle.l4_questions.proofs.traces.numbered.Goals as goal
 
@@ -61,7 +63,7 @@ loop-entries-preserved-then-not-branch c =
     record {
       behind =
           c.loop-entries.invariant.behind
-          ∙ not_asked m q traces i first number trace among here (asked ∙ c.if-not-branch.true);
+          ∙ not_asked m q (stuck_traces m (stuck_of c.args.stuck.now)) traces i first number trace among here (asked ∙ c.if-not-branch.true);
       few = omega (arith, c.loop-entries.invariant.few);
     }
 
@@ -88,7 +90,7 @@ returns-then-count-number c =
     = ap (λ (h : Told). h.steps) c.into_trace.ensures ∙ c.in_ok-shown.ensures.trace in
     ap (λ (h : List Step). Some h) same
     ∙ sym (c.loop-entries.invariant.behind
-    ∙ asked_here m q traces i first number trace among here (asked ∙ c.if-not-branch.false)
+    ∙ asked_here m q (stuck_traces m (stuck_of c.args.stuck.now)) traces i first number trace among here (asked ∙ c.if-not-branch.false)
     c.if-count-number.true)
 
 pub loop-entries-preserved : goal.loop-entries-preserved
@@ -113,7 +115,7 @@ loop-entries-preserved c =
     record {
       behind =
           c.loop-entries.invariant.behind
-          ∙ asked_behind m q traces i first number trace among here (asked ∙ c.if-not-branch.false)
+          ∙ asked_behind m q (stuck_traces m (stuck_of c.args.stuck.now)) traces i first number trace among here (asked ∙ c.if-not-branch.false)
           c.if-count-number.false;
       few = omega (arith, c.loop-entries.invariant.few);
     }

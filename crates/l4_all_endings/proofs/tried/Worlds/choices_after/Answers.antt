@@ -1,5 +1,6 @@
 use Rattle.std.proofs.Common.{ap, subst, sym, ◌∙◌}
 use Rattle.l4_futures.specs.Choices.{tried}
+use Rattle.l4_outlooks.specs.Foreseen.{IsLed}
 use Rattle.l4_all_endings.specs.Tried.{entries_of, nexts_at, AreOpen}
 use Rattle.l4_all_endings.proofs.Leading.{by_entries, tried_open}
 use Rattle.l4_all_endings.proofs.tried.Worlds.choices_after.Goals as goal
@@ -10,14 +11,16 @@ choices_by-requires-clause-possible c =
     subst (AreOpen o.machine o.world) (sym (c.deref.ensures.value ∙ c.in_ok-tried.ensures))
     (tried_open o.machine o.world)
 
-pub returns : goal.returns
-returns c =
+pub returns-clause-are : goal.returns-clause-are
+returns-clause-are c =
     let m = c.args.self.now.machine.now in
     let o = c.in_ok-outlook.outlook in
-    let same = c.in_ok-outlook.ensures.machine in
+    let led = subst (λ n. IsLed n c.args.entries.now o) c.args.self.now.same
+    c.in_ok-outlook.ensures.led in
+    let same = led.machine in
     record {
       world = o.world;
-      leads = c.in_ok-outlook.ensures.leads;
+      leads = led.leads;
       are = c.in_ok-choices.ensures
           ∙ ap (λ n. nexts_at n o.world c.deref.result.now) same
           ∙ ap (nexts_at m o.world) (c.deref.ensures.value ∙ c.in_ok-tried.ensures

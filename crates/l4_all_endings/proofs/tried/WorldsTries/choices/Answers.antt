@@ -10,7 +10,7 @@ pub returns-clause-leads : goal.returns-clause-leads
 returns-clause-leads c =
     let m = c.args.self.now.machine.now in
     let schedule = (seen_at c.args.found.now c.args.place).schedule in
-    let x = c.in-Ok.ensures in
+    let x = c.in-Ok.ensures.are in
     subst (LeadOn (state_after m) schedule 0) (sym x.are)
     (nexts_lead m schedule x.world
     (subst (λ s. world_after m s ≡ Some x.world) (c.deref.ensures.value ∙ c.in_ok-entries.ensures)

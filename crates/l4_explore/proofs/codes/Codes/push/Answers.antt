@@ -1,4 +1,4 @@
-use Rattle.std.proofs.Common.{◌≡◌, ◌+◌, ◌++◌, ◌∷◌, [], length, ap, ◌∙◌, length-append}
+use Rattle.std.proofs.Common.{◌≡◌, ◌+◌, ◌++◌, ◌∷◌, [], length, ap, ◌∙◌, arith}
 use Rattle.l4_explore.specs.Codes.{codes_of}
 use Rattle.l4_explore.proofs.Ends.{codes_more, ends_more}
 use Rattle.l4_explore.proofs.codes.Codes.push.Goals as goal
@@ -11,10 +11,9 @@ ends_are : (c : goal.After-push_reserved) → c.push_reserved.new.self.items
     ≡ c.self.inside.ends.items ++ (length c.self.inside.bytes.items + length c.args.code.now) ∷ []
 ends_are c =
     c.push_reserved.ensures.items
-    ∙ ap (λ es. es ++ c.len.result ∷ []) c.reserve.ensures.items
+    ∙ ap (λ es. es ++ (c.len.result + length c.args.code.now) ∷ []) c.reserve.ensures.items
     ∙ ap (λ end. c.self.inside.ends.items ++ end ∷ [])
-    (c.len.ensures ∙ c.extend_from_slice.new.self.ok.0 ∙ ap length (bytes_are c)
-    ∙ length-append c.self.inside.bytes.items c.args.code.now)
+    (omega (arith, c.len.ensures, c.self.inside.bytes.ok.0))
 
 pub invariant_of-self-2 : goal.invariant_of-self-2
 invariant_of-self-2 c =

@@ -2,12 +2,11 @@ use Rattle.std.proofs.Common.{◌≡◌, ◌<◌, ℕ, List, length, Option, Non
 use Rattle.l4_explore.specs.Codes.{code_at}
 use Rattle.l4_explore.specs.Search.{has_code}
 use Rattle.l4_explore.specs.Grown.{seen_of}
-use Rattle.l4_explore.specs.Views.{nodes_from, AreArrivals}
-use Rattle.l4_explore.specs.declared.found.Arrival.{Arrival}
+use Rattle.l4_explore.specs.Views.{all_arrived, nodes_from, AreArrivals, Arrived}
 use Rattle.l4_explore.proofs.Growing.{has_found, has_none}
 use Rattle.l4_explore.proofs.found.Found.has.Goals as goal
 
-module _ (codes : List (List ℕ)) (arrivals : List Arrival) (are : AreArrivals codes arrivals)
+module _ (codes : List (List ℕ)) (arrivals : List Arrived) (are : AreArrivals codes arrivals)
     (code : List ℕ) where
   is_found : (found : Option ℕ) →
       IfSome found (λ place. (place < length codes) × (code_at codes place ≡ code)) →
@@ -20,5 +19,6 @@ module _ (codes : List (List ℕ)) (arrivals : List Arrival) (are : AreArrivals 
 pub returns : goal.returns
 returns c = rw (← c.self.view_is)
     (c.is_some.ensures
-    ∙ is_found c.self.inside.codes c.self.inside.arrivals.items c.self.invariant c.args.code.now
+    ∙ is_found c.self.inside.codes (all_arrived c.self.inside.arrivals.items c.self.inside.ends.items)
+    c.self.invariant.are c.args.code.now
     c.find.result c.find.ensures.found c.find.ensures.absent)

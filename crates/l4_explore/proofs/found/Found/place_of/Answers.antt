@@ -1,13 +1,12 @@
-use Rattle.std.proofs.Common.{◌≡◌, ◌<◌, ℕ, false, List, length, Option, None, Some, IfSome, IfNone, ap, sym, ◌∙◌, arith}
+use Rattle.std.proofs.Common.{◌≡◌, ◌<◌, ℕ, false, List, length, Option, None, Some, IfSome, IfNone, ◌∙◌, arith}
 use Rattle.l4_explore.specs.Codes.{code_at}
-use Rattle.l4_explore.specs.Search.{has_code, seen_at, Seen}
+use Rattle.l4_explore.specs.Search.{has_code, seen_at}
 use Rattle.l4_explore.specs.Grown.{seen_of}
-use Rattle.l4_explore.specs.Views.{nodes_from, AreArrivals}
-use Rattle.l4_explore.specs.declared.found.Arrival.{Arrival}
+use Rattle.l4_explore.specs.Views.{all_arrived, nodes_from, AreArrivals, Arrived}
 use Rattle.l4_explore.proofs.Growing.{code_there, has_none, length-seen}
 use Rattle.l4_explore.proofs.found.Found.place_of.Goals as goal
 
-module _ (codes : List (List ℕ)) (arrivals : List Arrival) (are : AreArrivals codes arrivals)
+module _ (codes : List (List ℕ)) (arrivals : List Arrived) (are : AreArrivals codes arrivals)
     (code : List ℕ) where
   at : (found : Option ℕ) →
       IfSome found (λ place. (place < length codes) × (code_at codes place ≡ code)) →
@@ -27,10 +26,12 @@ module _ (codes : List (List ℕ)) (arrivals : List Arrival) (are : AreArrivals 
 
 pub returns-clause-found : goal.returns-clause-found
 returns-clause-found c = rw (← c.self.view_is)
-    (at c.self.inside.codes c.self.inside.arrivals.items c.self.invariant c.args.code.now
+    (at c.self.inside.codes (all_arrived c.self.inside.arrivals.items c.self.inside.ends.items)
+    c.self.invariant.are c.args.code.now
     c.find.result c.find.ensures.found)
 
 pub returns-clause-absent : goal.returns-clause-absent
 returns-clause-absent c = rw (← c.self.view_is)
-    (nowhere c.self.inside.codes c.self.inside.arrivals.items c.self.invariant c.args.code.now
+    (nowhere c.self.inside.codes (all_arrived c.self.inside.arrivals.items c.self.inside.ends.items)
+    c.self.invariant.are c.args.code.now
     c.find.result c.find.ensures.absent)

@@ -1,7 +1,0 @@
-use Rattle.std.proofs.Common.{sym}
-use Rattle.clap.specs.Words.{found_of}
-use Rattle.l4_commands.proofs.Matched.{audit_is}
-use Rattle.l4_commands.proofs.asked.audit_job.Goals as goal
-
-pub returns : goal.returns
-returns c = audit_is (found_of c.args.matches.now) _ _ _ (sym c.in_ok-get_str.ensures) (sym c.in_ok-get_str-2.ensures) c.in_ok-judged.ensures

@@ -1,0 +1,8 @@
+mod Again
+mod Aligned
+mod Escapes
+mod Finding
+mod Fitting
+mod Going
+mod Objects
+mod Texts

@@ -1,0 +1,6 @@
+pub mod Lines
+pub mod Objects
+pub mod Rows
+pub mod Scripts
+pub mod Steps
+pub mod Views

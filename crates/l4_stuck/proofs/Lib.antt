@@ -1,0 +1,6 @@
+pub mod Growing
+pub mod Marking
+pub mod Placing
+pub mod Walking
+mod Standing
+mod Telling

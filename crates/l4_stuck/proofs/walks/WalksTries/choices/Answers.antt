@@ -1,0 +1,17 @@
+use Rattle.std.proofs.Common.{map, subst, take, ◌∙◌}
+use Rattle.l4_explore.specs.Search.{seen_at}
+use Rattle.l4_explore.specs.Tries.{LeadOn}
+use Rattle.l4_explore.specs.Views.{next_from}
+use Rattle.l4_futures.specs.Search.{state_after}
+use Rattle.l4_stuck.proofs.Walking.{walked_lead}
+use Rattle.l4_stuck.proofs.walks.WalksTries.choices.Goals as goal
+
+pub returns-clause-leads : goal.returns-clause-leads
+returns-clause-leads c =
+    let m = c.args.self.now.machine.now in
+    let found = c.args.found.now in
+    let seen = seen_at found c.args.place in
+    let choices = map next_from c.in-Ok.choices.items in
+    subst (λ s. LeadOn (state_after m) s 0 choices)
+    (c.deref.ensures.value ∙ c.in_ok-entries.ensures)
+    (walked_lead m (take c.args.place found) seen c.deref.result.now choices c.in-Ok.ensures.are)

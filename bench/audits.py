@@ -4,7 +4,7 @@ import subprocess
 import sys
 
 import texts
-from measure import instructions, least_seconds, peak_mebibytes
+from measure import for_each, least_seconds, peak_mebibytes
 from tables import Bench, row, table
 
 RUNS = 5
@@ -37,8 +37,11 @@ def show_audits(bench):
     for place, (name, text) in enumerate(MACHINES.items()):
         half, whole, few, more = beginnings(bench, place, text)
         times = least_seconds([half, whole], RUNS)
-        count = (instructions(more) - instructions(few)) / (COUNTED_STEPS - COUNTED_STEPS // 2)
-        row(name, f"{STEPS / times[1]:,.0f}", f"{count:,.0f}", f"{peak_mebibytes(whole):.0f}", f"{times[1] / times[0]:.2f}")
+        count = bench.beside(for_each(COUNTED_STEPS, COUNTED_STEPS // 2), more, few)
+        row(name, f"{STEPS / times[1]:,.0f}", count, f"{peak_mebibytes(whole):.0f}", f"{times[1] / times[0]:.2f}")
 
 
-show_audits(Bench(*sys.argv[1:]))
+if __name__ == "__main__":
+    measured = Bench(*sys.argv[1:])
+    measured.show_cells()
+    show_audits(measured)

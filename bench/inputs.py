@@ -1,50 +1,77 @@
-"""Counts the instructions of a turn and of an audited step for five machines of one processor. Prints the table."""
+"""Counts the instructions of a turn and of an audited step for six machines of one processor, and of an entry of a replay for three of several. Prints the tables."""
 
 import itertools
-import subprocess
 import sys
 
 import texts
-from measure import instructions
+from measure import for_each, output
 from tables import Bench, row, table
 
 SPENT = 3
 FIRST, COUNTED = 10_000, 30_000
+MOST_THREADS = texts.MOST_THREADS
 
+# Each machine of one processor with the entries of its replay, which come again and again: turns, and ticks where time has to pass.
 MACHINES = {
-    "two that call, no words": texts.calling(1, 2),
-    "two that call, 63 words": texts.calling(1, 2, 63),
-    "512 such pairs": texts.pairs(texts.MOST_THREADS // 2),
-    "1,023 senders to one": texts.crowd(texts.MOST_THREADS - 1),
-    "finite times, 2 threads": texts.sleepers(texts.own_times(2)),
+    "two that call, no words": (texts.calling(1, 2), ["0"]),
+    "two that call, 63 words": (texts.calling(1, 2, 63), ["0"]),
+    "512 such pairs": (texts.pairs(MOST_THREADS // 2), ["0"]),
+    "1,023 senders to one": (texts.crowd(MOST_THREADS - 1), ["0"]),
+    "finite times, 2 threads": (texts.sleepers(texts.own_times(2)), ["t0", "0", "0"]),
+    "1,023 deadlines of one remainder by 64": (texts.sleepers(texts.times_of_one_remainder(MOST_THREADS - 1)), ["t0", "0", "0", "0"]),
+}
+
+# Each machine of several processors with their number, the number of its pairs, the first entries and the counted ones, which are turns of each processor in
+# order. At the end of both replays of the last row letters are under way, and of no other.
+SEVERAL = {
+    "a pair across 2 processors": (2, 1, 4_000, 20_000),
+    "512 pairs across 16 processors": (texts.MOST_CPUS, MOST_THREADS // 2, 15_200, 48_000),
+    "the same, letters under way at the end": (texts.MOST_CPUS, MOST_THREADS // 2, 16_000, 47_600),
 }
 
 
-def for_each(words, first, counted, status):
-    """The instructions for each of those after the first ones. `words` makes a command line of a number."""
-    return (instructions(words(counted), status) - instructions(words(first), status)) / (counted - first)
+def cycled(entries, count):
+    return list(itertools.islice(itertools.cycle(entries), count))
 
 
-def entries(ticks, count):
-    """So many entries of a schedule: turns, or where time has to pass a tick and a turn, and again."""
-    return itertools.islice(itertools.cycle(["t0", "0", "0"] if ticks else ["0"]), count)
+def lines_of(words):
+    """The lines of the trace that a command prints."""
+    return output(words)[0].splitlines(keepends=True)
+
+
+def audited(bench, file, lines):
+    """A cell of the instructions of an audited step."""
+    return bench.beside(for_each(COUNTED, FIRST), *(bench.audit(file, lines[:steps]) for steps in (COUNTED, FIRST)))
 
 
 def show_inputs(bench):
-    """Of each machine what a turn takes in a run and in a replay, and what a step takes that is audited."""
+    """Of each machine of one processor what a turn takes in a run and in a replay, and what a step takes that is audited."""
     table("Input", "run, report", "run, trace", "replay, trace", "audit")
-    for place, (name, threads) in enumerate(MACHINES.items()):
+    count = for_each(COUNTED, FIRST, SPENT)
+    for place, (name, (threads, entries)) in enumerate(MACHINES.items()):
         file, text = f"{place}.l4", texts.machine(threads)
-        traced = bench.words(file, text, 2 * COUNTED, report=False)
-        lines = subprocess.run(traced, stdout=subprocess.PIPE).stdout.splitlines(keepends=True)[:-1]
-        sleeps = "times" in name
-        counts = [
-            for_each(lambda turns: bench.words(file, text, turns, True), FIRST, COUNTED, SPENT),
-            for_each(lambda turns: bench.words(file, text, turns, False), FIRST, COUNTED, SPENT),
-            for_each(lambda count: bench.replay(file, text, entries(sleeps, count)), FIRST, COUNTED, SPENT),
-            for_each(lambda steps: bench.audit(file, lines[:steps]), FIRST, COUNTED, 0),
+        lines = lines_of(bench.words(file, text, 2 * COUNTED, report=False))
+        cells = [bench.beside(count, *(bench.words(file, text, turns, report) for turns in (COUNTED, FIRST))) for report in (True, False)]
+        cells.append(bench.beside(count, *(bench.replay(file, text, cycled(entries, turns)) for turns in (COUNTED, FIRST))))
+        row(name, *cells, audited(bench, file, lines))
+
+
+def show_several(bench):
+    """Of each machine of several processors what an entry of a replay takes, and a step that is audited."""
+    table("Several processors", "replay, report", "replay, trace", "audit")
+    for place, (name, (cpus, pairs, first, counted)) in enumerate(SEVERAL.items()):
+        file, text = f"several-{place}.l4", texts.machine(texts.across(pairs, cpus), cpus)
+        counts = (counted, first)
+        cells = [
+            bench.beside(for_each(*counts, SPENT), *(bench.replay(file, text, cycled(range(cpus), turns), report) for turns in counts))
+            for report in (True, False)
         ]
-        row(name, *(f"{count:,.0f}" for count in counts))
+        lines = lines_of(bench.replay(file, text, cycled(range(cpus), 2 * COUNTED)))
+        row(name, *cells, audited(bench, file, lines))
 
 
-show_inputs(Bench(*sys.argv[1:]))
+if __name__ == "__main__":
+    measured = Bench(*sys.argv[1:])
+    measured.show_cells()
+    show_inputs(measured)
+    show_several(measured)

@@ -18,6 +18,12 @@ def run(words, status=0):
     return done.stderr
 
 
+def output(words):
+    """What a program prints, and the status that it ends with."""
+    done = subprocess.run(words, stdout=subprocess.PIPE, stderr=subprocess.DEVNULL)
+    return done.stdout, done.returncode
+
+
 def seconds(words, status=0):
     start = time.perf_counter()
     run(words, status)
@@ -46,6 +52,12 @@ def instructions(words, status=0):
         return math.nan
     tool = ["valgrind", "--tool=callgrind", "--callgrind-out-file=/dev/null"]
     return int(re.search(r"Collected : (\d+)", run(tool + words, status)).group(1))
+
+
+def for_each(counted, first, status=0):
+    """Counts the instructions for each of those turns, entries or steps that are behind the first ones and among the counted ones. It takes the words of
+    both command lines."""
+    return lambda many, few: (instructions(many, status) - instructions(few, status)) / (counted - first)
 
 
 def peak_mebibytes(words, status=0):

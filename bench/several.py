@@ -4,7 +4,7 @@ import itertools
 import sys
 
 import texts
-from measure import instructions, least_seconds, peak_mebibytes, seconds_together
+from measure import for_each, least_seconds, peak_mebibytes, seconds_together
 from tables import Bench, row, table
 
 SPENT = 3
@@ -31,9 +31,9 @@ SIDE_BY_SIDE = [
 ]
 
 
-def instructions_a_turn(words, first, counted):
-    """The instructions of a turn, on the average of those after the first ones. `words` says how so many turns are taken."""
-    return (instructions(words(counted), SPENT) - instructions(words(first), SPENT)) / (counted - first)
+def instructions_a_turn(bench, words, first, counted):
+    """A cell of the instructions of a turn, on the average of those after the first ones. `words` says how so many turns are taken."""
+    return bench.beside(for_each(counted, first, SPENT), words(counted), words(first))
 
 
 def nanoseconds_a_turn(words):
@@ -61,8 +61,8 @@ def show_one(bench):
     table("A turn of `run` on one processor", "report", "trace", "peak MiB of 1,000,000 turns, report", "trace")
     for place, (name, text) in enumerate(texts.turning().items()):
         file = f"{place}.l4"
-        counts = [instructions_a_turn(run(bench, file, text, report), FIRST_TURNS, COUNTED_TURNS) for report in (True, False)]
-        row(name, *(f"{count:,.0f}" for count in counts), *peaks(bench, file, text))
+        cells = [instructions_a_turn(bench, run(bench, file, text, report), FIRST_TURNS, COUNTED_TURNS) for report in (True, False)]
+        row(name, *cells, *peaks(bench, file, text))
 
 
 def show_several(bench):
@@ -71,9 +71,9 @@ def show_several(bench):
           "peak MiB of 1,000,000 turns, run, report", "run, trace")
     for name, (cpus, pairs, first, items) in SEVERAL.items():
         file, text = f"{cpus}.l4", texts.machine(texts.across(pairs, cpus), cpus)
-        counts = [instructions_a_turn(replay(bench, file, text, cpus), first, items)]
-        counts += [nanoseconds_a_turn(run(bench, file, text, report)) for report in (True, False)]
-        row(name, *(f"{count:,.0f}" for count in counts), *peaks(bench, file, text))
+        count = instructions_a_turn(bench, replay(bench, file, text, cpus), first, items)
+        times = [nanoseconds_a_turn(run(bench, file, text, report)) for report in (True, False)]
+        row(name, count, *(f"{each:,.0f}" for each in times), *peaks(bench, file, text))
 
 
 def turns_a_second(several):
@@ -95,7 +95,9 @@ def show_side_by_side(bench):
         row(name, f"{several:,.0f}", f"{one:,.0f}", f"{several / one:.2f} ({least})", *(f"{rate:,.0f}" for rate in apart), *(f"{rate / one:.2f}" for rate in apart))
 
 
-bench = Bench(*sys.argv[1:])
-show_one(bench)
-show_several(bench)
-show_side_by_side(bench)
+if __name__ == "__main__":
+    measured = Bench(*sys.argv[1:])
+    measured.show_cells()
+    show_one(measured)
+    show_several(measured)
+    show_side_by_side(measured)

@@ -3,7 +3,7 @@
 import sys
 
 import texts
-from measure import instructions, least_seconds, peak_mebibytes
+from measure import for_each, least_seconds, peak_mebibytes
 from tables import Bench, row, table
 
 READ_RUNS = 51
@@ -30,14 +30,17 @@ def show_readings(bench):
         half, whole = (made(size) for size in (texts.MOST_BYTES // 2, texts.MOST_BYTES))
         commands = [nothing, reading(bench, half), reading(bench, whole)]
         start, *times = least_seconds(commands, READ_RUNS, FAULT)
-        first, *counts = (instructions(words, FAULT) for words in commands)
+        cells = [bench.beside(for_each(len(text), 0, FAULT), words, nothing, digits=1) for text, words in zip((half, whole), commands[1:])]
+        first, second = (float(cell.split()[0]) for cell in cells)
         times = [each - start for each in times]
-        counts = [each - first for each in counts]
-        doubled = [("", ""), (f"{times[1] / times[0]:.2f}", f"{counts[1] / counts[0]:.2f}")]
-        for text, taken, count, ratios in zip((half, whole), times, counts, doubled):
-            row(name, f"{len(text):,}", f"{taken * 1000:.1f}", f"{len(text) / taken / 1e6:.0f}", f"{count / len(text):.1f}",
+        doubled = [("", ""), (f"{times[1] / times[0]:.2f}", f"{2 * second / first:.2f}")]
+        for text, taken, cell, ratios in zip((half, whole), times, cells, doubled):
+            row(name, f"{len(text):,}", f"{taken * 1000:.1f}", f"{len(text) / taken / 1e6:.0f}", cell,
                 f"{peak_mebibytes(reading(bench, text), FAULT):.1f}",
                 f"{peak_mebibytes(bench.words('turn.l4', text, 1), SPENT):.1f}", *ratios)
 
 
-show_readings(Bench(*sys.argv[1:]))
+if __name__ == "__main__":
+    measured = Bench(*sys.argv[1:])
+    measured.show_cells()
+    show_readings(measured)

@@ -69,6 +69,8 @@ def show_machines(bench):
         row(name, f"{1 / told:,.0f}", f"{1 / shown:,.0f}", f"{shown / told:.2f}", f"{counted:.0f}", f"{spelled:.0f}", f"{low:.0f}", f"{high:.0f}")
 
 
-bench = Bench(*sys.argv[1:])
-show_places(bench)
-show_machines(bench)
+if __name__ == "__main__":
+    measured = Bench(*sys.argv[1:])
+    measured.show_cells()
+    show_places(measured)
+    show_machines(measured)

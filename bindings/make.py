@@ -1,10 +1,10 @@
 #!/usr/bin/env -S python3 -B
 """Makes the library for programs in other languages: bindings/out/libl4emu.a, to be linked, and libl4emu.so, to be loaded.
 
-    bindings/make.py                of the crate l4_c, which is proved first where it has changed
+    bindings/make.py                of the crate l4_c, which is proved; what it stands on is proved first where that was not done yet
     bindings/make.py --unproved     of the same code without a proof and without checks, in two minutes
 
-What `rt lib` makes of a static library lacks three functions of the kit, by which it asks for memory. They are put beside it. Nothing but
+What the compiler makes of a static library lacks three functions of the kit, by which it asks for memory. They are put beside it. Nothing but
 `l4emu_perform` is to be seen from outside.
 """
 
@@ -20,7 +20,7 @@ TOP = HERE.parent
 OUT = HERE / "out"
 CRATE = TOP / "crates" / "l4_c"
 EXPORT = "l4emu_perform"
-sys.path.insert(0, str(TOP / "bench"))
+sys.path[:0] = [str(TOP / "bench"), str(TOP / "dist")]
 
 # Calls the export, so that it is compiled.
 MAIN = f"""
@@ -39,9 +39,22 @@ def run(words, **how):
 
 
 def proved_object(work):
-    """What `rt lib` makes of the crate. It checks only what it has not kept."""
-    run(["rt", "lib"], cwd=CRATE)
-    archive = CRATE / "out" / "libl4_c.a"
+    """What the compiler makes of the crate, which it proves over the libraries below it.
+
+    Where these are not known to be those of the texts as they stand, `rt lib` proves them first. It takes none that `rt ci` has
+    built, so it is not asked where the gate has noted them.
+    """
+    import proved
+    import unproved
+
+    crate, archive = unproved.crate("l4_c"), work / "libl4_c.a"
+    if proved.unknown_below(crate):
+        print("bindings: proving first what was not proved yet", flush=True)
+        run(["rt", "lib"], cwd=CRATE)
+        archive = CRATE / "out" / "libl4_c.a"
+    else:
+        words = [*crate.words(["--jobs", "2"], keeps=False), "--toolchain", unproved.TOOLCHAIN, "--backend", "llvm"]
+        run([proved.rtlib.RATTLE, "build", *words, "-o", archive], cwd=CRATE)
     run(["ar", "x", archive], cwd=work)
     (made,) = work.glob("*.o")
     return made

@@ -1,5 +1,6 @@
 """Gives the program machine texts, traces, schedules and expectations that somebody spoilt, has spoilt texts and lists linted and spoilt traces drawn,
-records runs and replays, goes on behind schedules, asks what may happen behind them and for endings, and judges its status and its lines."""
+records runs and replays, goes on behind schedules, asks what may happen behind them and for endings, has all that told as objects of JSON, and judges its
+status and its lines."""
 
 import collections
 import os
@@ -7,6 +8,8 @@ import random
 import re
 import subprocess
 import sys
+
+import json_lines
 
 SEED = 20_261_124
 TURNS = "300"
@@ -232,6 +235,14 @@ def judged(words, seen, lines, beside="", others=()):
     return out if told.returncode != FAULT else None
 
 
+def told_in_json(program, words, seen):
+    """With --json the objects say the very lines that are printed without it, and status and faults are the same."""
+    plain, objects = (subprocess.run([program, *words, *more], capture_output=True) for more in ([], ["--json"]))
+    if (objects.returncode, objects.stderr, json_lines.lines_of(objects.stdout.decode()).encode()) != (plain.returncode, plain.stderr, plain.stdout):
+        sys.exit(f"{words}: other lines with --json: {objects.stdout[:200]}")
+    seen[f"status {plain.returncode}"] += 1
+
+
 def write(name, told):
     with open(name, "wb") as file:
         file.write(told)
@@ -239,7 +250,7 @@ def write(name, told):
 
 def main(program, folder, count, part):
     name, trace, listed, wanted = (f"{folder}/hostile-{part}.{kind}" for kind in ("l4", "trace", "list", "expected"))
-    abouts = ("texts", "lint", "traces", "schedules", "rests", "nexts", "items", "lists", "charts", "endings", "expectations")
+    abouts = ("texts", "lint", "traces", "schedules", "rests", "nexts", "items", "lists", "charts", "endings", "expectations", "objects")
     seen = {about: collections.Counter() for about in abouts}
     dice = random.Random(SEED + part)
     for done in range(count):
@@ -249,12 +260,15 @@ def main(program, folder, count, part):
         write(name, spoilt(dice, text))
         judged([program, "run", name, "--turns", TURNS], seen["texts"], lambda out: True)
         linted(program, name, seen["lint"])
+        told_in_json(program, ["lint", name], seen["objects"])
         write(name, text)
         judged([program, "replay", name, "--schedule=" + schedule(dice)], seen["schedules"], lambda out: True)
         rest = ["--then-rest", *dice.choice([[], ["--turns", dice.choice(["0", "7", "300", "1000001"])]])]
         recorded(program, ["replay", name, "--schedule=" + schedule(dice), *rest], name, listed, seen["rests"])
         goes_on(program, name, schedule(dice), dice, seen["nexts"])
         items_linted(program, name, schedule(dice), seen["items"])
+        printed = [word for word in ("--report", "--waits", "--counts") if dice.random() < 0.3]
+        told_in_json(program, ["replay", name, "--schedule=" + schedule(dice), *(printed or dice.choice([[], ["--next"]]))], seen["objects"])
         write(listed, list_file(dice))
         judged([program, "replay", name, "--schedule=@" + listed], seen["lists"], lambda out: True)
         waits = ["--waits"] if dice.random() < 0.3 else []
@@ -268,6 +282,7 @@ def main(program, folder, count, part):
         write(trace, spoilt(dice, told or b"tick 0 1\n"))
         behind = [word for word in ("--waits", "--counts") if dice.random() < 0.3]
         judged([program, "audit", name, trace, *behind], seen["traces"], PASSED.fullmatch)
+        told_in_json(program, ["audit", name, trace, *behind, *dice.choice([[], ["--report"], ["--explain"]])], seen["objects"])
         judged([program, "chart", name, trace, *chart(dice)], seen["charts"], lambda out: True, beside="refused")
     for about, kinds in seen.items():
         for kind, number in kinds.items():

@@ -5,10 +5,12 @@
     >>> l4emu.call("endings", "m.l4", "--stuck", "--none", files={"m.l4": text}).status
     4
 
-A call does what the program `l4run` does with the same words. The files that the words name are texts in memory, at most three. It touches no file and
-starts no thread. A run goes in rounds: it prints what `replay --schedule '' --then-rest` prints.
+A call does what the program `l4run` does with the same words. The files that the words name are texts in memory, at most
+three. It touches no file and starts no thread. A run goes in rounds: it prints what `replay --schedule '' --then-rest`
+prints.
 
-The library is that of the variable `L4EMU`, or else `bindings/out/libl4emu.so`.
+The library is that of the variable `L4EMU`, or else that which was made beside this file, or lies where the package puts
+it.
 """
 
 import ctypes
@@ -18,6 +20,8 @@ from dataclasses import dataclass
 
 __all__ = ["Answer", "call", "lengths"]
 
+# From the folder of this file: of a clone, and of the package or the tarball.
+_PLACES = ("../out/libl4emu.so", "../../../../../lib/x86_64-linux-gnu/l4run/libl4emu.so")
 _MOST_FILES = 3
 _ROOM = (1 << 16, 1 << 12, 1 << 12)
 
@@ -27,8 +31,12 @@ class _Lengths(ctypes.Structure):
 
 
 def _library():
-    name = os.environ.get("L4EMU") or str(pathlib.Path(__file__).resolve().parent.parent / "out" / "libl4emu.so")
-    library = ctypes.CDLL(name)
+    folder = pathlib.Path(__file__).resolve().parent
+    places = [place for place in (folder / name for name in _PLACES) if place.exists()]
+    name = os.environ.get("L4EMU") or next(iter(places), None)
+    if name is None:
+        raise OSError(f"there is no {_PLACES[0]} beside {folder}: `./x bindings` makes it, and L4EMU may name another")
+    library = ctypes.CDLL(str(name))
     given = [ctypes.c_char_p, ctypes.c_size_t] * (1 + 2 * _MOST_FILES)
     library.l4emu_perform.argtypes = [*given, *[ctypes.c_void_p, ctypes.c_size_t] * 3, ctypes.POINTER(_Lengths)]
     library.l4emu_perform.restype = ctypes.c_uint8

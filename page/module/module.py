@@ -9,6 +9,8 @@ each size and offset stays what the proof was about. Debian's binaryen then make
 browser and node takes without a flag. host.c has what the program wants of a system.
 """
 
+import concurrent.futures
+import contextlib
 import hashlib
 import os
 import pathlib
@@ -17,20 +19,21 @@ import shutil
 import subprocess
 import sys
 import tempfile
+import time
 
 HERE = pathlib.Path(__file__).resolve().parent
 TOP = HERE.parent.parent
 PROGRAM = TOP / "crates" / "l4run" / "out" / "l4run"
 sys.path.insert(0, str(TOP / "bench"))
 
-# The stand-in for clang.
+# The stand-in for clang. It keeps the first large module that it is given.
 KEEPER = """#!/bin/sh
 for word; do
     case $word in
-    *.bc) cp "$word" "%s" ;;
+    *.bc) [ -e "{copy}" ] || [ "$(wc -c <"$word")" -lt 100000 ] || {{ cp "$word" "{copy}.part" && mv "{copy}.part" "{copy}"; }} ;;
     esac
 done
-exec "%s" "$@"
+exec "{clang}" "$@"
 """
 
 LAYOUT = "e-m:e-p:64:64-p10:8:8-p20:8:8-i64:64-i128:128-n32:64-S128-ni:1:10:20"
@@ -77,7 +80,7 @@ def tools_that_keep(copy, work):
         if tool.name != "clang":
             (tools / "bin" / tool.name).symlink_to(tool)
     clang = tools / "bin" / "clang"
-    clang.write_text(KEEPER % (copy, compiler()))
+    clang.write_text(KEEPER.format(copy=copy, clang=compiler()))
     clang.chmod(0o755)
     return tools
 
@@ -89,35 +92,42 @@ def text_of(module, to):
     return to
 
 
+def proved_program(crate, tools, work):
+    """The program as the proof compiles it, over the libraries that the gate or ./l4run left."""
+    import unproved
+
+    made, program, kit = work / "l4run.o", work / "l4run", pathlib.Path(unproved.rtlib.KIT)
+    # Its sources are named as they lie in its folder.
+    words = [*crate.words(["--jobs", "1"], keeps=False), "--toolchain", tools, "--backend", "llvm"]
+    run([unproved.rtlib.RATTLE, "build", *words, "-o", made], cwd=crate.folder)
+    link = [kit / "bin" / "rattle-link", "--target", unproved.TARGET, "--toolchain", unproved.TOOLCHAIN, "-o", program, made]
+    run([*link, kit / "c" / "libos_c.a", kit / "c" / "liblibc_c.a"])
+    return program
+
+
+@contextlib.contextmanager
 def proved_module(work):
     """The module of the proved program, in lines.
 
-    The program's own crate is checked once more, over the libraries that the gate or ./l4run left. The program that comes of it has
-    to be byte for byte the one that is there, else it would not be told which of the two was proved.
+    The program's own crate is compiled once more, which proves it. What is made of the module may be taken behind the block: there the
+    program that came of it is byte for byte the one that was proved, else it would not be told which of the two was.
     """
     import unproved
 
     if not PROGRAM.exists():
         sys.exit("page: there is no proved program: ./l4run or ./x gate makes it; with --unproved one is made without a proof")
-    crate, rtlib = unproved.crate("l4run"), unproved.rtlib
+    crate, copy = unproved.crate("l4run"), work / "program.bc"
     missing = [it.name for it in crate.below() if not pathlib.Path(it.rlib).is_dir()]
     if missing:
         sys.exit(f"page: not proved yet, or no longer there: {', '.join(missing)}; ./l4run or ./x gate proves them")
-    copy, checked, made = work / "program.bc", work / "checked", work / "l4run.o"
-    words = crate.words(["--jobs", "2"], keeps=False)
-    # Its sources are named as they lie in its folder.
-    run([rtlib.RATTLE, "check", *words, "--empty-contracts", "-o", checked], cwd=crate.folder)
-    for flag in ("--logic-built", "--jobs"):
-        at = words.index(flag)
-        words = [*words[:at], *words[at + 2 :]]
-    tools = ["--crate-checked", checked, "--toolchain", tools_that_keep(copy, work), "--backend", "llvm"]
-    run([rtlib.RATTLE, "build", *words, *tools, "-o", made], cwd=crate.folder)
-    kit = pathlib.Path(rtlib.KIT)
-    link = [kit / "bin" / "rattle-link", "--target", unproved.TARGET, "--toolchain", unproved.TOOLCHAIN, "-o", work / "l4run", made]
-    run([*link, kit / "c" / "libos_c.a", kit / "c" / "liblibc_c.a"])
-    if (work / "l4run").read_bytes() != PROGRAM.read_bytes():
-        sys.exit(f"page: {PROGRAM.relative_to(TOP)} is not what comes of the proved crates as they stand: ./l4run or ./x gate makes it anew")
-    return text_of(copy, work / "program.ll")
+    with concurrent.futures.ThreadPoolExecutor() as pool:
+        program = pool.submit(proved_program, crate, tools_that_keep(copy, work), work)
+        while not copy.exists() and not program.done():
+            time.sleep(0.2)
+        if copy.exists():
+            yield text_of(copy, work / "program.ll")
+        if program.result().read_bytes() != PROGRAM.read_bytes():
+            sys.exit(f"page: {PROGRAM.relative_to(TOP)} is not what comes of the proved crates as they stand: ./l4run or ./x gate makes it anew")
 
 
 def unproved_module(work):
@@ -227,9 +237,12 @@ def module(is_proved):
     wanted = stamp(is_proved)
     if to.exists() and kept.exists() and kept.read_text() == wanted:
         return to
-    with tempfile.TemporaryDirectory(prefix="page-") as folder:
+    with tempfile.TemporaryDirectory(prefix="page-", dir=out) as folder:
         work = pathlib.Path(folder)
-        compiled(proved_module(work) if is_proved else unproved_module(work), to, work)
+        made = work / "l4run.wasm"
+        with proved_module(work) if is_proved else contextlib.nullcontext(unproved_module(work)) as source:
+            compiled(source, made, work)
+        os.replace(made, to)
     kept.write_text(wanted)
     return to
 

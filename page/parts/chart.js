@@ -29,14 +29,14 @@ class Chart {
         this.root.replaceChildren(el("div", { className: "none" }, ...said));
     }
 
-    // Shows the steps of a picture, of so many in all.
-    draw(svg, total) {
+    // Shows the steps of a picture, of all that are told.
+    draw(svg, told) {
         const picture = new DOMParser().parseFromString(svg, "image/svg+xml").documentElement;
         picture.querySelector("style")?.remove();
         const rows = [...picture.querySelectorAll("g.row")];
         this.numbers = rows.map((row) => Number(row.querySelector("text.number").textContent));
-        this.total = total;
-        this.lines = el("div", { className: "lines" }, ...rows.map((row, place) => this.line(row, place)));
+        this.total = told.length;
+        this.lines = el("div", { className: "lines" }, ...rows.map((row, place) => this.line(row, this.numbers[place], told)));
         for (const row of rows) for (const text of row.querySelectorAll("text")) text.remove();
 
         const bands = [...picture.querySelectorAll("rect.band")].map((it) => [Number(it.getAttribute("x")), Number(it.getAttribute("width"))]);
@@ -73,11 +73,11 @@ class Chart {
         return made;
     }
 
-    line(row, place) {
-        const number = this.numbers[place];
+    line(row, number, told) {
         row.dataset.step = number;
         const title = row.querySelector("title").textContent;
-        const made = el("div", { title }, el("span", { textContent: number }), shortOf(title));
+        const { to } = told[number - 1];
+        const made = el("div", { title: withReceiver(title, to) }, el("span", { textContent: number }), withReceiver(shortOf(title), to));
         made.dataset.step = number;
         if (row.classList.contains("failure")) made.className = "failure";
         return made;

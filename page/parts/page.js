@@ -332,8 +332,8 @@ async function toRest() {
 }
 
 async function savedChart(kind) {
-    const steps = await session.steps();
-    const files = { "m.l4": session.text, trace: steps.map((line) => `${line}\n`).join("") };
+    const told = await session.told();
+    const files = { "m.l4": session.text, trace: told.map(({ step }) => `${step}\n`).join("") };
     const [made] = await program.perform("long", files, ["chart", "m.l4", "trace", `--${kind}`]);
     const [ending, type] = { svg: ["svg", "image/svg+xml"], html: ["html", "text/html"], mermaid: ["mmd"] }[kind];
     saved(`${stem()}.${ending}`, made.out, type);
@@ -342,8 +342,8 @@ async function savedChart(kind) {
 
 // Only the threads of the chosen step, or all again.
 async function onlyConcerned() {
-    const step = (await session.steps())[(chart.row || 1) - 1] ?? "";
-    const ids = [...step.matchAll(/\b(\d+\.\d+)(?=$|[ #])/g)].map(([, id]) => id).filter((id) => session.machine.byId.has(id));
+    const { step, to } = (await session.told())[(chart.row || 1) - 1] ?? { step: "" };
+    const ids = [...withReceiver(step, to).matchAll(/\b(\d+\.\d+)(?=$|[ #])/g)].map(([, id]) => id).filter((id) => session.machine.byId.has(id));
     $("columns").value = $("columns").value ? "" : [...new Set(ids)].join(",");
     await view(session.at);
 }

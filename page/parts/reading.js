@@ -16,6 +16,15 @@ const isFault = (made) => made.status === 1 || made.status === 2;
 
 const linesOf = (out) => out.split("\n").slice(0, -1);
 
+// The steps of a replay, as `--json` tells them: each as a line of a trace, with the line of the instruction that it runs, or 0, and where a send
+// goes to.
+function toldOf(out) {
+    return linesOf(out).map((text) => {
+        const { kind, to, line = 0, ...words } = JSON.parse(text);
+        return { step: [kind, ...Object.values(words).flat()].join(" "), line: Number(line), to };
+    });
+}
+
 // Processors, and threads with their scripts by lines. A text with a fault is read as far as it goes.
 function machineOf(text) {
     const machine = { cpus: 0, threads: [], byId: new Map() };

@@ -28,7 +28,7 @@ class Session {
         return new this.constructor(this.program, text, this.list, this.at);
     }
 
-    // The states behind so much of the list each: the report, and the steps up to there. A place below 0 has none.
+    // The states behind so much of the list each: the report, and the steps that are told up to there. A place below 0 has none.
     async statesAt(...places) {
         if (this.states.size > Session.KEPT) {
             for (const place of [...this.states.keys()]) if (!places.includes(place)) this.states.delete(place);
@@ -44,10 +44,10 @@ class Session {
     }
 
     // All steps of the list, done or yet to come.
-    async steps() {
+    async told() {
         if (!this.whole) {
             const [state] = await this.statesAt(this.list.length);
-            this.whole = state.steps;
+            this.whole = state.told;
         }
         return this.whole;
     }
@@ -59,7 +59,7 @@ class Session {
         while (low < high) {
             const middle = (low + high) >> 1;
             const [state] = await this.statesAt(middle);
-            if (state.steps.length >= step) high = middle;
+            if (state.told.length >= step) high = middle;
             else low = middle + 1;
         }
         return low;
@@ -90,9 +90,9 @@ class Schedule extends Session {
     }
 
     async stateAt(place) {
-        const asked = this.program.perform("step", this.files(place), this.command("--report", "--waits"), this.command());
+        const asked = this.program.perform("step", this.files(place), this.command("--report", "--waits"), this.command("--json"));
         const [made, trace] = await asked;
-        return { made, report: reportOf(made.out), steps: linesOf(trace.out) };
+        return { made, report: reportOf(made.out), told: toldOf(trace.out) };
     }
 
     async found() {
@@ -128,7 +128,7 @@ class Trace extends Session {
 
     async stateAt(place) {
         const [made] = await this.program.perform("step", this.files(place), this.command("--report", "--waits", "--explain"));
-        return { made, report: reportOf(made.out), steps: this.list.slice(0, place) };
+        return { made, report: reportOf(made.out), told: toldByScripts(this.machine, this.list.slice(0, place)) };
     }
 
     found() {

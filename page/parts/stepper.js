@@ -24,7 +24,7 @@ function perform(...more) {
 // Goes on in another way: by any step that may happen, from the state that is shown, or anew by turns of the processors.
 async function goOnBy(way) {
     const [state] = await session.statesAt(session.at);
-    await begin(way === "steps" ? new Trace(program, session.text, state.steps) : new Schedule(program, session.text));
+    await begin(way === "steps" ? new Trace(program, session.text, state.told.map(({ step }) => step)) : new Schedule(program, session.text));
 }
 
 // Shows the state behind so many items. Where several are asked for at once, the last alone is shown.
@@ -57,17 +57,17 @@ async function show(shown, at) {
         tellCommand(now.made, shown.list);
         return;
     }
-    const told = before ? now.steps.slice(before.steps.length) : [];
+    const told = before ? now.told.slice(before.told.length) : [];
     showWhere(shown, now, told);
     $("rest").disabled = now.report.ending === "quiet";
     // Lines are those of the text at the left, as long as that is the text that is stepped through.
-    const places = shown.text === editor.text ? placesOf(shown.machine, now.steps) : [];
+    const places = shown.text === editor.text ? placesOf(shown.machine, now.told) : [];
     const lines = new Map(places.map(({ id, line }) => [id, line]));
     showVerdict(shown, now, lines);
     showCards(now.report, before?.report, lines);
     editor.stand(standing(places, now));
     tellCommand(now.made, shown.done);
-    await draw(shown, now.steps.length, told.length, isOld);
+    await draw(shown, now.told.length, told.length, isOld);
 }
 
 // Whether the steps are those of the text at the left. What is said of another is pale.
@@ -96,10 +96,9 @@ function showVerdict(shown, now, lines) {
 // The line at which a thread is, and what stands there.
 function placeIn(machine, id, line) {
     const instruction = machine.byId.get(id)?.script.find((it) => it.line === line);
-    if (!instruction) return [];
-    const go = Object.assign(button(`line ${line}`, () => editor.goTo(line)), { className: "inline" });
-    return [" ", go, " ", el("code", { textContent: instruction.words.join(" ") })];
+    return instruction ? [" ", lineButton(line), " ", el("code", { textContent: instruction.words.join(" ") })] : [];
 }
+const lineButton = (line) => Object.assign(button(`line ${line}`, () => editor.goTo(line)), { className: "inline" });
 
 function showTransport(shown) {
     const { list, at } = shown;
@@ -120,11 +119,13 @@ function showWhere(shown, now, told) {
     const { list, at } = shown;
     const { UNIT } = shown.constructor;
     const item = list[at - 1];
-    const named = (line, meaning) => [el("b", { textContent: line }), meaning && ` (${meaning})`];
-    const step = (line) => named(line, meaningOf(line));
-    const did = !at ? [] : UNIT === "step" ? [": ", ...step(item)] : [": ", ...named(item, itemText(item))];
-    const numbers = told.length > 1 ? `steps ${now.steps.length - told.length + 1}–${now.steps.length}` : `step ${now.steps.length}`;
-    const tells = told.flatMap((line, place) => [place ? ", " : ": ", ...step(line)]);
+    const count = now.told.length;
+    const isOfText = shown.text === editor.text;
+    const named = (text, meaning) => [el("b", { textContent: text }), meaning && ` (${meaning})`];
+    const placed = ({ step, to, line }) => [...named(withReceiver(step, to), meaningOf(step)), ...(line && isOfText ? [" ", lineButton(line)] : [])];
+    const tells = told.flatMap((it, place) => [place ? ", " : ": ", ...placed(it)]);
+    const did = !at ? [] : UNIT === "step" ? tells : [": ", ...named(item, itemText(item))];
+    const numbers = told.length > 1 ? `steps ${count - told.length + 1}–${count}` : `step ${count}`;
     const steps = UNIT === "step" || !at ? [] : [" · ", ...(told.length ? [numbers, ...tells] : ["it tells nothing"])];
     $("where").replaceChildren(`${UNIT} ${at} of ${list.length}`, ...did, ...steps);
 }
@@ -177,11 +178,12 @@ function standing(places, now) {
         const thread = now.report.byId.get(id);
         if (!line || !thread || isOver(thread)) continue;
         const tone = thread.isStuck ? "stuck" : thread.wait ? "wait" : "go";
-        there.set(line, [...(there.get(line) ?? []), { id, tone, note: `${id} ${thread.state}` }]);
+        there.set(line, [...(there.get(line) ?? []), { id, tone, note: `${id} ${thread.state}${IN_ONE.includes(thread.state) ? "" : ", it did this line"}` }]);
     }
     return there;
 }
 const isOver = ({ state }) => state === "ended" || state === "deleted";
+const IN_ONE = ["sending", "receiving", "ordering"]; // states of a thread that is in an instruction
 
 // Cards of threads, and what changed by the last item.
 function showCards(report, before, lines) {
@@ -205,7 +207,7 @@ function card(thread, was, line) {
     const { cpu = "?", space = "?" } = session.machine.byId.get(thread.id) ?? {};
     const place = el("small", { textContent: `cpu ${cpu}, space ${space}` });
     const name = line ? button(thread.id, () => editor.goTo(line)) : thread.id;
-    if (line) name.title = `at line ${line} of the text`;
+    if (line) name.title = `${IN_ONE.includes(thread.state) ? "in" : "it did"} line ${line} of the text`;
     const from = thread.from !== "nil" && el(was && was.from !== thread.from ? "mark" : "span", { textContent: `heard from ${thread.from}` });
     return el(
         "article",
@@ -256,7 +258,7 @@ function invitation() {
 
 // The chart: a page of rows over all steps of the list, done or yet to come.
 async function draw(shown, row, told, isOld) {
-    const steps = await shown.steps();
+    const steps = await shown.told();
     if (isOld()) return;
     if (!steps.length) {
         chart.clear(...(shown.list.length ? ["No step yet."] : invitation()));
@@ -271,7 +273,7 @@ async function draw(shown, row, told, isOld) {
     const wantedRows = `${from} ${to} ${columns}`;
     if (chartShown !== wantedRows) {
         const words = ["chart", "m.l4", "trace", "--svg", "--from", `${from}`, "--to", `${to}`, ...(columns ? ["--threads", columns] : [])];
-        const [svg] = await program.perform("step", { "m.l4": shown.text, trace: steps.map((line) => `${line}\n`).join("") }, words);
+        const [svg] = await program.perform("step", { "m.l4": shown.text, trace: steps.map(({ step }) => `${step}\n`).join("") }, words);
         if (isOld()) return;
         if (svg.status !== 0) {
             chart.clear(svg.faults.replace("threads item", "no thread of this text: item"));
@@ -279,7 +281,7 @@ async function draw(shown, row, told, isOld) {
             return;
         }
         chartShown = wantedRows;
-        chart.draw(svg.out, steps.length);
+        chart.draw(svg.out, steps);
         showPager(from, to, steps.length);
     }
     fit();
@@ -402,6 +404,8 @@ function drawNext(found, state) {
 
 // A step as the chart has it: who gets a message, without the message.
 const shortOf = (step) => step.replace(/^(deliver \S+) (\S+) .*$/, "$1 → $2");
+// A step with where its send goes to, where that is told.
+const withReceiver = (step, to) => (to ? `${step} → ${to}` : step);
 const shortStep = (step) => el("span", { title: `${step}: ${meaningOf(step)}`, textContent: shortOf(step) });
 
 function choiceButton(choice, number) {

@@ -12,7 +12,7 @@ const among = (list, most) => (list.length > most ? [...list.slice(0, most), `an
 
 // A tone, a sentence, and lines below it, of the state behind so many items. `circle` has those who wait for each other. A run that was cut
 // off took so many turns.
-function verdictOf({ report, steps }, isBeginning, cutAt) {
+function verdictOf({ report, told }, isBeginning, cutAt) {
     const stuck = report.threads.filter((thread) => thread.isStuck);
     const open = report.threads.filter((thread) => thread.wait && !thread.isStuck);
     const isAtRest = report.ending === "quiet";
@@ -46,7 +46,7 @@ function verdictOf({ report, steps }, isBeginning, cutAt) {
         return { tone: "fair", head, lines: ["Some machines go on for ever. Limits has how many turns a run takes."] };
     }
     if (isBeginning) return { tone: "", head: "At the beginning. Press Run, or choose below what happens first.", lines: [] };
-    return { tone: "", head: `It goes on: ${counted(steps.length.toLocaleString("en"), "step")} so far.`, lines: [] };
+    return { tone: "", head: `It goes on: ${counted(told.length.toLocaleString("en"), "step")} so far.`, lines: [] };
 }
 
 // What a search for endings came to: of all, of the stuck ones, or of those with or without a line.

@@ -1,8 +1,8 @@
 // node guesses.cjs MODULE.wasm|PROGRAM TOP [EACH]: what the page works out for itself, against what the program says.
 //
 // Of each example: is each item of the shortest schedule of its first ending offered at its place, with the steps that it tells, and is each of
-// these steps? Of the examples and of each case: does the line at which a thread is shown agree with its state? With EACH every so manyth place
-// alone is tried.
+// these steps? Of the examples and of each case: is the line that the page finds for each step of a trace that which the program tells of the step
+// in a list of items, and does the line at which a thread is shown agree with its state? With EACH every so manyth place alone is tried.
 const fs = require("fs");
 const path = require("path");
 const vm = require("vm");
@@ -12,22 +12,22 @@ const { printedBy } = require("./native.cjs");
 const [, , source, top, each = "1"] = process.argv;
 const MOST_ITEMS = 20; // of a list
 
+const NAMES = ["machineOf", "reportOf", "endingsOf", "linesOf", "toldOf", "listOf", "placesOf", "toldByScripts", "nextOf", "possibleOf"];
 const scope = vm.createContext({ console });
 const parts = ["reading.js", "places.js", "possible.js"].map((name) => fs.readFileSync(path.join(__dirname, "..", "parts", name), "utf8"));
-vm.runInContext(`${parts.join("\n")}\nglobalThis.parts = { machineOf, reportOf, endingsOf, linesOf, listOf, placesOf, nextOf, possibleOf };`, scope);
-const { machineOf, reportOf, endingsOf, linesOf, listOf, placesOf, nextOf, possibleOf } = scope.parts;
+vm.runInContext(`${parts.join("\n")}\nglobalThis.parts = { ${NAMES.join(", ")} };`, scope);
+const { machineOf, reportOf, endingsOf, linesOf, toldOf, listOf, placesOf, toldByScripts, nextOf, possibleOf } = scope.parts;
 
 const folder = path.join(top, "crates", "l4_cases", "data");
 const textsOf = (at) => fs.readdirSync(at).filter((name) => name.endsWith(".l4")).sort().map((name) => path.join(at, name));
 
 const replay = ["replay", "m.l4", "--schedule", "@list"];
 
-// What a thread in a state may be at.
+// What a thread in a state may be at, or may have done last.
 function fits(state, [word, to, from]) {
     if (state === "sending") return word === "ipc" && to !== "nil";
     if (state === "receiving") return word === "ipc" && from !== "nil";
-    if (state === "ordering") return word === "exregs" || word === "delete";
-    return state === "ended" ? word === "end" : true;
+    return state !== "ordering" || word === "exregs" || word === "delete";
 }
 
 // Performs commands by the module, or by the program.
@@ -39,7 +39,7 @@ function performer() {
 
 async function main() {
     const performed = performer();
-    const counts = { items: 0, missed: 0, steps: 0, impossible: 0, places: 0, wrong: 0 };
+    const counts = { items: 0, missed: 0, steps: 0, impossible: 0, told: 0, other: 0, places: 0, wrong: 0 };
     const decoder = new TextDecoder();
     const examples = textsOf(path.join(folder, "examples"));
     // Items are those of the search of turns, where the program knows another one too.
@@ -59,6 +59,7 @@ async function main() {
         // An example that goes on for ever has no ending: its items are those of the run.
         const [ending] = examples.includes(file) ? endingsOf((await perform(endings)).out).endings : [];
         const list = ending ? ending.list : listOf(run.recorded);
+        await triesLines({ list: listOf(run.recorded), name, text, ask, counts });
         for (let place = 0; place <= Math.min(list.length, MOST_ITEMS); place += Number(each)) {
             const tried = { list, place, before: list.slice(0, place), name, text, ask, askTrace, counts };
             await triesPlaces(tried);
@@ -68,9 +69,10 @@ async function main() {
     }
     console.log(`${counts.items} items of endings: ${counts.missed} not offered with their steps`);
     console.log(`${counts.steps} steps of endings: ${counts.impossible} not among those that are offered`);
+    console.log(`${counts.told} steps of traces: ${counts.other} with another line than the program tells`);
     console.log(`${counts.places} threads at lines: ${counts.wrong} do not fit their state`);
-    const { items, missed, steps, impossible, wrong } = counts;
-    process.exitCode = missed || impossible || wrong || !items || !steps ? 1 : 0;
+    const { items, missed, steps, impossible, told, other, wrong } = counts;
+    process.exitCode = missed || impossible || other || wrong || !items || !steps || !told ? 1 : 0;
 }
 
 // Is each step that comes next, told by the item at this place, offered as one? Of a tick, one of its processor.
@@ -103,12 +105,25 @@ async function triesNext({ list, place, before, name, ask, counts }) {
     console.log(`${name}: not offered: ${item} behind ${before.join(",") || "nothing"}; offered: ${offered.map((it) => it.item).join(" ")}`);
 }
 
+// The objects of a replay tell its trace; and of that trace alone the page finds the same lines.
+async function triesLines({ list, name, text, ask, counts }) {
+    const steps = linesOf((await ask(replay, list)).out);
+    const told = toldOf((await ask([...replay, "--json"], list)).out);
+    const found = toldByScripts(machineOf(text), steps);
+    counts.told += steps.length;
+    for (let at = 0; at < Math.max(steps.length, told.length); at += 1) {
+        if (told[at]?.step === steps[at] && told[at].line === found[at].line) continue;
+        counts.other += 1;
+        console.log(`${name}: step ${at + 1}: ${steps[at]}: the program tells ${told[at]?.step} at line ${told[at]?.line}, and the page finds ${found[at]?.line}`);
+    }
+}
+
 async function triesPlaces({ before, name, text, ask, counts }) {
-    const trace = await ask(replay, before);
+    const told = toldOf((await ask([...replay, "--json"], before)).out);
     const report = reportOf((await ask([...replay, "--report", "--waits"], before)).out);
-    for (const { id, line } of placesOf(machineOf(text), linesOf(trace.out))) {
+    for (const { id, line } of placesOf(machineOf(text), told)) {
         const { state } = report.byId.get(id);
-        const words = line ? text.split("\n")[line - 1].split(" ") : ["end"];
+        const words = line ? text.split("\n")[line - 1].split(" ") : [];
         counts.places += 1;
         if (fits(state, words)) continue;
         counts.wrong += 1;

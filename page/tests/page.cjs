@@ -356,6 +356,11 @@ async function steps(browser, hand) {
     await at("forward", 13);
     await hand.click("#first");
     await at("to the beginning", 0);
+    check("nobody is at a line yet", (await hand.count(".paint b.go, .paint b.wait")) === 0);
+    await hand.click("#forth");
+    const told = await hand.text("where");
+    check("a step tells where its send goes, and its line", /begin 1\.1#1 → 11\.1 \(a send begins\) line 9/.test(told), told);
+    check("so does the chart", (await hand.text("chart")).includes("begin 1.1#1 → 11.1"));
     await hand.click("#last");
     await at("to the end", 14);
     await hand.run("document.querySelector('#chart [data-step=\"4\"]').dispatchEvent(new MouseEvent('click', { bubbles: true }));");
@@ -371,7 +376,7 @@ async function steps(browser, hand) {
     check("on to rest", /At rest/.test(await hand.text("verdict")), await hand.text("verdict"));
     const files = { "m.l4": await hand.run("return session.text") };
     const wanted = printedBy(program, { words: ["replay", "m.l4", "--schedule", done, "--then-rest"], files });
-    check("the steps of that are those of --then-rest", (await hand.run("return session.whole.join('\\n') + '\\n'")) === wanted.out.toString());
+    check("the steps of that are those of --then-rest", (await hand.run("return session.whole.map((it) => it.step).join('\\n') + '\\n'")) === wanted.out.toString());
     await hand.type(`${await hand.run("return editor.text")}; changed\n`);
     check("that the text changed is told", !(await hand.run("return document.getElementById('stale').hidden")));
     check("what is said of the old text is pale", (await hand.count("#verdict.old, #pane.old")) === 2);

@@ -1,2 +1,3 @@
 pub mod Leading
+mod Stopping
 pub mod Telling

@@ -45,6 +45,7 @@ pub fn audit<R: AllocGlobal + Threads + Sync>(
             explain: false,
             extras: NO_EXTRAS,
         },
+        json: false,
     });
     let mut text = case.text;
     let mut trace = done.output.as_slice();

@@ -35,6 +35,15 @@ impl Code {
         }
     }
 
+    /// Makes room for so many bytes more, as memory is asked for once then.
+    ///
+    /// `AllocError`: memory was refused.
+    pub fn reserve(&mut self, bytes: usize) -> Result<(), AllocError>
+        ensures { self.new ≡ self.old }
+    {
+        self.bytes.reserve(bytes)
+    }
+
     /// Appends a number.
     ///
     /// `AllocError`: memory was refused.
@@ -91,7 +100,6 @@ impl Code {
     {
         let mut code = self;
         code.end_zeros()?;
-        code.bytes.shrink_to_fit();
         Ok(code.bytes)
     }
 

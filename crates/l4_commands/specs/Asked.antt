@@ -69,7 +69,11 @@ extras_in rows = record {
 }
 
 abbrev pub printed_in : List Row → Printed
-printed_in rows = record { report = has_flag (codes "report") rows; extras = extras_in rows }
+printed_in rows = record {
+  report = has_flag (codes "report") rows;
+  extras = extras_in rows;
+  json = has_flag (codes "json") rows;
+}
 
 abbrev pub judged_in : List Row → Judged
 judged_in rows = record {
@@ -111,11 +115,13 @@ pub record IsReplayOf (rows : List Row) (replay : ReplayJob) : Type 0 where
 pub record IsNextOf (rows : List Row) (next : NextJob) : Type 0 where
   pub file : Some next.file.now ≡ first_of (codes "file") rows
   pub schedule : Some next.schedule.now ≡ first_of (codes "schedule") rows
+  pub json : next.json ≡ has_flag (codes "json") rows
 
 pub record IsAuditOf (rows : List Row) (audit : AuditJob) : Type 0 where
   pub file : Some audit.file.now ≡ first_of (codes "file") rows
   pub trace : Some audit.trace.now ≡ first_of (codes "trace") rows
   pub judged : audit.judged ≡ judged_in rows
+  pub json : audit.json ≡ has_flag (codes "json") rows
 
 -- At most one form of a chart is allowed. Without any, it is a text with lines.
 abbrev pub form_by : (ascii svg html mermaid : Bool) → Option ChartForm
@@ -179,10 +185,12 @@ pub record IsSearchOf (rows : List Row) (search : EndingsJob) : Type 0 where
   pub waits : search.waits ≡ has_flag (codes "waits") rows
   pub expected : option_copied search.expected ≡ first_of (codes "expect") rows
   pub trace : Some search.trace ≡ traced_in rows
+  pub json : search.json ≡ has_flag (codes "json") rows
 
 pub record IsLintOf (rows : List Row) (lint : LintJob) : Type 0 where
   pub file : Some lint.file.now ≡ first_of (codes "file") rows
   pub schedule : option_copied lint.schedule ≡ first_of (codes "schedule") rows
+  pub json : lint.json ≡ has_flag (codes "json") rows
 
 -- The job that the matches ask for, by the name of the subcommand.
 abbrev pub IsJobOf : (verb : Text) → List Row → Job → Type 0

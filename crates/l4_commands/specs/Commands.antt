@@ -39,6 +39,7 @@ run_rules =
     ∷ flag (codes "report")
     ∷ flag (codes "waits")
     ∷ flag (codes "counts")
+    ∷ flag (codes "json")
     ∷ value (codes "record")
     ∷ value (codes "expect")
     ∷ value (codes "schedule")
@@ -54,6 +55,7 @@ replay_rules =
     ∷ flag (codes "report")
     ∷ flag (codes "waits")
     ∷ flag (codes "counts")
+    ∷ flag (codes "json")
     ∷ value (codes "record")
     ∷ value (codes "expect")
     ∷ []
@@ -66,6 +68,7 @@ audit_rules =
     ∷ flag (codes "explain")
     ∷ flag (codes "waits")
     ∷ flag (codes "counts")
+    ∷ flag (codes "json")
     ∷ []
 
 abbrev pub chart_rules : List Rule
@@ -96,10 +99,12 @@ endings_rules =
     ∷ value (codes "expect")
     ∷ number (codes "trace") []
     ∷ flag (codes "placed")
+    ∷ flag (codes "json")
     ∷ []
 
 abbrev pub lint_rules : List Rule
-lint_rules = place (codes "file") ∷ value (codes "schedule") ∷ []
+lint_rules =
+    place (codes "file") ∷ value (codes "schedule") ∷ flag (codes "json") ∷ []
 
 abbrev pub command : (name : Text) → List Rule → App
 command name rules = fold with_rule (new_app name) rules

@@ -74,6 +74,7 @@ fn printed(matches: &ArgMatches<'_>) -> Printed
     Printed {
         report: has_flag(matches, "report"),
         extras: extras(matches),
+        json: has_flag(matches, "json"),
     }
 }
 
@@ -135,7 +136,12 @@ fn next_job<'a>(matches: &ArgMatches<'a>) -> Option<NextJob<'a>>
 {
     let file = text(matches, "file")?;
     let schedule = text(matches, "schedule")?;
-    Some(NextJob { file, schedule })
+    let json = has_flag(matches, "json");
+    Some(NextJob {
+        file,
+        schedule,
+        json,
+    })
 }
 
 fn audit_job<'a>(matches: &ArgMatches<'a>) -> Option<AuditJob<'a>>
@@ -145,6 +151,7 @@ fn audit_job<'a>(matches: &ArgMatches<'a>) -> Option<AuditJob<'a>>
         file: text(matches, "file")?,
         trace: text(matches, "trace")?,
         judged: judged(matches),
+        json: has_flag(matches, "json"),
     })
 }
 
@@ -244,6 +251,7 @@ fn endings_job<'a>(matches: &ArgMatches<'a>) -> Option<EndingsJob<'a>>
         waits: has_flag(matches, "waits"),
         expected: text(matches, "expect"),
         trace: trace_number(matches)?,
+        json: has_flag(matches, "json"),
     })
 }
 
@@ -253,6 +261,7 @@ fn lint_job<'a>(matches: &ArgMatches<'a>) -> Option<LintJob<'a>>
     Some(LintJob {
         file: text(matches, "file")?,
         schedule: text(matches, "schedule"),
+        json: has_flag(matches, "json"),
     })
 }
 

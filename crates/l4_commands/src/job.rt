@@ -90,6 +90,8 @@ pub struct EndingsJob<'a> {
     /// The number of the ending whose trace is printed in place of all else, where one is asked
     /// for.
     pub trace: Option<u64>,
+    /// Whether each line is told as an object of JSON.
+    pub json: bool,
 }
 
 /// What is printed last of a run, a replay or an audit.
@@ -114,12 +116,15 @@ pub struct Printed {
     pub report: bool,
     /// What is printed behind the trace or the report.
     pub extras: Extras,
+    /// Whether each line is told as an object of JSON. That of a step tells more than its line.
+    pub json: bool,
 }
 
 /// The trace is printed, and nothing behind it.
 pub const TRACE_ALONE: Printed = Printed {
     report: false,
     extras: NO_EXTRAS,
+    json: false,
 };
 
 /// What is printed of an audit.
@@ -187,6 +192,8 @@ pub struct NextJob<'a> {
     pub file: &'a str,
     /// The schedule, as of `ReplayJob`.
     pub schedule: &'a str,
+    /// Whether each line is told as an object of JSON.
+    pub json: bool,
 }
 
 /// An audit of the trace in a file against the machine text in another.
@@ -198,6 +205,8 @@ pub struct AuditJob<'a> {
     pub trace: &'a str,
     /// What is printed.
     pub judged: Judged,
+    /// Whether each line is told as an object of JSON.
+    pub json: bool,
 }
 
 /// All faults of the machine text in a file, or else what is doubtful there, and all faults of a
@@ -208,6 +217,8 @@ pub struct LintJob<'a> {
     pub file: &'a str,
     /// The schedule, as of `ReplayJob`, where one is given.
     pub schedule: Option<&'a str>,
+    /// Whether each line is told as an object of JSON.
+    pub json: bool,
 }
 
 /// What the words of a command line ask for.

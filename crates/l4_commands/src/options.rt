@@ -92,6 +92,12 @@ const EXPECT: Argument = Argument {
     help: "Tells what of the file NAME does not hold of the report, with status 4",
 };
 
+const JSON: Argument = Argument {
+    name: "json",
+    takes: Takes::Nothing,
+    help: "Prints an object of JSON for each line",
+};
+
 const RECORD: Argument = Argument {
     name: "record",
     takes: Takes::File("NAME"),
@@ -115,6 +121,7 @@ processor",
     REPORT,
     WAITS,
     COUNTS,
+    JSON,
     RECORD,
     EXPECT,
     Argument {
@@ -164,6 +171,7 @@ them",
     REPORT,
     WAITS,
     COUNTS,
+    JSON,
     RECORD,
     EXPECT,
 ];
@@ -194,6 +202,7 @@ const AUDIT_ARGUMENTS: &[Argument] = &[
     },
     WAITS,
     COUNTS,
+    JSON,
 ];
 
 pub fn audit() -> Verb
@@ -336,6 +345,7 @@ come",
         help: "Knows only runs that take threads in turn and clocks to least deadlines, as `replay` \
 does",
     },
+    JSON,
 ];
 
 pub fn endings() -> Verb
@@ -356,6 +366,7 @@ const LINT_ARGUMENTS: &[Argument] = &[
         takes: Takes::Text("LIST"),
         help: "Tells what is wrong in this list, or in the file of `@NAME`, for the machine",
     },
+    JSON,
 ];
 
 pub fn lint() -> Verb

@@ -4,11 +4,11 @@ use Rattle.std.specs.Str.{bytes_eq}
 use Rattle.std.proofs.Math.ListN.{get_or-append, get_or-map}
 use Rattle.std.proofs.Math.Seq.{get_or-append_seam}
 use Rattle.std.proofs.lemmas.Slice.Eq.{bytes_eq-Decides}
-use Rattle.std.proofs.lemmas.List.{map-append}
+use Rattle.std.proofs.lemmas.List.{length-map, map-append}
 use Rattle.std.proofs.lemmas.Bool.{lt-ltb, le-ltb, eqb-true}
 use Rattle.l4_explore.specs.Codes.{code_at}
 use Rattle.l4_explore.proofs.Trying.{below_or_last}
-use Rattle.l4_explore.specs.Rows.{numbers_from, numbers_of, joined, whole, AreBelow, AreRows, IsRowOf, HasPart, ArePartsOnce, AreMore, high_digit, digits_of}
+use Rattle.l4_explore.specs.Rows.{numbers_from, numbers_of, joined, whole, AreBelow, AreRows, IsRowOf, HasPart, ArePartsOnce, AreLonger, AreMore, IsKept, high_digit, digits_of}
 
 -- A number
 
@@ -93,7 +93,7 @@ joined_more parts more (n ∷ ns) below =
     ap (λ part. part ++ joined (parts ++ more) ns) (get_or-append parts more [] n below.0)
     ∙ ap (λ rest. code_at parts n ++ rest) (joined_more parts more ns below.1)
 
-module _ (old new : List (List ℕ)) (are : AreMore old new) where
+module _ (old new : List (List ℕ)) (are : AreLonger old new) where
   long : length old ≤ length new
   long = omega (arith, ap length are.is, length-append old are.more)
 
@@ -116,24 +116,31 @@ module _ (old new : List (List ℕ)) (are : AreMore old new) where
   still_rows [] below = tt
   still_rows (row ∷ rows) below = (still_below (numbers_of row) below.0, still_rows rows below.1)
 
-pub none_more : (parts : List (List ℕ)) → AreMore parts parts
-none_more parts = record { more = []; is = sym (append-nil parts); once = λ once. once }
+pub none_longer : (parts : List (List ℕ)) → AreLonger parts parts
+none_longer parts = record { more = []; is = sym (append-nil parts) }
 
-pub more_and_more : (a b c : List (List ℕ)) → AreMore a b → AreMore b c → AreMore a c
-more_and_more a b c first second = record {
+pub none_more : (parts : List (List ℕ)) → AreMore parts parts
+none_more parts = record { longer = none_longer parts; once = λ once. once }
+
+pub longer_and_longer : (a b c : List (List ℕ)) → AreLonger a b → AreLonger b c → AreLonger a c
+longer_and_longer a b c first second = record {
   more = first.more ++ second.more;
   is = second.is ∙ ap (λ parts. parts ++ second.more) first.is
       ∙ append_assoc a first.more second.more;
+}
+
+pub more_and_more : (a b c : List (List ℕ)) → AreMore a b → AreMore b c → AreMore a c
+more_and_more a b c first second = record {
+  longer = longer_and_longer a b c first.longer second.longer;
   once = λ once. second.once (first.once once);
 }
 
 -- Of a part that is new none was there.
-pub one_more : (parts : List (List ℕ)) (part : List ℕ) →
-    ((place : ℕ) → place < length parts → code_at parts place ≡ part → ⊥) →
+one_more : (parts : List (List ℕ)) (part : List ℕ) →
+    ((number : ℕ) → number < length parts → code_at parts number ≡ part → ⊥) →
     AreMore parts (parts ++ part ∷ [])
 one_more parts part new = record {
-  more = part ∷ [];
-  is = refl;
+  longer = record { more = part ∷ []; is = refl };
   once = λ once i j l m e. by once i j e
       (below_or_last (length parts) i (omega (arith, l, long_one)))
       (below_or_last (length parts) j (omega (arith, m, long_one)));
@@ -155,6 +162,10 @@ one_more parts part new = record {
     by once i j e (inl l) (inr is) = absurd (new i l (sym (old i l) ∙ e ∙ last j is))
     by once i j e (inr is) (inl m) = absurd (new j m (sym (old j m) ∙ sym e ∙ last i is))
     by once i j e (inr is) (inr js) = is ∙ sym js
+
+pub kept_more : (old new : List (List ℕ)) (part : List ℕ) → IsKept old new part → AreMore old new
+kept_more old new part (inl is) = subst (AreMore old) (sym is) (none_more old)
+kept_more old new part (inr added) = subst (AreMore old) (sym added.0) (one_more old part added.1)
 
 -- Rows
 
@@ -181,7 +192,7 @@ below-append count [] ms a b = b
 below-append count (n ∷ ns) ms a b = (a.0, below-append count ns ms a.1 b)
 
 pub one_further : (old new : List (List ℕ)) (row code rest part others : List ℕ) (number : ℕ) →
-    number < 4294967296 → AreMore old new → HasPart new number part → rest ≡ part ++ others →
+    number < 4294967296 → AreLonger old new → HasPart new number part → rest ≡ part ++ others →
     IsBegun old row code rest → IsBegun new (row ++ digits_of number) code others
 one_further old new row code rest part others number fits more has is b = record {
   numbers = b.numbers ++ number ∷ [];
@@ -260,15 +271,71 @@ never_eq part a code never = by (bytes_eq (part ++ a) code) refl
     by false e = refl
     by true e = absurd (never a ((bytes_eq-Decides (part ++ a) code).0 e))
 
+-- What is left of a code begins with what is left of a piece, or does not, as the whole of both.
+pub record BeginAlike (left rest whole code : List ℕ) : Type 0 where
+  pub some : (end : List ℕ) → rest ≡ left ++ end → code ≡ whole ++ end
+  pub none : ((end : List ℕ) → left ++ end ≡ rest → ⊥) → (end : List ℕ) → whole ++ end ≡ code → ⊥
+
+pub begin_alike : (whole code : List ℕ) → BeginAlike whole code whole code
+begin_alike whole code = record { some = λ end is. is; none = λ never. never }
+
+pub behind_alike : (part left rest others whole code : List ℕ) → rest ≡ part ++ others →
+    BeginAlike (part ++ left) rest whole code → BeginAlike left others whole code
+behind_alike part left rest others whole code is h = record {
+  some = λ end begins. h.some end
+      (is ∙ ap (λ xs. part ++ xs) begins ∙ sym (append_assoc part left end));
+  none = λ never. h.none (λ end begins. never end
+      (same_front part (left ++ end) others (sym (append_assoc part left end) ∙ begins ∙ is)));
+}
+
+pub never_alike : (part left rest whole code : List ℕ) →
+    ((end : List ℕ) → part ++ end ≡ rest → ⊥) → BeginAlike (part ++ left) rest whole code →
+    (end : List ℕ) → whole ++ end ≡ code → ⊥
+never_alike part left rest whole code never h =
+    h.none (λ end begins. never (left ++ end) (sym (append_assoc part left end) ∙ begins))
+
 pub taken : (part rest : List ℕ) → take (length part) (part ++ rest) ≡ part
 taken [] rest = refl
 taken (x ∷ part) rest = ap (λ xs. x ∷ xs) (taken part rest)
 
 -- One code more
-pub view_more : (old new : List (List ℕ)) → AreMore old new → (rows : List (List ℕ))
+pub view_more : (old new : List (List ℕ)) → AreLonger old new → (rows : List (List ℕ))
     (row code : List ℕ) → AreRows (length old) rows → whole new row ≡ code →
     map (whole new) (rows ++ row ∷ []) ≡ map (whole old) rows ++ code ∷ []
 view_more old new are rows row code below is =
     map-append (whole new) rows (row ∷ [])
     ∙ ap (λ codes. codes ++ whole new row ∷ []) (rows_as old new are rows below)
     ∙ ap (λ last. map (whole old) rows ++ last ∷ []) is
+
+-- Pieces, whose rows are of parts
+
+pub rows_kept : (count : ℕ) (old new : List (List ℕ)) (row : List ℕ) → AreRows count old →
+    AreBelow count (numbers_of row) → IsKept old new row → AreRows count new
+rows_kept count old new row are below (inl is) = subst (AreRows count) (sym is) are
+rows_kept count old new row are below (inr added) =
+    subst (AreRows count) (sym added.0) (rows_more count old row are below)
+
+module _ (parts more_parts rows more_rows : List (List ℕ)) (are : AreRows (length parts) rows)
+    (longer : AreLonger parts more_parts) where
+  abbrev pieces : List (List ℕ)
+  pieces = map (whole parts) rows
+
+  abbrev more_pieces : List (List ℕ)
+  more_pieces = map (whole more_parts) more_rows
+
+  pub pieces_longer : AreLonger rows more_rows → AreLonger pieces more_pieces
+  pieces_longer behind = record {
+    more = map (whole more_parts) behind.more;
+    is =
+        ap (map (whole more_parts)) behind.is
+        ∙ map-append (whole more_parts) rows behind.more
+        ∙ ap (λ first. first ++ map (whole more_parts) behind.more)
+        (rows_as parts more_parts longer rows are);
+  }
+
+  pub has_piece : (row piece : List ℕ) (number : ℕ) → IsRowOf more_parts row piece →
+      HasPart more_rows number row → HasPart more_pieces number piece
+  has_piece row piece number is has = record {
+    inside = omega (arith, has.inside, length-map more_rows (whole more_parts));
+    is = whole_at more_parts more_rows number ∙ ap (whole more_parts) has.is ∙ is.is;
+  }

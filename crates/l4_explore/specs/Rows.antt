@@ -1,5 +1,5 @@
--- Codes as rows of numbers, those of their parts.
-use Rattle.std.specs.Prelude.{ℕ, ◌+◌, ◌-◌, ◌*◌, ◌/◌, ◌%◌, ◌<◌, ◌≡◌, ◌==◌, nat_lt, if◌then◌else◌, List, [], ◌∷◌, ◌++◌, length}
+-- Codes as rows of numbers, those of their parts. A part may be a code in parts itself.
+use Rattle.std.specs.Prelude.{ℕ, ◌+◌, ◌-◌, ◌*◌, ◌/◌, ◌%◌, ◌<◌, ◌≡◌, ◌⊎◌, ◌==◌, nat_lt, if◌then◌else◌, List, [], ◌∷◌, ◌++◌, length}
 use Rattle.std.specs.List.{AllByRecursion}
 use Rattle.l4_explore.specs.Codes.{code_at}
 
@@ -45,11 +45,22 @@ abbrev pub ArePartsOnce : List (List ℕ) → Type 0
 ArePartsOnce parts =
     (i j : ℕ) → i < length parts → j < length parts → code_at parts i ≡ code_at parts j → i ≡ j
 
--- The parts stay, and more may stand behind them. If none was there twice, none is.
-pub record AreMore (old new : List (List ℕ)) : Type 0 where
+-- The parts stay, and more may stand behind them ..
+pub record AreLonger (old new : List (List ℕ)) : Type 0 where
   pub more : List (List ℕ)
   pub is : new ≡ old ++ more
+
+-- .. and if none was there twice, none is.
+pub record AreMore (old new : List (List ℕ)) : Type 0 where
+  pub longer : AreLonger old new
   pub once : ArePartsOnce old → ArePartsOnce new
+
+-- A part stands behind the others, unless it was there.
+abbrev pub IsKept : (old new : List (List ℕ)) → (part : List ℕ) → Type 0
+IsKept old new part =
+    (new ≡ old)
+    ⊎ ((new ≡ old ++ part ∷ [])
+    × ((number : ℕ) → number < length old → code_at old number ≡ part → ⊥))
 
 -- The bytes of a number of at most 32 bits. Where nothing is left of it, there is no high byte.
 abbrev pub high_digit : (left : ℕ) → List ℕ

@@ -15,6 +15,8 @@
 
 mod codes;
 pub mod found;
+mod numbers;
+mod pieces;
 pub mod progress;
 mod row_table;
 mod rows;

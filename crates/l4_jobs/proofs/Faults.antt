@@ -28,7 +28,7 @@ use Rattle.l4_jobs.specs.Audits.{IsAudited, IsFaultOfTrace, IsPassed, IsTraceFau
 use Rattle.l4_jobs.specs.ChartJobs.{fault_of_threads}
 use Rattle.l4_jobs.specs.Expectations.{IsExpected, scope_of}
 use Rattle.l4_jobs.specs.Inputs.{FailsWith, IsRead, gives_one}
-use Rattle.l4_jobs.specs.Jobs.{IsAskedFault, IsDoneFor, IsDoneOn, IsFaultBehind, IsFaultFor, IsFaultOn}
+use Rattle.l4_jobs.specs.Jobs.{IsAskedFault, IsDoneFor, IsDoneOn, IsFaultBehind, IsFaultFor, IsFaultOn, IsInLinesFor}
 use Rattle.l4_jobs.specs.Nexts.{IsNextDone, IsNextFault}
 use Rattle.l4_jobs.specs.Outputs.{Output}
 use Rattle.l4_jobs.specs.Schedules.{IsReplayFault, asked_schedule, fault_of_result, fault_of_run, named_schedule, run_by_list, run_of_schedule}
@@ -143,10 +143,10 @@ expected_right job text m read asked (Some name) expected o f (t, lines, given, 
     right_on job text m read expected o f is (subst (λ r. IsAskedFault job m (gives_one read) r f) alike faulty)
 
 right_for : (job : Job) (text : List ℕ) (d : Result Machine TextFault) (read asked : List ℕ) (o : Output) (f : Fault) →
-    IsDoneFor job text d (gives_one read) (gives_one asked) o → IsFaultFor job d (gives_one read) (gives_one asked) f → ⊥
+    IsInLinesFor job text d (gives_one read) (gives_one asked) o → IsFaultFor job d (gives_one read) (gives_one asked) f → ⊥
 right_for job text (Ok m) read asked o f (expected, wants, is) faulty = expected_right job text m read asked (expected_of job) expected o f wants is faulty
 right_for job text (Err t) read asked o f is faulty = absurd (let bad : true ≡ false = sym is.0 ∙ faulty.0 in cc)
 
 pub no_fault : (job : Job) (text read asked : List ℕ) (o : Output) (f : Fault) → IsDoneFor job text (machine_of_text text) (gives_one read) (gives_one asked) o →
     IsFaultFor job (machine_of_text text) (gives_one read) (gives_one asked) f → ⊥
-no_fault job text read asked o f = right_for job text (machine_of_text text) read asked o f
+no_fault job text read asked o f is = right_for job text (machine_of_text text) read asked (record o { lines = is.lines }) f is.in_lines

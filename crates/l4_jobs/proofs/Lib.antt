@@ -15,4 +15,5 @@ pub mod Records
 pub mod Running
 pub mod Spelled
 pub mod Statuses
+pub mod Telling
 pub mod Traces

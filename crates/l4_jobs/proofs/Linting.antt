@@ -12,7 +12,7 @@ use Rattle.l4_schedules.specs.InFiles.{most_bytes}
 use Rattle.l4_schedules.proofs.Faulting.{faults_as_much}
 use Rattle.l4_commands.specs.Files.{list_name, list_name_in}
 use Rattle.l4_jobs.specs.Inputs.{Gives, IsRead}
-use Rattle.l4_jobs.specs.Lints.{IsLinted, IsListLinted, asked_faults, named_faults}
+use Rattle.l4_jobs.specs.Lints.{IsLinted, IsListLinted, named_faults}
 use Rattle.l4_jobs.specs.Outputs.{Output}
 use Rattle.l4_jobs.specs.Reading.{IsReadAs}
 
@@ -32,15 +32,6 @@ pub linted_as : (read all : List ℕ) (o : Output) → IsReadAs read all → IsL
 linted_as read all o same is = record {
   lines_are = is.lines_are ∙ same_text read all same;
   status_is = is.status_is ∙ ap status_of same.faults;
-  said = is.said;
-  unrecorded = is.unrecorded;
-}
-
-pub list_linted_as : (read all : List ℕ) (m : Machine) (schedule : Option (Bor (List ℕ))) (list : List ℕ) (o : Output) → IsReadAs read all →
-    IsListLinted read m schedule list o → IsListLinted all m schedule list o
-list_linted_as read all m schedule list o same is = record {
-  lines_are = is.lines_are ∙ ap (λ l. l ++ faults_text (asked_faults m schedule list)) (same_text read all same);
-  status_is = is.status_is;
   said = is.said;
   unrecorded = is.unrecorded;
 }

@@ -12,7 +12,8 @@ use Rattle.l4_commands.specs.declared.job.Job.TheVariants.{Run, Replay, Next, Au
 use Rattle.l4_commands.specs.declared.job.Printed.{Printed}
 use Rattle.l4_jobs.specs.Expectations.{is_met_by}
 use Rattle.l4_jobs.specs.Inputs.{Gives}
-use Rattle.l4_jobs.specs.Jobs.{IsDone, IsDoneFor, IsDoneOn, IsStatusOf, IsTrueBy, IsTrueFor, IsTrueShown, is_lint, printed_of}
+use Rattle.l4_jobs.specs.Jobs.{IsDone, IsDoneFor, IsDoneOn, IsInLinesFor, IsStatusOf, IsTrueBy, IsTrueFor, IsTrueShown, is_lint, printed_of}
+use Rattle.l4_jobs.specs.Objects.{is_retold, told}
 use Rattle.l4_jobs.specs.Outputs.{Output}
 use Rattle.l4_jobs.specs.Performing.{IsKeptOut, IsLinesOut, IsPerformed, IsTrulyDone, IsUnwritten, IsWrittenOut, Sinks, Takes, sinks}
 use Rattle.l4_jobs.specs.Runs.{IsRunDone, report_of, status_of_ending}
@@ -65,9 +66,9 @@ own_or_4 : (met : Bool) (own status : ℕ) → status ≡ expected_status met ow
 own_or_4 true own status is = inl is
 own_or_4 false own status is = inr is
 
-run_true : (printed : Printed) (m : Machine) (IsAsked : CoreRun → Type 0) (record_to : Option (List ℕ)) (expected : Option (List Expected)) (o : Output) →
-    IsRunDone printed m IsAsked record_to expected o → IsTrueShown printed m o.lines o.status
-run_true printed m IsAsked record_to expected o is = record {
+run_true : (printed : Printed) (text : List ℕ) (m : Machine) (IsAsked : CoreRun → Type 0) (record_to : Option (List ℕ)) (expected : Option (List Expected)) (o : Output) →
+    IsRunDone printed text m IsAsked record_to expected o → IsTrueShown printed text m o.lines o.status
+run_true printed text m IsAsked record_to expected o is = record {
   findings = is.findings;
   is_true = is.of_run.is_true;
   written = is.written;
@@ -76,8 +77,8 @@ run_true printed m IsAsked record_to expected o is = record {
 
 true_on : (job : Job) (text : List ℕ) (m : Machine) (second : Gives) (expected : Option (List Expected)) (o : Output) → machine_of_text text ≡ Ok m →
     IsDoneOn job text m second expected o → IsTrueFor job text o.lines o.status
-true_on (Run run) text m second expected o declares is = (m, declares, run_true run.printed m _ _ expected o is)
-true_on (Replay replay) text m second expected o declares (list, reads, is) = (m, declares, run_true replay.printed m _ _ expected o is)
+true_on (Run run) text m second expected o declares is = (m, declares, run_true run.printed text m _ _ expected o is)
+true_on (Replay replay) text m second expected o declares (list, reads, is) = (m, declares, run_true replay.printed text m _ _ expected o is)
 true_on (Next next) text m second expected o declares is = tt
 true_on (Audit audit) text m second expected o declares is = tt
 true_on (Chart chart) text m second expected o declares is = tt
@@ -97,9 +98,26 @@ of_lint job text lines status is = subst (λ printed. IsTrueBy printed text line
     prints_none (Lint lint) is = refl
 
 true_for : (job : Job) (text : List ℕ) (d : Result Machine TextFault) (second expects : Gives) (o : Output) → machine_of_text text ≡ d →
-    IsDoneFor job text d second expects o → IsTrueFor job text o.lines o.status
+    IsInLinesFor job text d second expects o → IsTrueFor job text o.lines o.status
 true_for job text (Ok m) second expects o declares (expected, wants, is) = true_on job text m second expected o declares is
 true_for job text (Err t) second expects o declares is = of_lint job text o.lines o.status is.0
+
+-- What a run or a replay prints is told part by part, so its lines are those of the output.
+
+unchanged : (job : Job) (text lines others : List ℕ) (status : ℕ) → others ≡ told (is_retold job) lines → IsTrueFor job text lines status → IsTrueFor job text others status
+unchanged (Run run) text lines others status is shown = subst (λ l. IsTrueFor (Run run) text l status) (sym is) shown
+unchanged (Replay replay) text lines others status is shown = subst (λ l. IsTrueFor (Replay replay) text l status) (sym is) shown
+unchanged (Next next) text lines others status is shown = tt
+unchanged (Audit audit) text lines others status is shown = tt
+unchanged (Chart chart) text lines others status is shown = tt
+unchanged (Endings search) text lines others status is shown = tt
+unchanged (Lint lint) text lines others status is shown = tt
+
+true_told : (job : Job) (text : List ℕ) (second expects : Gives) (o : Output) → IsDoneFor job text (machine_of_text text) second expects o →
+    IsTrueFor job text o.lines o.status
+true_told job text second expects o is =
+    unchanged job text is.lines o.lines o.status is.told_are
+    (true_for job text (machine_of_text text) second expects (record o { lines = is.lines }) refl is.in_lines)
 
 pub performed_true : (job : Job) (machine second expects : Gives) (s : Sinks) (status : ℕ) → IsPerformed job machine second expects s status → (status ≡ 1 → ⊥) →
     IsTrulyDone job machine s.out status
@@ -109,7 +127,7 @@ performed_true job machine second expects s status (inr (o, d, wrote)) right = b
     by : (status ≡ 1) ⊎ (s.out o.lines true × (status ≡ o.status)) → IsTrulyDone job machine s.out status
     by (inl one) = elim (right one) [ ]
     by (inr (wrote, same)) =
-        (d.text, o.lines, d.given, wrote, subst (IsTrueFor job d.text o.lines) (sym same) (true_for job d.text (machine_of_text d.text) second expects o refl d.is))
+        (d.text, o.lines, d.given, wrote, subst (IsTrueFor job d.text o.lines) (sym same) (true_told job d.text second expects o d.is))
 
 -- Where a job comes to nothing, its fault is told.
 pub nothing_done : (job : Job) (machine second expects : Gives) (s : Sinks) (status : ℕ) → ((o : Output) → IsDone job machine second expects o → ⊥) →

@@ -1,12 +1,14 @@
 -- What is read of a machine text.
-use Rattle.std.proofs.Common.{◌≡◌, ℕ, ◌≤◌, Bool, true, false, Ok, List, length, take, refl, ap, inl, inr, ◌∙◌, arith}
+use Rattle.std.proofs.Common.{◌≡◌, ℕ, ◌≤◌, Bool, true, false, Ok, Err, List, length, take, refl, ap, sym, inl, inr, ◌∙◌, arith}
 use Rattle.std.specs.Prelude.{◌⊎◌, nat_lt}
 use Rattle.std.proofs.lemmas.Bool.{lt-ltb, ltb-true}
 use Rattle.std.proofs.lemmas.Bool.Decides.{nat_tests}
 use Rattle.std.proofs.lemmas.List.{length-take, take_all}
 use Rattle.std.specs.Prelude.{Result}
 use Rattle.std.specs.declared.io.ErrorKind.{ErrorKind}
+use Rattle.l4_script.specs.Faults.{fault_at}
 use Rattle.l4_script.specs.Texts.{machine_of_text}
+use Rattle.l4_script.specs.declared.text.fault.TextFaultKind.TheVariants.{TooLong}
 use Rattle.l4_lint.specs.Doubts.{doubts_of}
 use Rattle.l4_lint.specs.Faults.{faults_of}
 use Rattle.l4_jobs.specs.Reading.{IsReadAs}
@@ -15,7 +17,10 @@ not_below : (a b : ℕ) → nat_lt a b ≡ false → b ≤ a
 not_below a b h = grind (arith, nat_tests)
 
 as_all : (read all : List ℕ) → read ≡ all → IsReadAs read all
-as_all read all is = record { machine = ap machine_of_text is; faults = ap faults_of is; doubts = ap doubts_of is }
+as_all read all is = record { machine = ap machine_of_text is; faults = ap faults_of is; doubts = ap doubts_of is; whole = λ m declares. is }
+
+too_long : (bytes : List ℕ) → nat_lt 0x100000 (length bytes) ≡ true → machine_of_text bytes ≡ Err (fault_at 0 TooLong)
+too_long bytes long = rw long refl
 
 -- A text that is too long has no other fault, so its beginning is enough.
 as_beginning : (bytes : List ℕ) → IsReadAs (take 0x100001 bytes) bytes
@@ -25,7 +30,12 @@ as_beginning bytes = by (nat_lt 0x100000 (length bytes)) refl
     by true long =
         let more = ltb-true 0x100000 (length bytes) long in
         let too = lt-ltb 0x100000 (length (take 0x100001 bytes)) (omega (arith, more, length-take 0x100001 bytes)) in
-        record { machine = rw (long, too) refl; faults = rw (long, too) refl; doubts = rw (long, too) refl }
+        record {
+          machine = rw (long, too) refl;
+          faults = rw (long, too) refl;
+          doubts = rw (long, too) refl;
+          whole = λ m declares. absurd (let bad : Err (fault_at 0 TooLong) ≡ Ok m = sym (too_long bytes long) ∙ declares in cc);
+        }
     by false short = as_all _ _ (take_all 0x100001 bytes (let least = not_below _ _ short in omega (arith, least)))
 
 pub read_as : (gives : Result (List ℕ) ErrorKind → Type 0) (read : List ℕ) →
@@ -38,4 +48,5 @@ read_as gives read (all, given, inr is) = (all, given, by (as_beginning all))
       machine = ap machine_of_text is ∙ same.machine;
       faults = ap faults_of is ∙ same.faults;
       doubts = ap doubts_of is ∙ same.doubts;
+      whole = λ m declares. is ∙ same.whole m declares;
     }

@@ -12,6 +12,7 @@ use Rattle.l4_commands.specs.Files.{list_name}
 use Rattle.l4_commands.specs.declared.job.Printed.{Printed}
 use Rattle.l4_jobs.specs.Expectations.{status_by, unmet_by}
 use Rattle.l4_jobs.specs.Extras.{behind}
+use Rattle.l4_jobs.specs.Objects.{told}
 use Rattle.l4_jobs.specs.Outputs.{Output}
 use Rattle.l4_jobs.specs.Records.{IsRepeatedBy, unrecorded}
 use Rattle.l4_jobs.specs.Runs.{IsRecord, IsRunDone, IsWritten, lines_of_outcome, report_of, status_of_ending}
@@ -24,10 +25,10 @@ asked : (m : Machine) (list text name : List ℕ) (f : Findings) (r : IsRecord m
     IsReplayAsked m None list text (replay_entries m r.entries)
 asked m list text name f r is = ap (run_of_schedule m None) (by_name m list text name is ∙ r.reads)
 
-again : (printed : Printed) (m : Machine) (list text name : List ℕ) (expected : Option (List Expected)) (o : Output) (f : Findings) → list_name list ≡ Some name →
-    IsRecord m f text → IsWritten printed m f o.lines → o.said ≡ unmet_by expected (report_of f) →
-    o.status ≡ status_by expected (report_of f) (status_of_ending f.ending) → IsRunDone printed m (IsReplayAsked m None list text) None expected (unrecorded o)
-again printed m list text name expected o f is r written said ended = record {
+again : (printed : Printed) (machine_text : List ℕ) (m : Machine) (list text name : List ℕ) (expected : Option (List Expected)) (o : Output) (f : Findings) → list_name list ≡ Some name →
+    IsRecord m f text → IsWritten printed machine_text m f o.lines → o.said ≡ unmet_by expected (report_of f) →
+    o.status ≡ status_by expected (report_of f) (status_of_ending f.ending) → IsRunDone printed machine_text m (IsReplayAsked m None list text) None expected (unrecorded o)
+again printed machine_text m list text name expected o f is r written said ended = record {
   run = replay_entries m r.entries;
   is = asked m list text name f r is;
   findings = f;
@@ -43,10 +44,10 @@ again printed m list text name expected o f is r written said ended = record {
 one_world : (m : Machine) (f : Findings) (w v : World) → reached m f.history ≡ Some w → reached m f.history ≡ Some v → w ≡ v
 one_world m f w v is other = let same : Some w ≡ Some v = sym is ∙ other in cc
 
-one_text : (printed : Printed) (m : Machine) (f : Findings) (lines others : List ℕ) → IsWritten printed m f lines → IsWritten printed m f others → others ≡ lines
-one_text printed m f lines others is other =
+one_text : (printed : Printed) (machine_text : List ℕ) (m : Machine) (f : Findings) (lines others : List ℕ) → IsWritten printed machine_text m f lines → IsWritten printed machine_text m f others → others ≡ lines
+one_text printed machine_text m f lines others is other =
     other.lines_are
-    ∙ ap (λ w. lines_of_outcome printed.report f ++ behind printed.extras m w f.history) (one_world m f other.world is.world other.reaches is.reaches)
+    ∙ ap (λ w. lines_of_outcome printed.report printed.json machine_text m f ++ told printed.json (behind printed.extras m w f.history)) (one_world m f other.world is.world other.reaches is.reaches)
     ∙ sym is.lines_are
 
 one_run : (m : Machine) (list text : List ℕ) (r s : Run) → IsReplayAsked m None list text r → IsReplayAsked m None list text s → r ≡ s
@@ -55,20 +56,20 @@ one_run m list text r s is other = let same : Ok r ≡ Ok s = sym is ∙ other i
 same_output : (o p : Output) → o.lines ≡ p.lines → o.list ≡ p.list → o.said ≡ p.said → o.status ≡ p.status → o ≡ p
 same_output o p lines list said status = rw (lines, list, said, status) refl
 
-only : (printed : Printed) (m : Machine) (list text : List ℕ) (expected : Option (List Expected)) (o other : Output) →
-    IsRunDone printed m (IsReplayAsked m None list text) None expected o → IsRunDone printed m (IsReplayAsked m None list text) None expected other → other ≡ o
-only printed m list text expected o other a b =
+only : (printed : Printed) (machine_text : List ℕ) (m : Machine) (list text : List ℕ) (expected : Option (List Expected)) (o other : Output) →
+    IsRunDone printed machine_text m (IsReplayAsked m None list text) None expected o → IsRunDone printed machine_text m (IsReplayAsked m None list text) None expected other → other ≡ o
+only printed machine_text m list text expected o other a b =
     let run = one_run m list text b.run a.run b.is a.is in
     let found : b.findings ≡ a.findings = one_outcome m a.run b.findings a.findings (subst (λ r. IsOutcomeOf m r b.findings) run b.of_run) a.of_run in
     same_output other o
-    (one_text printed m a.findings o.lines other.lines a.written (subst (λ f. IsWritten printed m f other.lines) found b.written))
+    (one_text printed machine_text m a.findings o.lines other.lines a.written (subst (λ f. IsWritten printed machine_text m f other.lines) found b.written))
     (b.recorded ∙ sym a.recorded)
     (b.said ∙ ap (λ (f : Findings). unmet_by expected (report_of f)) found ∙ sym a.said)
     (b.status_is ∙ ap (λ (f : Findings). status_by expected (report_of f) (status_of_ending f.ending)) found ∙ sym a.status_is)
 
-pub repeated : (printed : Printed) (m : Machine) (IsAsked : Run → Type 0) (name : List ℕ) (expected : Option (List Expected)) (o : Output)
-    (d : IsRunDone printed m IsAsked (Some name) expected o) (list other : List ℕ) → list_name list ≡ Some other →
-    IsRepeatedBy printed m list d.recorded.0 expected o
-repeated printed m IsAsked name expected o d list other is =
-    let first = again printed m list d.recorded.0 other expected o d.findings is d.recorded.2 d.written d.said d.status_is in
-    record { again = first; alone = λ p done. only printed m list d.recorded.0 expected (unrecorded o) p first done }
+pub repeated : (printed : Printed) (machine_text : List ℕ) (m : Machine) (IsAsked : Run → Type 0) (name : List ℕ) (expected : Option (List Expected)) (o : Output)
+    (d : IsRunDone printed machine_text m IsAsked (Some name) expected o) (list other : List ℕ) → list_name list ≡ Some other →
+    IsRepeatedBy printed machine_text m list d.recorded.0 expected o
+repeated printed machine_text m IsAsked name expected o d list other is =
+    let first = again printed machine_text m list d.recorded.0 other expected o d.findings is d.recorded.2 d.written d.said d.status_is in
+    record { again = first; alone = λ p done. only printed machine_text m list d.recorded.0 expected (unrecorded o) p first done }

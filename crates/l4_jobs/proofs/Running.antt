@@ -37,15 +37,15 @@ lawful turns right = by (turns == 0 || nat_lt 1000000 turns) refl
     by false is = refl
 
 -- What is printed, judged and kept of findings.
-pub record IsOf (printed : Printed) (m : Machine) (record_to : Option (List ℕ)) (expected : Option (List Expected)) (f : Findings) (o : Output) : Type 0 where
-  pub written : IsWritten printed m f o.lines
+pub record IsOf (printed : Printed) (machine_text : List ℕ) (m : Machine) (record_to : Option (List ℕ)) (expected : Option (List Expected)) (f : Findings) (o : Output) : Type 0 where
+  pub written : IsWritten printed machine_text m f o.lines
   pub said : o.said ≡ unmet_by expected (report_of f)
   pub status_is : o.status ≡ status_by expected (report_of f) (status_of_ending f.ending)
   pub recorded : IsRecorded record_to m f o.list
 
-pub run_done : (printed : Printed) (m : Machine) (IsAsked : Run → Type 0) (record_to : Option (List ℕ)) (expected : Option (List Expected)) (r : Run) (f : Findings)
-    (o : Output) → IsAsked r → IsOutcomeOf m r f → IsOf printed m record_to expected f o → IsRunDone printed m IsAsked record_to expected o
-run_done printed m IsAsked record_to expected r f o asked outcome is = record {
+pub run_done : (printed : Printed) (machine_text : List ℕ) (m : Machine) (IsAsked : Run → Type 0) (record_to : Option (List ℕ)) (expected : Option (List Expected)) (r : Run) (f : Findings)
+    (o : Output) → IsAsked r → IsOutcomeOf m r f → IsOf printed machine_text m record_to expected f o → IsRunDone printed machine_text m IsAsked record_to expected o
+run_done printed machine_text m IsAsked record_to expected r f o asked outcome is = record {
   run = r;
   is = asked;
   findings = f;
@@ -56,18 +56,18 @@ run_done printed m IsAsked record_to expected r f o asked outcome is = record {
   recorded = is.recorded;
 }
 
-pub asked_run_done : (printed : Printed) (m : Machine) (turns : ℕ) (record_to : Option (List ℕ)) (expected : Option (List Expected)) (f : Findings) (o : Output) →
-    ((turns ≡ 0) ⊎ (1000000 < turns) → ⊥) → IsFoundFor m turns f → IsOf printed m record_to expected f o →
-    IsRunDone printed m (IsRunAsked m turns) record_to expected o
-asked_run_done printed m turns record_to expected f o right found is =
+pub asked_run_done : (printed : Printed) (machine_text : List ℕ) (m : Machine) (turns : ℕ) (record_to : Option (List ℕ)) (expected : Option (List Expected)) (f : Findings) (o : Output) →
+    ((turns ≡ 0) ⊎ (1000000 < turns) → ⊥) → IsFoundFor m turns f → IsOf printed machine_text m record_to expected f o →
+    IsRunDone printed machine_text m (IsRunAsked m turns) record_to expected o
+asked_run_done printed machine_text m turns record_to expected f o right found is =
     let asked : IsRunAsked m turns (in_order found.run) = record { lawful = lawful turns right; run = found.run; is = found.is; sorted = refl } in
-    run_done printed m (IsRunAsked m turns) record_to expected (in_order found.run) f o asked found.outcome is
+    run_done printed machine_text m (IsRunAsked m turns) record_to expected (in_order found.run) f o asked found.outcome is
 
-pub asked_replay_done : (printed : Printed) (m : Machine) (rest : Option ℕ) (list text : List ℕ) (entries : List Entry) (record_to : Option (List ℕ))
+pub asked_replay_done : (printed : Printed) (machine_text : List ℕ) (m : Machine) (rest : Option ℕ) (list text : List ℕ) (entries : List Entry) (record_to : Option (List ℕ))
     (expected : Option (List Expected)) (r : Run) (f : Findings) (o : Output) → asked_schedule m list text ≡ Ok entries → continued_run m rest entries ≡ Ok r →
-    IsOutcomeOf m r f → IsOf printed m record_to expected f o → IsRunDone printed m (IsReplayAsked m rest list text) record_to expected o
-asked_replay_done printed m rest list text entries record_to expected r f o asked goes outcome is =
-    run_done printed m (IsReplayAsked m rest list text) record_to expected r f o (ap (run_of_schedule m rest) asked ∙ goes) outcome is
+    IsOutcomeOf m r f → IsOf printed machine_text m record_to expected f o → IsRunDone printed machine_text m (IsReplayAsked m rest list text) record_to expected o
+asked_replay_done printed machine_text m rest list text entries record_to expected r f o asked goes outcome is =
+    run_done printed machine_text m (IsReplayAsked m rest list text) record_to expected r f o (ap (run_of_schedule m rest) asked ∙ goes) outcome is
 
 -- The entries of the rest
 pub rest_is : (m : Machine) (entries all : List Entry) (turns : ℕ) → HaveRest m entries turns all → rest_fault m entries turns ≡ None →

@@ -30,7 +30,7 @@ use Rattle.l4_jobs.specs.Audits.{IsAudited}
 use Rattle.l4_jobs.specs.ChartJobs.{status_of_refused}
 use Rattle.l4_jobs.specs.Expectations.{IsExpected, is_met_by, scope_of, status_by}
 use Rattle.l4_jobs.specs.Inputs.{Gives}
-use Rattle.l4_jobs.specs.Jobs.{IsDone, IsDoneFor, IsDoneOn, IsStatusOf}
+use Rattle.l4_jobs.specs.Jobs.{IsDone, IsDoneOn, IsInLinesFor, IsStatusOf}
 use Rattle.l4_jobs.specs.Outputs.{Output}
 use Rattle.l4_jobs.specs.Runs.{status_of_ending}
 use Rattle.l4_jobs.specs.Searches.{IsAnswerBy, IsDoneBy, IsTraceOut, question_of, wanted_of}
@@ -162,11 +162,12 @@ status_on (Chart chart) text m second expected o same (trace, given, is) = chart
 status_on (Endings search) text m second expected o same is = done_by search.trace search m expected o same is
 status_on (Lint lint) text m second expected o same (list, reads, is) = list_status (Lint lint) _ o.status is.status_is
 
-status_for : (job : Job) (text : List ℕ) (d : Result Machine TextFault) (second expects : Gives) (o : Output) → IsDoneFor job text d second expects o →
+status_for : (job : Job) (text : List ℕ) (d : Result Machine TextFault) (second expects : Gives) (o : Output) → IsInLinesFor job text d second expects o →
     IsStatusOf job o.status
 status_for job text (Ok m) second expects o (expected, wants, is) =
     status_on job text m second expected o (same_some (expected_of job) (scope_of job) expects expected wants) is
 status_for job text (Err t) second expects o is = lint_status job (faults_of text) o.status is.1.status_is
 
 pub done_status : (job : Job) (machine second expects : Gives) (o : Output) → IsDone job machine second expects o → IsStatusOf job o.status
-done_status job machine second expects o d = status_for job d.text (machine_of_text d.text) second expects o d.is
+done_status job machine second expects o d =
+    status_for job d.text (machine_of_text d.text) second expects (record o { lines = d.is.lines }) d.is.in_lines

@@ -19,6 +19,7 @@ use Rattle.l4_jobs.specs.Expectations.{IsExpected, fault_of_expect, scope_of}
 use Rattle.l4_jobs.specs.Inputs.{FailsWith, Gives, IsRead}
 use Rattle.l4_jobs.specs.Lints.{IsLinted, IsListLinted}
 use Rattle.l4_jobs.specs.Nexts.{IsNextDone, IsNextFault}
+use Rattle.l4_jobs.specs.Objects.{IsTold, is_retold}
 use Rattle.l4_jobs.specs.Outputs.{Output}
 use Rattle.l4_jobs.specs.Runs.{IsReplayJobDone, IsRunJobDone, IsWritten, status_of_ending}
 use Rattle.l4_jobs.specs.Schedules.{IsReplayFault, fault_of_turns}
@@ -26,14 +27,14 @@ use Rattle.l4_jobs.specs.Searches.{IsSearchDone, fault_of_search}
 use Rattle.l4_jobs.specs.declared.fault.Fault.{Fault}
 use Rattle.l4_jobs.specs.declared.fault.Fault.TheVariants as fault
 
--- What a job comes to on the machine that a text declares, where this is expected of it. `second`
--- gives the trace, or the list where that is in a file.
+-- What a job comes to in lines, on the machine that a text declares, where this is expected of it.
+-- `second` gives the trace, or the list where that is in a file.
 abbrev pub IsDoneOn : Job → (text : List ℕ) → Machine → (second : Gives) →
     Option (List Expected) → Output → Type 0
-IsDoneOn (Run run) text m second expected o = IsRunJobDone run m expected o
+IsDoneOn (Run run) text m second expected o = IsRunJobDone run text m expected o
 IsDoneOn (Replay replay) text m second expected o =
     (list : List ℕ) × IsRead (list_name replay.schedule.now) second list
-    × IsReplayJobDone replay m list expected o
+    × IsReplayJobDone replay text m list expected o
 IsDoneOn (Next next) text m second expected o =
     (list : List ℕ) × IsRead (list_name next.schedule.now) second list
     × IsNextDone m next.schedule.now list o
@@ -54,13 +55,19 @@ is_lint _ = false
 abbrev pub IsFaultyDone : Job → (text : List ℕ) → Output → Type 0
 IsFaultyDone job text o = (is_lint job ≡ true) × IsLinted text o
 
--- What a job comes to for a text, with what its file expects.
-abbrev pub IsDoneFor : Job → (text : List ℕ) → Result Machine TextFault →
+-- What a job comes to in lines for a text, with what its file expects.
+abbrev pub IsInLinesFor : Job → (text : List ℕ) → Result Machine TextFault →
     (second expects : Gives) → Output → Type 0
-IsDoneFor job text (Ok m) second expects o =
+IsInLinesFor job text (Ok m) second expects o =
     (expected : Option (List Expected)) × IsExpected (expected_of job) (scope_of job) expects expected
     × IsDoneOn job text m second expected o
-IsDoneFor job text (Err f) second expects o = IsFaultyDone job text o
+IsInLinesFor job text (Err f) second expects o = IsFaultyDone job text o
+
+-- The same, with its lines told as objects where that is asked for.
+abbrev pub IsDoneFor : Job → (text : List ℕ) → Result Machine TextFault →
+    (second expects : Gives) → Output → Type 0
+IsDoneFor job text machine second expects o =
+    IsTold (is_retold job) (IsInLinesFor job text machine second expects) o
 
 -- What a job comes to for a machine text that its source gives.
 pub record IsDone (job : Job) (machine second expects : Gives) (o : Output) : Type 0 where
@@ -130,11 +137,11 @@ IsStatusOf job status =
 
 -- The lines of a run or a replay are of findings that are true of its machine, and so is the status.
 -- Nothing here names a run of processors.
-pub record IsTrueShown (printed : Printed) (m : Machine) (lines : List ℕ) (status : ℕ) :
-    Type 0 where
+pub record IsTrueShown (printed : Printed) (text : List ℕ) (m : Machine) (lines : List ℕ)
+    (status : ℕ) : Type 0 where
   pub findings : Findings
   pub is_true : IsTrueOf m findings
-  pub written : IsWritten printed m findings lines
+  pub written : IsWritten printed text m findings lines
   pub status_is : (status ≡ status_of_ending findings.ending) ⊎ (status ≡ 4)
 
 -- What is printed of a run or a replay.
@@ -146,7 +153,7 @@ printed_of _ = None
 abbrev pub IsTrueBy : Option Printed → (text lines : List ℕ) → (status : ℕ) → Type 0
 IsTrueBy None text lines status = Unit {0}
 IsTrueBy (Some printed) text lines status =
-    (m : Machine) × (machine_of_text text ≡ Ok m) × IsTrueShown printed m lines status
+    (m : Machine) × (machine_of_text text ≡ Ok m) × IsTrueShown printed text m lines status
 
 abbrev pub IsTrueFor : Job → (text lines : List ℕ) → (status : ℕ) → Type 0
 IsTrueFor job text lines status = IsTrueBy (printed_of job) text lines status

@@ -7,6 +7,7 @@ pub mod Inputs
 pub mod Jobs
 pub mod Lints
 pub mod Nexts
+pub mod Objects
 pub mod Outputs
 pub mod Performing
 pub mod Reading

@@ -10,9 +10,13 @@ use Rattle.l4_jobs.specs.Schedules.{IsReplayAsked}
 abbrev pub unrecorded : Output → Output
 unrecorded o = record o { list = None }
 
--- A replay of this list in a file comes to this output but for its record, and to no other.
-pub record IsRepeatedBy (printed : Printed) (m : Machine) (list text : List ℕ)
+-- A replay of this list in a file, which has these items, comes to this output but for its record,
+-- and to no other.
+pub record IsRepeatedBy (printed : Printed) (text : List ℕ) (m : Machine) (list items : List ℕ)
     (expected : Option (List Expected)) (o : Output) : Type 0 where
-  pub again : IsRunDone printed m (IsReplayAsked m None list text) None expected (unrecorded o)
-  pub alone : (other : Output) → IsRunDone printed m (IsReplayAsked m None list text) None expected other →
+  pub again :
+      IsRunDone printed text m (IsReplayAsked m None list items) None expected (unrecorded o)
+  pub alone :
+      (other : Output) →
+      IsRunDone printed text m (IsReplayAsked m None list items) None expected other →
       other ≡ unrecorded o

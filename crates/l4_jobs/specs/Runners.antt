@@ -13,16 +13,18 @@ use Rattle.l4_jobs.specs.declared.fault.Fault.{Fault}
 use Rattle.l4_jobs.specs.declared.fault.Fault.TheVariants as fault
 
 -- What is made is the run that is asked for, or the fault that memory was refused or of its turns.
-abbrev pub IsRunMade : RunJob → Machine → Option (List Expected) → Result Done Fault → Type 0
-IsRunMade run m expected made =
+abbrev pub IsRunMade : RunJob → (text : List ℕ) → Machine → Option (List Expected) →
+    Result Done Fault → Type 0
+IsRunMade run text m expected made =
     MatchResult made
-    (λ done. IsRunJobDone run m expected (output_of done))
+    (λ done. IsRunJobDone run text m expected (output_of done))
     (λ f. (f ≡ fault.NoMemory) ⊎ (fault_of_turns run.turns ≡ Some f))
 
--- Whatever may be made of what is handed over is such a run or such a fault.
-abbrev pub MakesRuns : (Bor Machine → RunJob → Option (Bor (List Expected)) →
+-- Whatever may be made of what is handed over is such a run or such a fault. This text declares the
+-- machine.
+abbrev pub MakesRuns : (text : List ℕ) → (Bor Machine → RunJob → Option (Bor (List Expected)) →
     Result Done Fault → Type 0) → Type 0
-MakesRuns makes =
+MakesRuns text makes =
     (m : Bor Machine) (run : RunJob) (expected : Option (Bor (List Expected)))
     (made : Result Done Fault) → makes m run expected made →
-    IsRunMade run m.now (option_copied expected) made
+    IsRunMade run text m.now (option_copied expected) made

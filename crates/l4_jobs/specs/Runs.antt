@@ -14,12 +14,13 @@ use Rattle.l4_machine.specs.Outcomes.{Findings, IsOutcomeOf}
 use Rattle.l4_reports.specs.ReportLines.{report_text}
 use Rattle.l4_schedules.specs.InFiles.{schedule_in_file}
 use Rattle.l4_schedules.specs.Written.{recorded_text}
-use Rattle.l4_trace.specs.Lines.{has_line, trace_of}
+use Rattle.l4_trace.specs.Lines.{has_line}
 use Rattle.l4_commands.specs.declared.job.Printed.{Printed}
 use Rattle.l4_commands.specs.declared.job.ReplayJob.{ReplayJob}
 use Rattle.l4_commands.specs.declared.job.RunJob.{RunJob}
 use Rattle.l4_jobs.specs.Expectations.{status_by, unmet_by}
 use Rattle.l4_jobs.specs.Extras.{behind}
+use Rattle.l4_jobs.specs.Objects.{told, told_steps}
 use Rattle.l4_jobs.specs.Outputs.{Output}
 use Rattle.l4_jobs.specs.Schedules.{IsReplayAsked, IsRunAsked}
 
@@ -27,18 +28,19 @@ use Rattle.l4_jobs.specs.Schedules.{IsReplayAsked, IsRunAsked}
 abbrev pub report_of : Findings → List ℕ
 report_of o = report_text o.threads o.waiting o.ending
 
--- The report of an outcome, or its trace.
-abbrev pub lines_of_outcome : (report : Bool) → Findings → List ℕ
-lines_of_outcome true o = report_of o
-lines_of_outcome false o = trace_of o.history
+-- The report of an outcome, or its trace, on the machine that this text declares.
+abbrev pub lines_of_outcome : (report json : Bool) → (text : List ℕ) → Machine → Findings → List ℕ
+lines_of_outcome true json text m o = told json (report_of o)
+lines_of_outcome false json text m o = told_steps json text m o.history
 
 -- These lines are printed of an outcome, by the world that its history reaches.
-pub record IsWritten (printed : Printed) (m : Machine) (o : Findings) (lines : List ℕ) :
-    Type 0 where
+pub record IsWritten (printed : Printed) (text : List ℕ) (m : Machine) (o : Findings)
+    (lines : List ℕ) : Type 0 where
   pub world : World
   pub reaches : reached m o.history ≡ Some world
   pub lines_are : lines ≡
-      lines_of_outcome printed.report o ++ behind printed.extras m world o.history
+      lines_of_outcome printed.report printed.json text m o
+      ++ told printed.json (behind printed.extras m world o.history)
   -- each step of a printed trace has a line of its own
   pub spelled : printed.report ≡ false → list_all has_line o.history ≡ true
 
@@ -66,13 +68,14 @@ IsRecorded (Some name) m o list = (text : List ℕ) × (list ≡ Some (name, tex
 
 -- This is the output for a core run that is asked for. The report is judged whether it is printed
 -- or not.
-pub record IsRunDone (printed : Printed) (m : Machine) (IsAsked : CoreRun → Type 0)
-    (record_to : Option (List ℕ)) (expected : Option (List Expected)) (o : Output) : Type 0 where
+pub record IsRunDone (printed : Printed) (text : List ℕ) (m : Machine)
+    (IsAsked : CoreRun → Type 0) (record_to : Option (List ℕ)) (expected : Option (List Expected))
+    (o : Output) : Type 0 where
   pub run : CoreRun
   pub is : IsAsked run
   pub findings : Findings
   pub of_run : IsOutcomeOf m run findings
-  pub written : IsWritten printed m findings o.lines
+  pub written : IsWritten printed text m findings o.lines
   pub said : o.said ≡ unmet_by expected (report_of findings)
   pub status_is :
       o.status ≡ status_by expected (report_of findings) (status_of_ending findings.ending)
@@ -80,12 +83,13 @@ pub record IsRunDone (printed : Printed) (m : Machine) (IsAsked : CoreRun → Ty
 
 -- What the job of a run comes to, and that of a replay, of whose list this text was read where it is
 -- in a file.
-abbrev pub IsRunJobDone : RunJob → Machine → Option (List Expected) → Output → Type 0
-IsRunJobDone run m expected o =
-    IsRunDone run.printed m (IsRunAsked m run.turns) (option_copied run.record_to) expected o
+abbrev pub IsRunJobDone : RunJob → (text : List ℕ) → Machine → Option (List Expected) → Output →
+    Type 0
+IsRunJobDone run text m expected o =
+    IsRunDone run.printed text m (IsRunAsked m run.turns) (option_copied run.record_to) expected o
 
-abbrev pub IsReplayJobDone : ReplayJob → Machine → (list : List ℕ) → Option (List Expected) →
-    Output → Type 0
-IsReplayJobDone replay m list expected o =
-    IsRunDone replay.printed m (IsReplayAsked m replay.then_rest replay.schedule.now list)
+abbrev pub IsReplayJobDone : ReplayJob → (text : List ℕ) → Machine → (list : List ℕ) →
+    Option (List Expected) → Output → Type 0
+IsReplayJobDone replay text m list expected o =
+    IsRunDone replay.printed text m (IsReplayAsked m replay.then_rest replay.schedule.now list)
     (option_copied replay.record_to) expected o

@@ -2,11 +2,13 @@
 ghost use Rattle.std.specs.Prelude.{◌≡◌, ◌++◌, Some, OnOk};
 ghost use Rattle.l4_counts.specs.Lines.{counts_text};
 ghost use Rattle.l4_jobs.specs.Extras.{behind, text_where};
+ghost use Rattle.l4_jobs.specs.Objects.{told};
 ghost use Rattle.l4_model.specs.History.{IsHistory, reached};
 ghost use Rattle.l4_model.specs.World.{World};
 ghost use Rattle.l4_waits.specs.Lines.{waits_text};
 
-use crate::job::Extras;
+use crate::job::{Extras, Printed};
+use crate::objects::told;
 use l4_counts::lines;
 use l4_history::history::History;
 use l4_script::machine::Machine;
@@ -65,4 +67,24 @@ pub(crate) fn write_extras(
 {
     write_waits(alloc, extras.waits, machine, history, out)?;
     write_counts(alloc, extras.counts, machine, history, out)
+}
+
+/// The same behind a trace or a report, told as these are.
+pub(crate) fn write_told_extras(
+    alloc: Global,
+    printed: Printed,
+    machine: &Machine,
+    history: &History,
+    out: &mut Vec<u8>,
+) -> Result<(), NoMemory>
+    requires { IsHistory machine.now history.now.steps }
+    ensures { OnOk result ((w : World) → reached machine.now history.now.steps ≡ Some w →
+        out.new.items ≡ out.old.items ++
+        told printed.json (behind printed.extras machine.now w history.now.steps)) }
+{
+    let mut lines = Vec::new(alloc);
+    write_extras(alloc, printed.extras, machine, history, &mut lines)?;
+    let lines = told(alloc, printed.json, lines)?;
+    out.extend_from_slice(lines.as_slice())?;
+    Ok(())
 }

@@ -7,7 +7,7 @@ ghost use Rattle.l4_script.specs.declared.text.fault.TextFaultKind.TheVariants.{
 ghost use Rattle.l4_commands.specs.Files.{second_file_of};
 ghost use Rattle.l4_jobs.specs.Expectations.{scope_of};
 ghost use Rattle.l4_jobs.specs.Jobs.{IsAskedFault, IsDone, IsDoneFor, IsDoneOn, IsFault, IsFaultFor};
-ghost use Rattle.l4_jobs.specs.Jobs.{IsFaultOn, IsFaultyDone, IsTextFault};
+ghost use Rattle.l4_jobs.specs.Jobs.{IsFaultOn, IsFaultyDone, IsInLinesFor, IsTextFault};
 ghost use Rattle.l4_jobs.specs.Outputs.{output_of};
 ghost use Rattle.l4_jobs.specs.Runners.{MakesRuns};
 ghost use Rattle.l4_jobs.specs.declared.fault.Fault.TheVariants.{NoMemory as OutOfMemory};
@@ -19,6 +19,7 @@ use crate::fault::Fault;
 use crate::job::{Job, RunJob};
 use crate::lints::{lint_done, list_lint_done};
 use crate::nexts::next_done;
+use crate::objects::told_done;
 use crate::reading::{read_all, read_text};
 use crate::runs::{replay_done, run_done};
 use crate::searches::search_done;
@@ -31,7 +32,8 @@ use l4_script::text::{TextFault, TextFaultKind};
 use std::alloc::Global;
 use std::thread::Threads;
 
-// What a job comes to on the machine of a text, where this is expected of it. `run` makes a run.
+// What a job comes to in lines, on the machine of a text, where this is expected of it. `run` makes
+// a run.
 fn done_on<
     'a,
     S: Source,
@@ -48,7 +50,7 @@ fn done_on<
     run: F,
 ) -> Result<Done<'a>, Fault<'a>>
     requires callable { F.IsAlwaysCallable run }
-    requires runs { MakesRuns (F.post run) }
+    requires runs { MakesRuns text.now (F.post run) }
     requires parsed { machine_of_text text.now ≡ Ok machine.now }
     ensures ok { IfOk result (λ done. IsDoneOn job.now text.now machine.now
         (S.gives second.old) (option_copied expected.entry) (output_of done)) }
@@ -58,7 +60,7 @@ fn done_on<
 {
     match *job {
         Job::Run(asked) => run(machine, asked, expected),
-        Job::Replay(replay) => replay_done(alloc, machine, &replay, second, expected),
+        Job::Replay(replay) => replay_done(alloc, text, machine, &replay, second, expected),
         Job::Next(next) => next_done(alloc, machine, next.schedule, second),
         Job::Audit(audit) => audit_done(alloc, machine, audit.trace, audit.judged, second),
         Job::Chart(chart) => chart_done(alloc, machine, &chart, second),
@@ -77,7 +79,7 @@ fn scope_of(job: &Job<'_>) -> Scope
     }
 }
 
-// What a job comes to on the machine of a text, by this text of expectations.
+// What a job comes to in lines, on the machine of a text, by this text of expectations.
 fn done_by<
     'a,
     S: Source,
@@ -94,7 +96,7 @@ fn done_by<
     run: F,
 ) -> Result<Done<'a>, Fault<'a>>
     requires callable { F.IsAlwaysCallable run }
-    requires runs { MakesRuns (F.post run) }
+    requires runs { MakesRuns text.now (F.post run) }
     requires parsed { machine_of_text text.now ≡ Ok machine.now }
     ensures ok { IfOk result (λ done. (lines : List Expected) ×
         (expectations_of (scope_of job.now) asked.now ≡ Ok lines) ×
@@ -118,7 +120,8 @@ fn done_by<
     )
 }
 
-// What a job comes to on the machine of a text. What is expected of it is read and judged first.
+// What a job comes to in lines, on the machine of a text. What is expected of it is read and judged
+// first.
 fn done_for<
     'a,
     S: Source,
@@ -136,9 +139,9 @@ fn done_for<
     run: F,
 ) -> Result<Done<'a>, Fault<'a>>
     requires callable { F.IsAlwaysCallable run }
-    requires runs { MakesRuns (F.post run) }
+    requires runs { MakesRuns text.now (F.post run) }
     requires parsed { machine_of_text text.now ≡ Ok machine.now }
-    ensures ok { IfOk result (λ done. IsDoneFor job.now text.now (Ok machine.now)
+    ensures ok { IfOk result (λ done. IsInLinesFor job.now text.now (Ok machine.now)
         (S.gives second.old) (X.gives expects.old) (output_of done)) }
     ensures err { IfErr result (λ fault. (fault ≡ OutOfMemory) ⊎
         IsFaultFor job.now (Ok machine.now) (S.gives second.old) (X.gives expects.old) fault) }
@@ -160,7 +163,7 @@ fn done_for<
     )
 }
 
-// What a job comes to for a text with a fault.
+// What a job comes to in lines for a text with a fault.
 fn done_without<'a>(
     alloc: Global,
     job: &Job<'_>,
@@ -179,7 +182,38 @@ fn done_without<'a>(
     }
 }
 
-// What a job comes to for a text, which is parsed first. `run` makes a run.
+// What a job comes to in lines for a text, which is parsed first. `run` makes a run.
+fn plain_done_of<
+    'a,
+    S: Source,
+    X: Source,
+    P: Progress,
+    F: Fn(&Machine, RunJob<'a>, Option<&Expectations<'_>>) -> Result<Done<'a>, Fault<'a>>,
+>(
+    alloc: Global,
+    job: &Job<'a>,
+    text: &[u8],
+    second: &mut S,
+    expects: &mut X,
+    progress: &mut P,
+    run: F,
+) -> Result<Done<'a>, Fault<'a>>
+    requires callable { F.IsAlwaysCallable run }
+    requires runs { MakesRuns text.now (F.post run) }
+    ensures ok { IfOk result (λ done. IsInLinesFor job.now text.now (machine_of_text text.now)
+        (S.gives second.old) (X.gives expects.old) (output_of done)) }
+    ensures err { IfErr result (λ fault. (fault ≡ OutOfMemory) ⊎
+        IsFaultFor job.now (machine_of_text text.now) (S.gives second.old)
+        (X.gives expects.old) fault) }
+    ensures unread { second_file_of job.now ≡ None → second.new ≡ second.old }
+{
+    match Machine::parse(alloc, text) {
+        Ok(machine) => done_for(alloc, job, text, &machine, second, expects, progress, run),
+        Err(fault) => done_without(alloc, job, text, fault),
+    }
+}
+
+// What a job comes to for a text. `run` makes a run.
 pub(crate) fn done_of<
     'a,
     S: Source,
@@ -196,7 +230,7 @@ pub(crate) fn done_of<
     run: F,
 ) -> Result<Done<'a>, Fault<'a>>
     requires callable { F.IsAlwaysCallable run }
-    requires runs { MakesRuns (F.post run) }
+    requires runs { MakesRuns text.now (F.post run) }
     ensures ok { IfOk result (λ done. IsDoneFor job.now text.now (machine_of_text text.now)
         (S.gives second.old) (X.gives expects.old) (output_of done)) }
     ensures err { IfErr result (λ fault. (fault ≡ OutOfMemory) ⊎
@@ -204,10 +238,8 @@ pub(crate) fn done_of<
         (X.gives expects.old) fault) }
     ensures unread { second_file_of job.now ≡ None → second.new ≡ second.old }
 {
-    match Machine::parse(alloc, text) {
-        Ok(machine) => done_for(alloc, job, text, &machine, second, expects, progress, run),
-        Err(fault) => done_without(alloc, job, text, fault),
-    }
+    let done = plain_done_of(alloc, job, text, second, expects, progress, run)?;
+    Ok(told_done(alloc, job, done)?)
 }
 
 /// What a job comes to, for what its sources give: that of the machine text, that of the trace or
@@ -237,8 +269,9 @@ pub fn done<'a, R: Threads + Sync, M: Source, S: Source, X: Source, P: Progress>
     ensures unread { second_file_of job.now ≡ None → second.new ≡ second.old }
 {
     let text = read_text(alloc, job.file(), machine)?;
+    let text = text.as_slice();
     let run = |machine: &Machine, run, expected: Option<&Expectations<'_>>| {
-        run_done(rt, alloc, machine, &run, expected)
+        run_done(rt, alloc, text, machine, &run, expected)
     };
-    done_of(alloc, job, text.as_slice(), second, expects, progress, run)
+    done_of(alloc, job, text, second, expects, progress, run)
 }

@@ -29,6 +29,7 @@ pub mod jobs;
 pub mod laws;
 mod lints;
 mod nexts;
+mod objects;
 pub mod perform;
 mod reading;
 pub mod refusal;

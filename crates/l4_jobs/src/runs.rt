@@ -18,12 +18,13 @@ ghost use Rattle.l4_jobs.specs.Schedules.{IsReplayFault, IsRunAsked, fault_of_tu
 ghost use Rattle.l4_jobs.specs.declared.fault.Fault.TheVariants.{NoMemory as OutOfMemory};
 
 use crate::done::{Done, Kept};
-use crate::extras::write_extras;
+use crate::extras::write_told_extras;
 use crate::fault::Fault;
 use crate::job::{NO_EXTRAS, Printed, ReplayJob, RunJob};
+use crate::objects::told;
 use crate::schedules::{asked_entries, whole_replay};
 use crate::streams::Source;
-use crate::trace_lines::trace_of;
+use crate::trace_lines::{objects_of, trace_of};
 use l4_expect::expectations::Expectations;
 use l4_machine::{CompactOutcome, Entry, run_compact, run_recorded};
 use l4_proc::gate::Open;
@@ -49,38 +50,47 @@ fn report_of(alloc: Global, outcome: &CompactOutcome<'_>) -> Result<Vec<u8>, NoM
     Ok(lines)
 }
 
-// The report of an outcome, or its trace.
-fn lines_of(alloc: Global, report: bool, outcome: &CompactOutcome<'_>) -> Result<Vec<u8>, NoMemory>
-    ensures lines { IfOk result (λ lines.
-        lines.items ≡ lines_of_outcome report (compact_findings_of outcome.now)) }
+// The report of an outcome, or its trace, in lines or in objects. `text` declares the machine.
+fn lines_of(
+    alloc: Global,
+    printed: Printed,
+    text: &[u8],
+    machine: &Machine,
+    outcome: &CompactOutcome<'_>,
+) -> Result<Vec<u8>, NoMemory>
+    requires { IsHistory machine.now (steps_of outcome.now.history) }
+    ensures lines { IfOk result (λ lines. lines.items ≡ lines_of_outcome printed.report
+        printed.json text.now machine.now (compact_findings_of outcome.now)) }
     ensures spelled { IfOk result (λ lines.
-        report ≡ false → list_all has_line (steps_of outcome.now.history) ≡ true) }
+        printed.report ≡ false → list_all has_line (steps_of outcome.now.history) ≡ true) }
 {
-    if report {
-        report_of(alloc, outcome)
-    } else {
-        trace_of(alloc, &outcome.history)
+    match (printed.report, printed.json) {
+        (true, json) => told(alloc, json, report_of(alloc, outcome)?),
+        (false, true) => objects_of(alloc, text, machine, &outcome.history),
+        (false, false) => trace_of(alloc, &outcome.history),
     }
 }
 
-// What is printed of an outcome. Its compact history is expanded only where `--waits` or `--counts`
-// needs it.
+// What is printed of an outcome. Its compact history is expanded only where `--waits`, `--counts` or
+// the objects of its steps need it.
+#[tactic(auto, using(crate::proofs::Telling::nothing_behind))]
 fn printed_lines(
     alloc: Global,
     printed: Printed,
+    text: &[u8],
     machine: &Machine,
     outcome: CompactOutcome<'_>,
 ) -> Result<Vec<u8>, NoMemory>
     requires { IsHistory machine.now (steps_of outcome.history) }
     ensures { IfOk result (λ lines.
-        IsWritten printed machine.now (compact_findings_of outcome.entry) lines.items) }
+        IsWritten printed text.now machine.now (compact_findings_of outcome.entry) lines.items) }
 {
-    let mut lines = lines_of(alloc, printed.report, &outcome)?;
+    let mut lines = lines_of(alloc, printed, text, machine, &outcome)?;
     if printed.extras == NO_EXTRAS {
         return Ok(lines);
     }
     let history = outcome.history.into_history(alloc)?;
-    write_extras(alloc, printed.extras, machine, &history, &mut lines)?;
+    write_told_extras(alloc, printed, machine, &history, &mut lines)?;
     Ok(lines)
 }
 
@@ -136,6 +146,7 @@ fn verdict_on(
 fn outcome_done<'a>(
     alloc: Global,
     printed: Printed,
+    text: &[u8],
     machine: &Machine,
     outcome: CompactOutcome<'_>,
     expected: Option<&Expectations<'_>>,
@@ -143,7 +154,8 @@ fn outcome_done<'a>(
 ) -> Result<Done<'a>, NoMemory>
     requires { IsHistory machine.now (steps_of outcome.history) }
     ensures lines { IfOk result (λ done.
-        IsWritten printed machine.now (compact_findings_of outcome.entry) done.lines.items) }
+        IsWritten printed text.now machine.now (compact_findings_of outcome.entry)
+        done.lines.items) }
     ensures said { IfOk result (λ done. done.said.items ≡
         unmet_by (option_copied expected.entry) (report_of (compact_findings_of outcome.entry))) }
     ensures status { IfOk result (λ done. done.status ≡
@@ -153,7 +165,7 @@ fn outcome_done<'a>(
 {
     let verdict = verdict_on(alloc, &outcome, expected)?;
     Ok(Done {
-        lines: printed_lines(alloc, printed, machine, outcome)?,
+        lines: printed_lines(alloc, printed, text, machine, outcome)?,
         list,
         said: verdict.unmet,
         status: verdict.status,
@@ -164,25 +176,27 @@ fn outcome_done<'a>(
 fn plain_run<'a, R: Threads + Sync>(
     rt: &R,
     alloc: Global,
+    text: &[u8],
     machine: &Machine,
     turns: u64,
     printed: Printed,
     expected: Option<&Expectations<'_>>,
 ) -> Result<Done<'a>, Fault<'a>>
     ensures ok { IfOk result (λ done.
-        IsRunDone printed machine.now (IsRunAsked machine.now turns) None
+        IsRunDone printed text.now machine.now (IsRunAsked machine.now turns) None
         (option_copied expected.entry) (output_of done)) }
     ensures err { IfErr result (λ fault. (fault ≡ OutOfMemory) ⊎
         (fault_of_turns turns ≡ Some fault)) }
 {
     let outcome = run_compact(rt, alloc, machine, turns, &Open)?;
-    Ok(outcome_done(alloc, printed, machine, outcome, expected, None)?)
+    Ok(outcome_done(alloc, printed, text, machine, outcome, expected, None)?)
 }
 
 // What a run that is recorded in the file of this name comes to.
 fn recorded_run<'a, R: Threads + Sync>(
     rt: &R,
     alloc: Global,
+    text: &[u8],
     machine: &Machine,
     turns: u64,
     printed: Printed,
@@ -190,7 +204,7 @@ fn recorded_run<'a, R: Threads + Sync>(
     expected: Option<&Expectations<'_>>,
 ) -> Result<Done<'a>, Fault<'a>>
     ensures ok { IfOk result (λ done.
-        IsRunDone printed machine.now (IsRunAsked machine.now turns) (Some name.now)
+        IsRunDone printed text.now machine.now (IsRunAsked machine.now turns) (Some name.now)
         (option_copied expected.entry) (output_of done)) }
     ensures err { IfErr result (λ fault. (fault ≡ OutOfMemory) ⊎
         (fault_of_turns turns ≡ Some fault)) }
@@ -201,25 +215,36 @@ fn recorded_run<'a, R: Threads + Sync>(
         name,
         text: recorded_text(alloc, entries.as_slice())?,
     });
-    Ok(outcome_done(alloc, printed, machine, outcome, expected, list)?)
+    Ok(outcome_done(alloc, printed, text, machine, outcome, expected, list)?)
 }
 
-/// What a run comes to. It is recorded where a file is named for that.
+/// What a run comes to on the machine that this text declares. It is recorded where a file is named
+/// for that.
 pub(crate) fn run_done<'a, R: Threads + Sync>(
     rt: &R,
     alloc: Global,
+    text: &[u8],
     machine: &Machine,
     run: &RunJob<'a>,
     expected: Option<&Expectations<'_>>,
 ) -> Result<Done<'a>, Fault<'a>>
     ensures ok { IfOk result (λ done.
-        IsRunJobDone run.now machine.now (option_copied expected.entry) (output_of done)) }
+        IsRunJobDone run.now text.now machine.now (option_copied expected.entry) (output_of done)) }
     ensures err { IfErr result (λ fault. (fault ≡ OutOfMemory) ⊎
         (fault_of_turns run.now.turns ≡ Some fault)) }
 {
     match run.record_to {
-        None => plain_run(rt, alloc, machine, run.turns, run.printed, expected),
-        Some(name) => recorded_run(rt, alloc, machine, run.turns, run.printed, name, expected),
+        None => plain_run(rt, alloc, text, machine, run.turns, run.printed, expected),
+        Some(name) => recorded_run(
+            rt,
+            alloc,
+            text,
+            machine,
+            run.turns,
+            run.printed,
+            name,
+            expected,
+        ),
     }
 }
 
@@ -241,18 +266,19 @@ fn record_of<'a>(
     }
 }
 
-/// What a replay comes to. `list` gives its schedule where that is in a file. It is recorded where a
-/// file is named for that.
+/// What a replay comes to on the machine that this text declares. `list` gives its schedule where
+/// that is in a file. It is recorded where a file is named for that.
 pub(crate) fn replay_done<'a, L: Source>(
     alloc: Global,
+    text: &[u8],
     machine: &Machine,
     replay: &ReplayJob<'a>,
     list: &mut L,
     expected: Option<&Expectations<'_>>,
 ) -> Result<Done<'a>, Fault<'a>>
-    ensures ok { IfOk result (λ done. (text : List ℕ) ×
-        IsRead (list_name replay.now.schedule.now) (L.gives list.old) text ×
-        IsReplayJobDone replay.now machine.now text (option_copied expected.entry)
+    ensures ok { IfOk result (λ done. (items : List ℕ) ×
+        IsRead (list_name replay.now.schedule.now) (L.gives list.old) items ×
+        IsReplayJobDone replay.now text.now machine.now items (option_copied expected.entry)
         (output_of done)) }
     ensures err { IfErr result (λ fault. (fault ≡ OutOfMemory) ⊎
         IsReplayFault machine.now replay.now.then_rest replay.now.schedule.now (L.gives list.old)
@@ -266,6 +292,7 @@ pub(crate) fn replay_done<'a, L: Source>(
     Ok(outcome_done(
         alloc,
         replay.printed,
+        text,
         machine,
         whole.outcome,
         expected,

@@ -1,14 +1,20 @@
-//! Writing the trace of a run directly from its history.
+//! Writing the trace of a run from its history, in lines or in objects.
 ghost use Rattle.std.specs.Prelude.{◌≡◌, ◌++◌, ◌&&◌, List, IfOk, true};
 ghost use Rattle.std.specs.List.{list_all};
 ghost use Rattle.std.proofs.Common.{◌∙◌, ap, ap₂, append-nil, append_assoc, refl, sym};
 ghost use Rattle.std.proofs.lemmas.Grind.{flat_map-append};
 ghost use Rattle.std.proofs.lemmas.List.Folds.{list_all-append};
+ghost use Rattle.l4_model.specs.History.{IsHistory};
 ghost use Rattle.l4_machine.specs.Outcomes.{steps_of};
 ghost use Rattle.l4_trace.specs.Lines.{has_line, line_of, trace_of};
+ghost use Rattle.l4_jobs.specs.Objects.{told_steps};
 
+use l4_history::history::History;
 use l4_history::steps::Steps;
+use l4_json::scripts::ScriptLines;
+use l4_json::steps::push_steps;
 use l4_machine::{Listener, RunHistory};
+use l4_script::machine::Machine;
 use l4_trace::traces::TraceWriter;
 use l4_types::errors::NoMemory;
 use std::alloc::Global;
@@ -49,4 +55,24 @@ pub(crate) fn trace_of(alloc: Global, history: &RunHistory<'_>) -> Result<Vec<u8
     };
     history.tell(alloc, &mut writer)?;
     Ok(writer.trace.into_lines())
+}
+
+/// The object of each step of a history of the machine that this text declares.
+pub(crate) fn objects_of(
+    alloc: Global,
+    text: &[u8],
+    machine: &Machine,
+    history: &RunHistory<'_>,
+) -> Result<Vec<u8>, NoMemory>
+    requires { IsHistory machine.now (steps_of history.now) }
+    ensures lines { IfOk result (λ objects.
+        objects.items ≡ told_steps true text.now machine.now (steps_of history.now)) }
+    ensures spelled { IfOk result (λ _. list_all has_line (steps_of history.now) ≡ true) }
+{
+    let scripts = ScriptLines::of(alloc, text)?;
+    let mut steps = History::new(alloc);
+    history.tell(alloc, &mut steps)?;
+    let mut objects = Vec::new(alloc);
+    push_steps(alloc, machine, &scripts, &steps, &mut objects)?;
+    Ok(objects)
 }

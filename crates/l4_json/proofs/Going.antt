@@ -1,7 +1,9 @@
 -- A history goes on by one step.
 use Rattle.std.proofs.Common.{◌≡◌, ℕ, ◌+◌, true, Option, Some, List, [], ◌∷◌, ◌++◌, append_assoc, codes, decimal, drop, is_some, take, refl, sym, ap, ◌∙◌}
 use Rattle.std.specs.Prelude.{filter_map, option_map, slice_get, unwrap_or}
-use Rattle.std.specs.List.{join_with_byte}
+use Rattle.std.specs.List.{join_with_byte, list_all}
+use Rattle.std.proofs.lemmas.Bool.{and_from}
+use Rattle.std.proofs.lemmas.List.Folds.{list_all-append}
 use Rattle.std.proofs.lemmas.List.{drop_more, take_more}
 use Rattle.std.proofs.lemmas.Option.{get_or_from_slice_get, slice_get_within}
 use Rattle.l4_model.specs.Conditions.{◌>>=◌}
@@ -14,7 +16,7 @@ use Rattle.l4_model.proofs.Chains.{bind_then}
 use Rattle.l4_core_model.proofs.Changed.{run-last}
 use Rattle.l4_audit.specs.Audited.{Audited, IsPlaced}
 use Rattle.l4_audit.proofs.Auditing.{are_placed}
-use Rattle.l4_trace.specs.Lines.{words_of}
+use Rattle.l4_trace.specs.Lines.{has_line, words_of}
 use Rattle.l4_words.specs.Threads.{id_word}
 use Rattle.l4_json.specs.Lines.{text_of}
 use Rattle.l4_json.specs.Steps.{behind, step_destination, step_line, step_text, steps_text, told_under}
@@ -54,6 +56,12 @@ is_possible a m steps i step last same way at =
     bind_then (next m a.world step) (λ u. run m u (drop (i + 1) steps)) last (ap (run m a.world) (sym (step_here steps i step at)) ∙ way) λ u is rest.
     ap (λ x. is_some (next x a.world step)) same ∙ ap is_some is
 
+-- Its line is one of its own, as those of the steps before it are.
+pub spelled_here : (steps : List Step) (i : ℕ) (step : Step) → list_all has_line (take i steps) ≡ true → slice_get steps i ≡ Some step → has_line step ≡ true →
+    list_all has_line (take (i + 1) steps) ≡ true
+spelled_here steps i step before at spelled =
+    ap (list_all has_line) (taken_here steps i step at) ∙ list_all-append has_line (take i steps) (step ∷ []) ∙ and_from _ _ before (and_from _ _ spelled refl)
+
 record Gone (m : Machine) (lines : List (List ℕ)) (steps : List Step) (i : ℕ) (w : World) (out all : List ℕ) : Type 0 where
   way : reached m (take i steps) ≡ Some w
   rest : (last : World) × (run m w (drop i steps) ≡ Some last)
@@ -76,10 +84,10 @@ goes_on m lines steps i step w out all gone at =
 pub one_more : (m : Machine) (lines : List (List ℕ)) (steps : List Step) (i : ℕ) (step : Step) (a b : Audited) (out new all : List ℕ) → a.machine ≡ m →
     reached m (take i steps) ≡ Some a.world → (last : World) × (run m a.world (drop i steps) ≡ Some last) → out ++ steps_text m lines a.world (drop i steps) ≡ all →
     slice_get steps i ≡ Some step → b ≡ record a { world = behind a.machine a.world step } →
-    new ≡ out ++ step_text a.machine lines a.world (behind a.machine a.world step) step →
+    new ≡ out ++ step_text a.machine lines a.world (behind a.machine a.world step) step → list_all has_line (take (i + 1) steps) ≡ true →
     (b.machine ≡ m) × (reached m (take (i + 1) steps) ≡ Some b.world) × ((last : World) × (run m b.world (drop (i + 1) steps) ≡ Some last))
-    × (new ++ steps_text m lines b.world (drop (i + 1) steps) ≡ all)
-one_more m lines steps i step a b out new all same way rest told at taken appended =
+    × (new ++ steps_text m lines b.world (drop (i + 1) steps) ≡ all) × (list_all has_line (take (i + 1) steps) ≡ true)
+one_more m lines steps i step a b out new all same way rest told at taken appended spelled =
     let gone = goes_on m lines steps i step a.world out all (record { way = way; rest = rest; told = told }) at in
     let world : behind m a.world step ≡ b.world = ap (λ x. behind x a.world step) (sym same) ∙ ap (λ (x : Audited). x.world) (sym taken) in
     let text : new ≡ out ++ step_text m lines a.world (behind m a.world step) step =
@@ -88,4 +96,5 @@ one_more m lines steps i step a b out new all same way rest told at taken append
       gone.way ∙ ap (λ w. Some w) world,
       (gone.rest.0, ap (λ w. run m w (drop (i + 1) steps)) (sym world) ∙ gone.rest.1),
       ap (λ w. new ++ steps_text m lines w (drop (i + 1) steps)) (sym world) ∙ ap (λ t. t ++ steps_text m lines (behind m a.world step) (drop (i + 1) steps)) text ∙ gone.told,
+      spelled,
     )

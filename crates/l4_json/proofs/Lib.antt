@@ -5,4 +5,5 @@ mod Finding
 mod Fitting
 mod Going
 mod Objects
+pub mod Reading
 mod Texts

@@ -1,10 +1,10 @@
 -- Lines of a text as lines of JSON.
-use Rattle.std.specs.Prelude.{ℕ, List, [], ◌∷◌, ◌++◌, codes, flat_map, map}
-use Rattle.json.specs.Json.{Json}
+use Rattle.std.specs.Prelude.{ℕ, List, [], ◌∷◌, ◌++◌, codes, flat_map, map, option_and_then, unwrap_or}
+use Rattle.json.specs.Json.{Json, document}
 use Rattle.l4_words.specs.Lines.{parts_of}
 use Rattle.l4_words.specs.Words.{words_in}
 use Rattle.l4_json.specs.Objects.{Value, One, json_of, object_text}
-use Rattle.l4_json.specs.Rows.{row_of, told}
+use Rattle.l4_json.specs.Rows.{line_in, row_of, told}
 
 -- The object of a line tells of which kind it is, what its words are, and what more is known. This
 -- is its text, and what that says.
@@ -31,3 +31,17 @@ all_but_last (part ∷ next ∷ parts) = part ∷ all_but_last (next ∷ parts)
 
 abbrev pub json_text : (text : List ℕ) → List ℕ
 json_text text = flat_map (λ line. text_of line [] ++ codes "\n") (all_but_last (parts_of text))
+
+-- The lines of a text, each with its line end.
+abbrev pub whole_lines : (text : List ℕ) → List ℕ
+whole_lines text = flat_map (λ line. line ++ codes "\n") (all_but_last (parts_of text))
+
+-- The lines that a text of objects tells. A line of it that is no object of a line tells the empty
+-- line.
+
+abbrev pub line_told : (object : List ℕ) → List ℕ
+line_told object = unwrap_or (option_and_then line_in (document object)) []
+
+abbrev pub lines_told : (objects : List ℕ) → List ℕ
+lines_told objects =
+    flat_map (λ object. line_told object ++ codes "\n") (all_but_last (parts_of objects))

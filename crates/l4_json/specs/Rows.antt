@@ -58,6 +58,10 @@ rows =
     ∷ row (codes "worlds") (Label (codes "worlds") ∷ Word (codes "worlds") ∷ Label (codes "steps") ∷ Word (codes "steps") ∷ Word (codes "search") ∷ [])
     ∷ row (codes "states") (Label (codes "states") ∷ Word (codes "states") ∷ Label (codes "depth") ∷ Word (codes "depth") ∷ Text (codes "search") ∷ [])
     ∷ row (codes "endless") (Label (codes "no") ∷ Label (codes "ending:") ∷ Label (codes "it") ∷ Label (codes "goes") ∷ Label (codes "on") ∷ Label (codes "for") ∷ Label (codes "ever") ∷ [])
+    ∷ row (codes "stuck") (Label (codes "stuck") ∷ Word (codes "thread") ∷ Label (codes "for") ∷ Label (codes "ever,") ∷ Label (codes "steps") ∷ Word (codes "steps") ∷ [])
+    ∷ row (codes "cut") (Label (codes "stuck") ∷ Label (codes "for") ∷ Label (codes "ever:") ∷ Label (codes "cut") ∷ [])
+    ∷ row (codes "next") (Label (codes "next") ∷ Word (codes "item") ∷ [])
+    ∷ row (codes "item") (Label (codes "schedule") ∷ Label (codes "item") ∷ Ended (codes "item") ∷ Text (codes "text") ∷ [])
     ∷ row (codes "lint") (Label (codes "line") ∷ Word (codes "line") ∷ Label (codes "column") ∷ Ended (codes "column") ∷ Text (codes "text") ∷ [])
     ∷ []
 

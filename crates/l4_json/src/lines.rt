@@ -4,7 +4,7 @@ ghost use Rattle.std.specs.Option.{option_copied};
 ghost use Rattle.json.specs.Json.{document};
 ghost use Rattle.json.specs.Print.{quoted};
 ghost use Rattle.l4_words.specs.Words.{words_left};
-ghost use Rattle.l4_json.specs.Lines.{json_text, text_of};
+ghost use Rattle.l4_json.specs.Lines.{json_text, lines_told, text_of, whole_lines};
 ghost use Rattle.l4_json.specs.Objects.{One, behind_text, member_text, row_text};
 ghost use Rattle.l4_json.specs.Rows.{line_in, told};
 ghost use Rattle.l4_json.specs.Views.{more_of, part_of};
@@ -149,4 +149,9 @@ pub fn json_text(alloc: Global, text: &[u8]) -> Result<Vec<u8>, NoMemory>
 pub fn law_line_again()
     ensures { (line : List ℕ) (more : List (List ℕ × List ℕ)) →
         option_and_then line_in (document (text_of line more)) ≡ Some line }
+{}
+
+/// The objects of a text tell its lines again.
+pub fn law_lines_again()
+    ensures { (text : List ℕ) → lines_told (json_text text) ≡ whole_lines text }
 {}

@@ -235,6 +235,39 @@ pub const ROWS: &[Row] = &[
         ],
     },
     Row {
+        kind: "stuck",
+        parts: &[
+            Part::Label("stuck"),
+            Part::Word("thread"),
+            Part::Label("for"),
+            Part::Label("ever,"),
+            Part::Label("steps"),
+            Part::Word("steps"),
+        ],
+    },
+    Row {
+        kind: "cut",
+        parts: &[
+            Part::Label("stuck"),
+            Part::Label("for"),
+            Part::Label("ever:"),
+            Part::Label("cut"),
+        ],
+    },
+    Row {
+        kind: "next",
+        parts: &[Part::Label("next"), Part::Word("item")],
+    },
+    Row {
+        kind: "item",
+        parts: &[
+            Part::Label("schedule"),
+            Part::Label("item"),
+            Part::Ended("item"),
+            Part::Text("text"),
+        ],
+    },
+    Row {
         kind: "lint",
         parts: &[
             Part::Label("line"),

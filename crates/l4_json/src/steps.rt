@@ -1,6 +1,6 @@
 //! The steps of a history as objects.
 ghost use Rattle.std.specs.Prelude.{◌≡◌, ◌++◌, IfOk, OnOk, codes, decimal, is_some, option_map, true};
-ghost use Rattle.std.specs.List.{join_with_byte};
+ghost use Rattle.std.specs.List.{join_with_byte, list_all};
 ghost use Rattle.std.specs.Option.{option_copied};
 ghost use Rattle.l4_model.specs.History.{IsHistory};
 ghost use Rattle.l4_model.specs.Steps.{next};
@@ -8,7 +8,7 @@ ghost use Rattle.l4_model.specs.World.{opening};
 ghost use Rattle.l4_types.specs.StepView.{seen};
 ghost use Rattle.l4_words.specs.Threads.{id_word};
 ghost use Rattle.l4_audit.specs.Audited.{IsPlaced};
-ghost use Rattle.l4_trace.specs.Lines.{words_of};
+ghost use Rattle.l4_trace.specs.Lines.{has_line, words_of};
 ghost use Rattle.l4_json.specs.Lines.{text_of};
 ghost use Rattle.l4_json.specs.Steps.{behind, destination, runner, step_destination, step_line};
 ghost use Rattle.l4_json.specs.Steps.{step_text, steps_text, told_under};
@@ -165,7 +165,9 @@ fn push_both(
 
 // The line of a step in a trace, without its end.
 fn trace_line(alloc: Global, step: &StepRef<'_>) -> Result<Vec<u8>, NoMemory>
-    ensures { IfOk result (λ line. line.items ≡ join_with_byte 32 (words_of (seen step.now))) }
+    ensures line { IfOk result (λ line.
+        line.items ≡ join_with_byte 32 (words_of (seen step.now))) }
+    ensures spelled { IfOk result (λ line. has_line (seen step.now) ≡ true) }
 {
     let mut line = Vec::new(alloc);
     write_step(step, &mut line)?;
@@ -189,6 +191,7 @@ fn push_step(
     ensures told { OnOk result (out.new.items ≡ out.old.items ++
         step_text world.old.machine lines.now world.old.world
         (behind world.old.machine world.old.world (seen step.now)) (seen step.now)) }
+    ensures spelled { OnOk result (has_line (seen step.now) ≡ true) }
 {
     let number = step_line(world, lines, step);
     take(world, step)?;
@@ -210,8 +213,9 @@ pub fn push_steps(
     out: &mut Vec<u8>,
 ) -> Result<(), NoMemory>
     requires { IsHistory machine.now history.now.steps }
-    ensures { OnOk result (out.new.items ≡ out.old.items ++
+    ensures told { OnOk result (out.new.items ≡ out.old.items ++
         steps_text machine.now lines.now (opening machine.now) history.now.steps) }
+    ensures spelled { OnOk result (list_all has_line history.now.steps ≡ true) }
 {
     let mut world = World::new(alloc, machine)?;
     for place in 0..history.len() {

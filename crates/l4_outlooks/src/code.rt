@@ -19,6 +19,9 @@ use l4_thread::thread::Thread;
 use l4_types::owed::Owed;
 use std::alloc::{AllocError, Global};
 
+// Most codes are not longer.
+const USUAL_LEN: usize = 256;
+
 /// The code of a world. It leaves out clocks, when phases and sends began, numbers of sends, and of
 /// deleted threads their registers, their place, and the order of what waits at them.
 ///
@@ -28,6 +31,7 @@ pub(crate) fn code_of(alloc: Global, world: &World<'_>) -> Result<Vec<u8>, Alloc
         ≡ bytes_of (code_of world.now.machine world.now.world)) }
 {
     let mut code = Code::new(alloc);
+    code.reserve(USUAL_LEN)?;
     put_threads(&mut code, world)?;
     put_lists(&mut code, world)?;
     put_all_owed(&mut code, world.owed())?;

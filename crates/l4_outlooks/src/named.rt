@@ -1,5 +1,5 @@
 //! The steps that entries name.
-ghost use Rattle.std.specs.Prelude.{◌≡◌, ◌<◌, false, get_or, Some};
+ghost use Rattle.std.specs.Prelude.{◌≡◌, ◌<◌, false, get_or, None, Some};
 ghost use Rattle.std.specs.Option.{option_map};
 ghost use Rattle.l4_model.specs.Conditions.{act_of};
 ghost use Rattle.l4_model.specs.Steps.{order_of};
@@ -15,6 +15,19 @@ use l4_types::steps::Name;
 
 /// The number of entries of a thread: one for each kind of step, in the order of the table of steps.
 pub(crate) const KINDS: u32 = 14;
+
+/// Whether an entry may name a step that is possible. It costs less than to ask which.
+pub(crate) fn may_name(world: &World<'_>, entry: u32) -> bool
+    ensures { result ≡ false → named_step world.now.machine world.now.world entry ≡ None }
+{
+    if entry >= world.machine().threads().len() as u32 * KINDS {
+        return true;
+    }
+    match world.found_at((entry / KINDS) as usize) {
+        Some(thread) => is_in_for(&thread, entry % KINDS),
+        None => false,
+    }
+}
 
 /// The step that an entry names, if its thread is in for a step of this kind, and a trace can tell
 /// it. All others are not possible. Entries of threads come first, then those of owed retargets.

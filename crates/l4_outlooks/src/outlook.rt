@@ -15,12 +15,12 @@ mod looks;
 
 use crate::alone::Alone;
 use crate::code::code_of;
-use crate::named::{KINDS, named};
+use crate::named::{KINDS, may_name, named};
 use crate::timed::know_times;
 use l4_audit::world::World;
 use l4_script::machine::Machine;
 use l4_types::errors::NoMemory;
-use l4_types::step_ref::StepRef;
+use l4_types::step_ref::{DeliveryRef, StepRef};
 use l4_types::steps::Step;
 use std::alloc::{AllocError, Global};
 use std::marker::Model;
@@ -76,9 +76,21 @@ impl<'m> Outlook<'m> {
         ensures ok { OnOk result (IsBehind self.old entry self.new) }
         ensures err { OnErr result (self.new ≡ self.old) }
     {
-        if let Some(step) = self.step(entry) {
-            self.world.take_late(&StepRef::from(&step))?;
-            self.taken += 1;
+        let Some(step) = self.open_step(entry) else {
+            return Ok(());
+        };
+        match step.as_delivery() {
+            Ok(delivery) => {
+                // Its words are copied, since they are those of the world that changes.
+                let delivery = delivery.to_delivery();
+                self.world
+                    .take_late(&Step::Deliver(DeliveryRef::from(&delivery)))?;
+                self.taken += 1;
+            }
+            Err(step) => {
+                self.world.take_late(&step)?;
+                self.taken += 1;
+            }
         }
         Ok(())
     }
@@ -91,8 +103,21 @@ impl<'m> Outlook<'m> {
         Some(step.to_step())
     }
 
-    // The step that an entry names, if it is possible here.
+    // The step that an entry names, if it is possible here. Most entries name none.
     fn open_step(&self, entry: u32) -> Option<StepRef<'_>>
+        ensures { option_map seen result ≡ open_step self.now.machine self.now.world entry }
+    {
+        self.world.machine().facts();
+        if may_name(&self.world, entry) {
+            self.named_step(entry)
+        } else {
+            None
+        }
+    }
+
+    // The same, for an entry that may name one: what may hold a step is cleared first.
+    #[inline(never)]
+    fn named_step(&self, entry: u32) -> Option<StepRef<'_>>
         ensures { option_map seen result ≡ open_step self.now.machine self.now.world entry }
     {
         self.world.machine().facts();

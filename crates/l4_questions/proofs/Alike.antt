@@ -1,25 +1,41 @@
 -- Core runs that come to rest in similar states are stuck alike.
-use Rattle.std.proofs.Common.{◌≡◌, ℕ, zero, suc, Bool, true, not, Some, List, [], ◌∷◌, length, map, refl, ap, ap₂, sym, ◌∙◌}
-use Rattle.std.specs.Prelude.{◌||◌, slice_get, slice_index_or}
-use Rattle.std.specs.List.{list_any, range_with_len}
+use Rattle.std.proofs.Common.{◌≡◌, ℕ, zero, suc, ◌<◌, Bool, true, Option, Some, None, List, [], ◌∷◌, filter, length, map, refl, ap, ap₂, sym, subst, ◌∙◌, arith}
+use Rattle.std.specs.Prelude.{◌||◌, is_some, slice_index_or}
+use Rattle.std.specs.List.{list_any}
+use Rattle.std.specs.Option.{option_map}
+use Rattle.std.proofs.lemmas.Bool.{and_parts}
 use Rattle.l4_model.specs.Machine.{Machine}
-use Rattle.l4_model.specs.World.{Phase, Ready, Sending, Receiving, Ordering, Ended, Deleted, Thread, World, opening_thread, receive_now}
-use Rattle.l4_model.specs.History.{reached, waiting}
+use Rattle.l4_model.specs.World.{Phase, Ready, Sending, Receiving, Ordering, Ended, Deleted, Send, Thread, World, opening_thread, receive_now}
+use Rattle.l4_model.specs.History.{reached}
+use Rattle.l4_model.proofs.Chains.{some_is}
+use Rattle.l4_model.proofs.Worlds.{reached_facts}
 use Rattle.l4_core_model.specs.Laws.{IsCoreRun}
-use Rattle.l4_core_model.specs.Local.{Local, declared, thread}
-use Rattle.l4_core_model.specs.Runs.{IsMachine, Run, System, at_rest, is_empty, told}
+use Rattle.l4_core_model.specs.Local.{Local}
+use Rattle.l4_core_model.specs.Runs.{IsMachine, Posted, Run, System, at_rest, is_empty, told}
 use Rattle.l4_similar.proofs.Threads.{at_map}
-use Rattle.l4_shifted.specs.Shifted.{IsShifted, relative_thread, timeless_phase}
+use Rattle.l4_shifted.specs.Shifted.{IsShifted, relative_thread, timeless_phase, timeless_send}
 use Rattle.l4_shifted.proofs.OfSystems.{are_bare, bare_local}
-use Rattle.l4_split.specs.Laws.{home_thread, thread_of}
 use Rattle.l4_split.proofs.Law.{RunFacts, run_facts}
-use Rattle.l4_in_common.specs.InCommon.{HaveInCommon}
-use Rattle.l4_in_common.proofs.InCommon.{in_common}
-use Rattle.l4_futures.specs.Stuck.{is_closed}
-use Rattle.l4_questions.specs.Placed.{has_closed_receive, is_closed_at, is_stuck_after, sends_after, sends_in}
-use Rattle.l4_common_lines.proofs.Sends.{common_back, empty_alike, waits_too}
+use Rattle.l4_split.proofs.Relation.Rows.{Agrees, AgreesIn, learned}
+use Rattle.l4_split.proofs.Relation.Views.{home, is_about, kept, locators, nowhere, scene}
+use Rattle.l4_in_common.specs.InCommon.{thread_at}
+use Rattle.l4_futures.specs.Stuck.{is_closed, is_stuck_thread, is_stuck_world}
 
--- A receive is closed by who it is from, and not by when it began.
+-- A thread of the world is stuck as the one at home with which it agrees.
+agrees : (a t : Thread) (p : Phase) → t.phase ≡ p → AgreesIn p a t →
+    is_stuck_thread a ≡ is_stuck_thread t
+agrees a t Ready is one = ap is_stuck_thread one
+agrees a t Sending is one = ap is_stuck_thread one
+agrees a t (Receiving receive since) is one =
+    ap is_stuck_thread one.same
+    ∙ ap (λ (p : Phase). is_some t.send || is_closed (receive_now p)) (sym is)
+agrees a t Ordering is one = ap is_stuck_thread one
+agrees a t Ended is one = ap is_stuck_thread one
+agrees a t Deleted is one =
+    ap₂ (λ (o : Option Send) (p : Phase). is_some o || is_closed (receive_now p)) one.send
+    (one.deleted ∙ sym is)
+
+-- When it began to wait does not count.
 
 closed_timeless : (p : Phase) → is_closed (receive_now (timeless_phase p)) ≡ is_closed (receive_now p)
 closed_timeless Ready = refl
@@ -29,83 +45,83 @@ closed_timeless Ordering = refl
 closed_timeless Ended = refl
 closed_timeless Deleted = refl
 
+sends_timeless : (o : Option Send) → is_some (option_map timeless_send o) ≡ is_some o
+sends_timeless None = refl
+sends_timeless (Some send) = refl
+
+stuck_timeless : (t : Thread) → is_stuck_thread (relative_thread t) ≡ is_stuck_thread t
+stuck_timeless t = ap₂ (λ (b c : Bool). b || c) (sends_timeless t.send) (closed_timeless t.phase)
+
+-- At rest each thread of the world agrees with the one at home.
+
+abbrev at_home : Machine → System → (place : ℕ) → Thread
+at_home m g place = (kept (slice_index_or g.locals (home m place) nowhere) place).thread
+
+no_mail : (mail : List Posted) → is_empty mail ≡ true → mail ≡ []
+no_mail [] is = refl
+no_mail (p ∷ ps) is = cc
+
+stuck_at_home : (m : Machine) (r : Run) (f : RunFacts m r) → at_rest m r.system ≡ true →
+    (place : ℕ) → place < length m.threads →
+    is_stuck_thread (thread_at f.world place) ≡ is_stuck_thread (at_home m r.system place)
+stuck_at_home m r f rest place inside =
+    let t = at_home m r.system place in
+    let plain : Agrees m (thread_at f.world place) t
+    = subst (λ mail. Agrees m (thread_at f.world place)
+    (learned (locators (filter (is_about m place) mail))
+    (kept (slice_index_or r.system.locals (home m place) nowhere) place).clock t))
+    (no_mail r.system.mail (and_parts _ _ rest).1) (f.relates.places place inside tt).known.agrees in
+    agrees (thread_at f.world place) t t.phase refl plain.by_phase
+
 -- Similar states have one thread at home, but for how many sends it began, and when.
 
-thread_like : (l k : Local) (i : ℕ) → map relative_thread l.threads ≡ map relative_thread k.threads →
-    relative_thread (thread l i) ≡ relative_thread (thread k i)
-thread_like l k i e =
-    sym (at_map relative_thread l.threads i opening_thread)
-    ∙ ap (λ (ts : List Thread). slice_index_or ts i opening_thread) e
-    ∙ at_map relative_thread k.threads i opening_thread
+home_like : (ls ks : List Local) (cpu : ℕ) → map bare_local ls ≡ map bare_local ks →
+    map relative_thread (slice_index_or ls cpu nowhere).threads
+    ≡ map relative_thread (slice_index_or ks cpu nowhere).threads
+home_like [] [] cpu e = refl
+home_like [] (k ∷ ks) cpu e = cc
+home_like (l ∷ ls) [] cpu e = cc
+home_like (l ∷ ls) (k ∷ ks) zero e =
+    let one : bare_local l ≡ bare_local k = cc in ap (λ (x : Local). x.threads) one
+home_like (l ∷ ls) (k ∷ ks) (suc cpu) e =
+    let others : map bare_local ls ≡ map bare_local ks = cc in home_like ls ks cpu others
 
-home_like : (ls ks : List Local) (cpu i : ℕ) → map bare_local ls ≡ map bare_local ks →
-    relative_thread (thread_of i (slice_get ls cpu)) ≡ relative_thread (thread_of i (slice_get ks cpu))
-home_like [] [] cpu i e = refl
-home_like [] (k ∷ ks) cpu i e = cc
-home_like (l ∷ ls) [] cpu i e = cc
-home_like (l ∷ ls) (k ∷ ks) zero i e =
-    let one : bare_local l ≡ bare_local k = cc in
-    thread_like l k i (ap (λ (x : Local). x.threads) one)
-home_like (l ∷ ls) (k ∷ ks) (suc cpu) i e =
-    let others : map bare_local ls ≡ map bare_local ks = cc in home_like ls ks cpu i others
+same_at_home : (m : Machine) (g h : System) (place : ℕ) → IsShifted g h →
+    is_stuck_thread (at_home m g place) ≡ is_stuck_thread (at_home m h place)
+same_at_home m g h place similar =
+    let at : System → List Thread
+    = λ k. (slice_index_or k.locals (home m place) nowhere).threads in
+    sym (stuck_timeless (at_home m g place))
+    ∙ ap is_stuck_thread
+    (sym (at_map relative_thread (at g) place opening_thread)
+    ∙ ap (λ (ts : List Thread). slice_index_or ts place opening_thread)
+    (home_like g.locals h.locals (home m place) (are_bare g h similar).locals)
+    ∙ at_map relative_thread (at h) place opening_thread)
+    ∙ stuck_timeless (at_home m h place)
 
-closed_alike : (m : Machine) (g h : System) (place : ℕ) → IsShifted g h →
-    is_closed_at m g place ≡ is_closed_at m h place
-closed_alike m g h place similar =
-    let one = home_thread m g.locals place in
-    let other = home_thread m h.locals place in
-    sym (closed_timeless one.phase)
-    ∙ ap (λ (t : Thread). is_closed (receive_now t.phase))
-    (home_like g.locals h.locals (declared m place).cpu place (are_bare g h similar).locals)
-    ∙ closed_timeless other.phase
+any_alike : (ts us : List Thread) → length ts ≡ length us → ((i : ℕ) → i < length ts →
+    is_stuck_thread (slice_index_or ts i opening_thread)
+    ≡ is_stuck_thread (slice_index_or us i opening_thread)) →
+    list_any is_stuck_thread ts ≡ list_any is_stuck_thread us
+any_alike [] [] same each = refl
+any_alike [] (u ∷ us) same each = cc
+any_alike (t ∷ ts) [] same each = cc
+any_alike (t ∷ ts) (u ∷ us) same each =
+    ap₂ (λ (b c : Bool). b || c) (each 0 (omega arith))
+    (any_alike ts us (omega (arith, same)) (λ i inside. each (suc i) (omega (arith, inside))))
 
-any_alike : (p q : ℕ → Bool) → ((i : ℕ) → p i ≡ q i) → (is : List ℕ) →
-    list_any p is ≡ list_any q is
-any_alike p q e [] = refl
-any_alike p q e (i ∷ is) =
-    ap (λ (b : Bool). b || list_any p is) (e i)
-    ∙ ap (λ (b : Bool). q i || b) (any_alike p q e is)
-
-pub closed_receive_alike : (m : Machine) (g h : System) → IsShifted g h →
-    has_closed_receive m g ≡ has_closed_receive m h
-closed_receive_alike m g h similar =
-    any_alike (is_closed_at m g) (is_closed_at m h) (λ i. closed_alike m g h i similar)
-    (range_with_len 0 (length m.threads))
-
--- The worlds that two such runs reach, and what they have in common.
-pub record AreCommon (m : Machine) (r s : Run) : Type 0 where
-  pub one : World
-  pub other : World
-  pub reaches_one : reached m (told r.events) ≡ Some one
-  pub reaches_other : reached m (told s.events) ≡ Some other
-  pub alike : HaveInCommon m one other
-  pub back : HaveInCommon m other one
-
-pub are_common : (m : Machine) → IsMachine m → (r s : Run) → IsCoreRun m r → IsCoreRun m s →
-    at_rest m r.system ≡ true → IsShifted r.system s.system → AreCommon m r s
-are_common m machine r s run other rest similar =
-    let f : RunFacts m r = run_facts m r machine run in
-    let k : RunFacts m s = run_facts m s machine other in
-    let alike = in_common m machine r s f.world k.world run other rest similar f.reaches k.reaches in
-    record {
-      one = f.world;
-      other = k.world;
-      reaches_one = f.reaches;
-      reaches_other = k.reaches;
-      alike = alike;
-      back = common_back m f.world k.world alike;
-    }
-
-pub stuck_alike : (m : Machine) (r s : Run) → AreCommon m r s → IsShifted r.system s.system →
-    is_stuck_after m r ≡ is_stuck_after m s
-stuck_alike m r s c similar =
-    let here = ap (sends_in m r) c.reaches_one in
-    let there = ap (sends_in m s) c.reaches_other in
-    let sends : is_empty (sends_after m r) ≡ is_empty (sends_after m s)
-    = ap is_empty here
-    ∙ empty_alike (waiting m c.one (told r.events)) (waiting m c.other (told s.events))
-    (waits_too m c.one c.other (told r.events) (told s.events) c.reaches_other c.alike)
-    (waits_too m c.other c.one (told s.events) (told r.events) c.reaches_one c.back)
-    ∙ sym (ap is_empty there) in
-    ap₂ (λ (none closed : Bool). not none || closed) sends
-    (closed_receive_alike m r.system s.system similar)
+pub stuck_alike : (m : Machine) → IsMachine m → (r s : Run) → IsCoreRun m r → IsCoreRun m s →
+    at_rest m r.system ≡ true → at_rest m s.system ≡ true → IsShifted r.system s.system →
+    (w v : World) → reached m (told r.events) ≡ Some w → reached m (told s.events) ≡ Some v →
+    is_stuck_world w ≡ is_stuck_world v
+stuck_alike m machine r s run other rests stays similar w v here there =
+    let f = run_facts m r machine run in
+    let g = run_facts m s machine other in
+    let one = (reached_facts m (told r.events) f.world f.reaches).threads_counted in
+    let two = (reached_facts m (told s.events) g.world g.reaches).threads_counted in
+    ap is_stuck_world (some_is w f.world (sym here ∙ f.reaches))
+    ∙ any_alike f.world.threads g.world.threads (one ∙ sym two) (λ i inside.
+    let among : i < length m.threads = omega (arith, inside, one) in
+    stuck_at_home m r f rests i among ∙ same_at_home m r.system s.system i similar
+    ∙ sym (stuck_at_home m s g stays i among))
+    ∙ ap is_stuck_world (some_is g.world v (sym g.reaches ∙ there))

@@ -20,9 +20,9 @@ use Rattle.l4_futures.specs.Stuck.{is_closed, is_stuck_thread, is_stuck_world}
 use Rattle.l4_reports.specs.ReportLines.{report_text}
 use Rattle.l4_types.specs.declared.reports.Ending.TheVariants.{Quiet}
 use Rattle.l4_waits.specs.Lines.{waits_text}
-use Rattle.l4_questions.specs.Answers.{ending_after, ending_in, ending_or_none}
+use Rattle.l4_questions.specs.Answers.{ending_after, report_in}
 use Rattle.l4_questions.specs.Endings.{Ending}
-use Rattle.l4_questions.specs.Waiting.{is_stuck_wait, report_by}
+use Rattle.l4_questions.specs.Found.{is_stuck_wait, report_by}
 
 -- A thread that waits for ever is one of those that wait.
 
@@ -75,40 +75,25 @@ never_refused m h place is first =
     let all = subst (IsHistory m) (sym (take_all (length h) h whole)) is in
     omega (arith, first.within, first.is_longest (length h) whole all)
 
--- What is told of a trace is what is told of the world that its audit has come to.
-
-told_as : {X : Type 0} (f : Ending → X) (m : Machine) (h : List Step) (a : Auditing) →
-    IsReached m h a → f (ending_after m h) ≡ f (ending_in m h a.at.world)
-told_as f m h a is = ap (λ o. f (ending_or_none m h o)) is.reached_by
-
-pub report_is : (m : Machine) (h : List Step) (a : Auditing) → IsReached m h a →
-    report_by a ≡ (ending_after m h).report
-report_is m h a is =
+-- What is told of the world that an audit has come to is what is told of its trace.
+pub found_is : (m : Machine) (h : List Step) (a : Auditing) (head report : List ℕ) (stuck : Bool)
+    (waits : List (GlobalId × Wait)) → IsReached m h a → report ≡ report_by a →
+    waits ≡ waits_in a.at.machine a.at.world → stuck ≡ list_any (λ x. is_stuck_wait x.1) waits →
+    record {
+      head = head;
+      report = report;
+      waits = waits_text a.at.machine a.at.world;
+      is_stuck = stuck;
+    } ≡ record (ending_after m h) { head = head }
+found_is m h a head report stuck waits is told found any =
     let w = a.at.world in
-    ap (λ x. report_text (view x w) (filter_map (waiting_send x w) a.begun) Quiet) is.machine
+    let reports : report ≡ report_in m h w
+    = told
+    ∙ ap (λ x. report_text (view x w) (filter_map (waiting_send x w) a.begun) Quiet) is.machine
     ∙ ap (λ s. report_text (view m w) s Quiet)
-    (ap (filter_map (waiting_send m w)) is.begun ∙ waiting_begun m w h)
-    ∙ sym (told_as (λ e. e.report) m h a is)
-
-pub stuck_is : (m : Machine) (h : List Step) (a : Auditing) (waits : List (GlobalId × Wait)) →
-    IsReached m h a → waits ≡ waits_in a.at.machine a.at.world →
-    list_any (λ x. is_stuck_wait x.1) waits ≡ (ending_after m h).is_stuck
-stuck_is m h a waits is found =
-    let w = a.at.world in
-    ap (list_any (λ x. is_stuck_wait x.1)) (found ∙ ap (λ x. waits_in x w) is.machine)
-    ∙ any_stuck m w (reached_facts m h w is.reached_by).threads_counted
-    ∙ sym (told_as (λ e. e.is_stuck) m h a is)
-
-waits_are : (m : Machine) (h : List Step) (a : Auditing) (old new : List ℕ) →
-    IsReached m h a → new ≡ old ++ waits_text a.at.machine a.at.world →
-    new ≡ old ++ (ending_after m h).waits
-waits_are m h a old new is written =
-    written ∙ ap (λ x. old ++ waits_text x a.at.world) is.machine
-    ∙ ap (λ (text : List ℕ). old ++ text) (sym (told_as (λ e. e.waits) m h a is))
-
-pub waits_if_ok : {A E : Type 0} (r : Result A E) (m : Machine) (h : List Step) (a : Auditing)
-    (old new : List ℕ) → IsReached m h a →
-    OnOk r (new ≡ old ++ waits_text a.at.machine a.at.world) →
-    OnOk r (new ≡ old ++ (ending_after m h).waits)
-waits_if_ok (Ok x) m h a old new is written = waits_are m h a old new is written
-waits_if_ok (Err e) m h a old new is written = tt
+    (ap (filter_map (waiting_send m w)) is.begun ∙ waiting_begun m w h) in
+    let stucks : stuck ≡ is_stuck_world w
+    = any ∙ ap (list_any (λ x. is_stuck_wait x.1)) (found ∙ ap (λ x. waits_in x w) is.machine)
+    ∙ any_stuck m w (reached_facts m h w is.reached_by).threads_counted in
+    let texts : waits_text a.at.machine w ≡ waits_text m w = ap (λ x. waits_text x w) is.machine in
+    rw (reports, stucks, texts, is.reached_by) refl

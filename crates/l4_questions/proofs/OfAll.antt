@@ -1,131 +1,62 @@
--- What is asked of the endings that were found is asked of all core runs that come to rest.
-use Rattle.std.proofs.Common.{◌≡◌, ℕ, zero, suc, ◌<◌, Bool, true, false, cond, Option, Some, None, List, [], ◌∷◌, ◌++◌, length, map, refl, ap, sym, subst, ◌∙◌, arith}
-use Rattle.std.specs.Prelude.{filter}
-use Rattle.std.specs.List.{AllByRecursion, list_all}
-use Rattle.std.proofs.lemmas.Bool.{and_parts}
+-- A listed ending stands for each one that a history comes to, and for each core run that comes to
+-- rest.
+use Rattle.std.proofs.Common.{◌≡◌, ℕ, zero, suc, ◌<◌, Bool, true, false, cond, Some, List, [], ◌∷◌, length, map, refl, ap, sym, subst, ◌∙◌, arith}
+use Rattle.std.specs.Prelude.{filter, slice_get}
+use Rattle.std.specs.List.{AllByRecursion}
+use Rattle.std.proofs.lemmas.Option.{slice_get-get_or}
 use Rattle.l4_model.specs.Machine.{Machine}
 use Rattle.l4_model.specs.World.{World}
-use Rattle.l4_model.specs.Conditions.{◌>>=◌}
+use Rattle.l4_model.specs.Steps.{Step}
+use Rattle.l4_model.proofs.Chains.{get-map}
 use Rattle.l4_core_model.specs.Laws.{IsCoreRun}
-use Rattle.l4_core_model.specs.Runs.{Action, Happened, IsMachine, Run, at_rest, happens, opening_run, then_event, told}
-use Rattle.l4_core_model.specs.Schedules.{or_stays}
-use Rattle.l4_merge.proofs.CoreRuns.{core_run-append}
-use Rattle.l4_choices.specs.Entries.{Entry, entry_event, replay_entries, replays}
-use Rattle.l4_common_lines.specs.CommonLines.{may_be_asked, report_at, HaveLinesInCommon}
-use Rattle.l4_common_lines.proofs.Expected.{met_alike}
-use Rattle.l4_common_lines.proofs.Lines.{lines_in_common}
-use Rattle.l4_states.specs.Endings.{AreAllEndings, IsEnding, ending_at}
-use Rattle.l4_expect.specs.Expected.{Expected}
-use Rattle.l4_lines.specs.Lines.{has_line}
-use Rattle.l4_reports.specs.ReportLines.{ending_at_rest, report_text}
-use Rattle.l4_questions.specs.Asked.{asked_of, is_asked}
+use Rattle.l4_core_model.specs.Runs.{IsMachine, Run, told}
+use Rattle.l4_choices.specs.Entries.{Entry, replay_entries}
+use Rattle.l4_common_lines.proofs.AsGood.{in_common as as_good_in_common}
+use Rattle.l4_common_lines.proofs.Sends.{common_back}
+use Rattle.l4_in_common.proofs.InCommon.{in_common}
+use Rattle.l4_split.proofs.Law.{run_facts}
+use Rattle.l4_states.specs.Endings.{AreAllEndings, IsAmong, IsEnding, ending_at}
+use Rattle.l4_futures.specs.Endings.{AreAllEndings as AreAllWorldEndings, IsEnding as IsWorldEnding}
+use Rattle.l4_futures.proofs.Stuck.{stuck_same}
+use Rattle.l4_quiet.proofs.Replays.{replay_run}
+use Rattle.l4_questions.specs.Answers.{ending_after, ending_in, ending_or_none, endings_after}
+use Rattle.l4_questions.specs.Asked.{is_asked}
 use Rattle.l4_questions.specs.Endings.{Ending}
-use Rattle.l4_questions.specs.Met.{EachRunIsMet}
-use Rattle.l4_questions.specs.Placed.{is_stuck_after, placed_ending, placed_endings, report_after, report_of_run, sends_in, threads_in, world_after, IsPlacedAnswer}
-use Rattle.l4_questions.specs.Printed.{meets}
-use Rattle.l4_questions.specs.Runs.{AsksForLines, ComesToRest, NoneIsAsked, StandsFor}
+use Rattle.l4_questions.specs.Placed.{ending_of_run, placed_ending, placed_endings}
+use Rattle.l4_questions.specs.Runs.{ComesToRest}
 use Rattle.l4_questions.specs.declared.question.Question.{Question}
-use Rattle.l4_questions.specs.declared.question.Wanted.TheVariants.{NoEnding, Whatever}
-use Rattle.l4_questions.proofs.Alike.{AreCommon, are_common, stuck_alike}
-use Rattle.l4_questions.proofs.Asking.{asked_alike}
-use Rattle.l4_questions.proofs.Statuses.{by_status, met_by_status}
-use Rattle.l4_questions.proofs.Telling.{all_told}
+use Rattle.l4_questions.proofs.Alike.{stuck_alike}
+use Rattle.l4_questions.proofs.Asking.{worlds_like, AreLike, IsLikeOne}
 
--- A replay is a core run.
+pub found : (m : Machine) (traces : List (List Step)) (depth : ℕ) →
+    AreAllWorldEndings m traces depth true → (h : List Step) (w : World) → IsWorldEnding m h w →
+    IsLikeOne (endings_after m traces) (ending_in m h w)
+found m traces depth all h w ending =
+    let one = all.whole refl h w ending in
+    record {
+      place = one.place;
+      listed = ending_after m one.trace;
+      at = get-map (ending_after m) traces one.place one.trace one.at;
+      like =
+          worlds_like m h one.trace w one.world ending.comes.reaches one.reaches
+          (as_good_in_common m w one.world one.as_good) (stuck_same w one.world one.as_good);
+    }
 
-one_more : (m : Machine) (r : Run) (o : Option Action) → IsCoreRun m r →
-    IsCoreRun m (or_stays r (o >>= happens m r.system))
-one_more m r None is = is
-one_more m r (Some action) is = by (happens m r.system action) refl
-  where
-    by : (o : Option Happened) → happens m r.system action ≡ o → IsCoreRun m (or_stays r o)
-    by None none = is
-    by (Some h) some = (
-      is.0 ++ action ∷ [],
-      core_run-append m is.0 (action ∷ []) (opening_run m) r (then_event r h) is.1 (rw some refl),
-    )
-
-replays_run : (m : Machine) (entries : List Entry) (r : Run) → IsCoreRun m r →
-    IsCoreRun m (replays m r entries)
-replays_run m [] r is = is
-replays_run m (entry ∷ entries) r is =
-    replays_run m entries (or_stays r (entry_event m r.system entry >>= happens m r.system))
-    (one_more m r (entry_event m r.system entry) is)
-
-pub replay_run : (m : Machine) (entries : List Entry) → IsCoreRun m (replay_entries m entries)
-replay_run m entries = replays_run m entries (opening_run m) ([], refl)
-
--- The ending at a place
-
+-- The ending at a place is of a run that rests.
 at_place : (P : List Entry → Type 0) (endings : List (List Entry)) (i : ℕ) → i < length endings →
     AllByRecursion P endings → P (ending_at endings i)
 at_place P [] i inside all = absurd (omega (arith, inside))
 at_place P (e ∷ es) zero inside all = all.0
 at_place P (e ∷ es) (suc i) inside all = at_place P es i (omega (arith, inside)) all.1
 
--- What a list without such elements has is not such.
-none_such : (f : List Entry → Ending) (p : Ending → Bool) (endings : List (List Entry)) (i : ℕ) →
-    i < length endings → filter p (map f endings) ≡ [] → p (f (ending_at endings i)) ≡ false
-none_such f p [] i inside none = absurd (omega (arith, inside))
-none_such f p (e ∷ es) i inside none = by i inside (p (f e)) refl none (none_such f p es)
-  where
-    by : (i : ℕ) → i < suc (length es) → (b : Bool) → p (f e) ≡ b →
-        cond b (f e ∷ filter p (map f es)) (filter p (map f es)) ≡ [] →
-        ((i : ℕ) → i < length es → filter p (map f es) ≡ [] → p (f (ending_at es i)) ≡ false) →
-        p (f (ending_at (e ∷ es) i)) ≡ false
-    by i inside true is none rest = cc
-    by zero inside false is none rest = is
-    by (suc i) inside false is none rest = rest i (omega (arith, inside)) none
+-- It is that of a similar state.
+pub record StandsWith (m : Machine) (endings : List (List Entry)) (r : Run) : Type 0 where
+  pub among : IsAmong m endings r.system
+  pub like : AreLike (ending_of_run m r) (placed_ending m (ending_at endings among.place))
 
--- What is so of all such elements is so of one of them.
-all_such : (f : List Entry → Ending) (p is_so : Ending → Bool) (endings : List (List Entry))
-    (i : ℕ) → i < length endings → list_all is_so (filter p (map f endings)) ≡ true →
-    p (f (ending_at endings i)) ≡ true → is_so (f (ending_at endings i)) ≡ true
-all_such f p is_so [] i inside all such = absurd (omega (arith, inside))
-all_such f p is_so (e ∷ es) i inside all such =
-    by i inside such (p (f e)) refl all (all_such f p is_so es)
-  where
-    by : (i : ℕ) → i < suc (length es) → p (f (ending_at (e ∷ es) i)) ≡ true → (b : Bool) →
-        p (f e) ≡ b → list_all is_so (cond b (f e ∷ filter p (map f es)) (filter p (map f es)))
-        ≡ true →
-        ((i : ℕ) → i < length es → list_all is_so (filter p (map f es)) ≡ true →
-        p (f (ending_at es i)) ≡ true → is_so (f (ending_at es i)) ≡ true) →
-        is_so (f (ending_at (e ∷ es) i)) ≡ true
-    by zero inside such true is all rest =
-        (and_parts (is_so (f e)) (list_all is_so (filter p (map f es))) all).0
-    by zero inside such false is all rest = absurd (let bad : false ≡ true = sym is ∙ such in cc)
-    by (suc i) inside such true is all rest =
-        rest i (omega (arith, inside))
-        (and_parts (is_so (f e)) (list_all is_so (filter p (map f es))) all).1 such
-    by (suc i) inside such false is all rest = rest i (omega (arith, inside)) all such
-
--- Reports of runs
-
-shown_as : (m : Machine) (r : Run) (w : World) → world_after m r ≡ Some w →
-    report_of_run m r ≡ report_at m (told r.events) w (ending_at_rest (at_rest m r.system))
-shown_as m r w at =
-    ap (λ (o : Option World).
-    report_text (threads_in m o) (sends_in m r o) (ending_at_rest (at_rest m r.system))) at
-
-runs_common : (m : Machine) (r s : Run) → AreCommon m r s →
-    at_rest m r.system ≡ at_rest m s.system →
-    HaveLinesInCommon (report_of_run m r) (report_of_run m s)
-runs_common m r s c rest line none =
-    ap (has_line line) (shown_as m r c.one c.reaches_one)
-    ∙ lines_in_common m c.one c.other c.alike (told r.events) (told s.events)
-    (ending_at_rest (at_rest m r.system)) c.reaches_one c.reaches_other line none
-    ∙ ap (λ (b : Bool). has_line line (report_at m (told s.events) c.other (ending_at_rest b))) rest
-    ∙ sym (ap (has_line line) (shown_as m s c.other c.reaches_other))
-
--- A listed ending stands for a run, and has lines in common with it.
-pub record StandsWith (m : Machine) (q : Question) (endings : List (List Entry)) (r : Run) : Type 0 where
-  pub stands : StandsFor m q endings r
-  pub common : HaveLinesInCommon (report_of_run m r) (report_after m (ending_at endings stands.place))
-
-pub stands_with : (m : Machine) (q : Question) (endings : List (List Entry)) (depth : ℕ) →
-    IsMachine m → AsksForLines q → AreAllEndings m endings depth true → (r : Run) →
-    ComesToRest m r → StandsWith m q endings r
-stands_with m q endings depth machine may all r run =
+pub stands_with : (m : Machine) (endings : List (List Entry)) (depth : ℕ) → IsMachine m →
+    AreAllEndings m endings depth true → (r : Run) → ComesToRest m r → StandsWith m endings r
+stands_with m endings depth machine all r run =
     let among = all.whole refl r.system (length run.actions)
     (record {
       actions = run.actions;
@@ -135,71 +66,62 @@ stands_with m q endings depth machine may all r run =
       system = refl;
       count = refl;
     }) run.rest in
-    let entries = ending_at endings among.place in
-    let s = replay_entries m entries in
+    let s = replay_entries m (ending_at endings among.place) in
     let ending = at_place (IsEnding m) endings among.place among.inside all.sound in
-    let both = are_common m machine s r (replay_run m entries) (run.actions, run.is) ending.rest
-    among.similar in
-    let common = runs_common m s r both (ending.rest ∙ sym run.rest) in
+    let own = replay_run m (ending_at endings among.place) in
+    let is : IsCoreRun m r = (run.actions, run.is) in
+    let f = run_facts m s machine own in
+    let g = run_facts m r machine is in
+    let alike = in_common m machine s r f.world g.world own is ending.rest among.similar f.reaches
+    g.reaches in
+    let stuck = stuck_alike m machine s r own is ending.rest run.rest among.similar f.world g.world
+    f.reaches g.reaches in
+    let like = worlds_like m (told r.events) (told s.events) g.world f.world g.reaches f.reaches
+    (common_back m f.world g.world alike) (sym stuck) in
+    let of_run : ending_in m (told r.events) g.world ≡ ending_of_run m r
+    = sym (ap (ending_or_none m (told r.events)) g.reaches) in
     record {
-      stands = record {
-        place = among.place;
-        inside = among.inside;
-        similar = among.similar;
-        asked =
-            asked_alike (report_of_run m s) (report_of_run m r) common q may (is_stuck_after m s)
-            (is_stuck_after m r) (stuck_alike m s r both among.similar);
-      };
-      common = λ line none. sym (common line none);
+      among = among;
+      like =
+          subst (λ e. AreLike e (placed_ending m (ending_at endings among.place))) of_run
+          (record { common = like.common; stuck = like.stuck });
     }
 
-pub stands_for : (m : Machine) (q : Question) (endings : List (List Entry)) (depth : ℕ) →
-    IsMachine m → AsksForLines q → AreAllEndings m endings depth true → (r : Run) →
-    ComesToRest m r → StandsFor m q endings r
-stands_for m q endings depth machine may all r run =
-    (stands_with m q endings depth machine may all r run).stands
+pub placed_found : (m : Machine) (endings : List (List Entry)) (depth : ℕ) → IsMachine m →
+    AreAllEndings m endings depth true → (r : Run) → ComesToRest m r →
+    IsLikeOne (placed_endings m endings) (ending_of_run m r)
+placed_found m endings depth machine all r run =
+    let one = stands_with m endings depth machine all r run in
+    record {
+      place = one.among.place;
+      listed = placed_ending m (ending_at endings one.among.place);
+      at =
+          get-map (placed_ending m) endings one.among.place (ending_at endings one.among.place)
+          (slice_get-get_or endings one.among.place [] one.among.inside);
+      like = one.like;
+    }
 
--- Status 0 where no such ending should exist
+-- The first that is asked for stands at a place.
 
-pub placed_none : (m : Machine) (q : Question) (waits : Bool) (expected : Option (List Expected))
-    (lines unmet : List ℕ) → IsMachine m → AsksForLines q → q.wanted ≡ NoEnding →
-    IsPlacedAnswer m q waits expected lines unmet 0 → NoneIsAsked m q
-placed_none m q waits expected lines unmet machine may none a r run =
-    let is = by_status q expected (placed_endings m a.endings) a.is_whole none a.told.status_is in
-    let s = stands_for m q a.endings a.depth machine may
-    (subst (AreAllEndings m a.endings a.depth) is.whole a.searched.all) r run in
-    sym s.asked ∙ none_such (placed_ending m) (is_asked q) a.endings s.place s.inside is.none
+pub record IsAskedAt (m : Machine) (q : Question) (traces : List (List Step)) : Type 0 where
+  pub place : ℕ
+  pub trace : List Step
+  pub at : slice_get traces place ≡ Some trace
+  pub asked : is_asked q (ending_after m trace) ≡ true
 
--- Each run meets what is expected where each ending that was found does.
-
-placed_met : (m : Machine) (q : Question) (expected : List Expected) (endings : List (List Entry))
-    (depth : ℕ) → IsMachine m → AsksForLines q → may_be_asked expected ≡ true →
-    AreAllEndings m endings depth true →
-    list_all (meets (Some expected)) (asked_of q (placed_endings m endings)) ≡ true →
-    EachRunIsMet m q expected
-placed_met m q expected endings depth machine lines may all met r run asked =
-    let one = stands_with m q endings depth machine lines all r run in
-    let entries = ending_at endings one.stands.place in
-    met_alike (report_of_run m r) (report_after m entries) one.common expected may
-    ∙ all_such (placed_ending m) (is_asked q) (meets (Some expected)) endings one.stands.place
-    one.stands.inside met (one.stands.asked ∙ asked)
-
-pub placed_met_of_status : (m : Machine) (q : Question) (waits : Bool) (expected : List Expected)
-    (lines unmet : List ℕ) → IsMachine m → AsksForLines q → may_be_asked expected ≡ true →
-    q.wanted ≡ Whatever → IsPlacedAnswer m q waits (Some expected) lines unmet 0 →
-    EachRunIsMet m q expected
-placed_met_of_status m q waits expected lines unmet machine asks may any a =
-    let is = met_by_status q (Some expected) (placed_endings m a.endings) a.is_whole any
-    a.told.status_is in
-    placed_met m q expected a.endings a.depth machine asks may
-    (subst (AreAllEndings m a.endings a.depth) is.whole a.searched.all) is.met
-
-pub placed_met_where_whole : (m : Machine) (q : Question) (waits : Bool)
-    (expected : List Expected) (lines : List ℕ) (status : ℕ) → IsMachine m → AsksForLines q →
-    may_be_asked expected ≡ true →
-    (a : IsPlacedAnswer m q waits (Some expected) lines [] status) → a.is_whole ≡ true →
-    EachRunIsMet m q expected
-placed_met_where_whole m q waits expected lines status machine asks may a whole =
-    placed_met m q expected a.endings a.depth machine asks may
-    (subst (AreAllEndings m a.endings a.depth) whole a.searched.all)
-    (all_told (Some expected) q (placed_endings m a.endings) a.told.unmet_are)
+pub asked_at : (m : Machine) (q : Question) (traces : List (List Step)) (first : Ending)
+    (others : List Ending) → filter (is_asked q) (endings_after m traces) ≡ first ∷ others →
+    IsAskedAt m q traces
+asked_at m q [] first others is = cc
+asked_at m q (t ∷ traces) first others is =
+    by (is_asked q (ending_after m t)) refl is (asked_at m q traces first others)
+  where
+    by : (b : Bool) → is_asked q (ending_after m t) ≡ b →
+        cond b (ending_after m t ∷ filter (is_asked q) (endings_after m traces))
+        (filter (is_asked q) (endings_after m traces)) ≡ first ∷ others →
+        (filter (is_asked q) (endings_after m traces) ≡ first ∷ others → IsAskedAt m q traces) →
+        IsAskedAt m q (t ∷ traces)
+    by true asked is rest = record { place = 0; trace = t; at = refl; asked = asked }
+    by false asked is rest =
+        let later = rest is in
+        record { place = suc later.place; trace = later.trace; at = later.at; asked = later.asked }

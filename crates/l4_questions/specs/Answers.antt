@@ -1,11 +1,11 @@
 -- The answer to a question about all histories, whatever the scheduler does and whatever time passes.
-use Rattle.std.specs.Prelude.{Bool, true, false, ◌≡◌, ◌+◌, ◌==◌, ℕ, if◌then◌else◌, Option, None, Some, option_map, IsSome, List, [], ◌∷◌, ◌++◌, codes, decimal, filter, map, Vec}
-use Rattle.std.specs.List.{AllByRecursion, list_all}
+use Rattle.std.specs.Prelude.{Bool, true, false, ◌≡◌, ℕ, zero, suc, Option, None, Some, option_map, List, [], ◌∷◌, ◌++◌, codes, decimal, filter, map, slice_get, Vec}
+use Rattle.std.specs.List.{list_all}
 use Rattle.std.proofs.Common.{Global}
 use Rattle.l4_model.specs.Machine.{Machine}
 use Rattle.l4_model.specs.World.{World}
 use Rattle.l4_model.specs.Steps.{Step}
-use Rattle.l4_model.specs.History.{IsHistory, reached, view, waiting as undecided_sends}
+use Rattle.l4_model.specs.History.{reached, view, waiting as undecided_sends}
 use Rattle.l4_all_endings.specs.Tried.{schedules_from}
 use Rattle.l4_expect.specs.Expected.{Expected}
 use Rattle.l4_futures.specs.Endings.{length_of, AreAllEndings, HasLooked, IsEnding}
@@ -24,13 +24,9 @@ use Rattle.l4_questions.specs.Stuck.{is_any, stuck_lines, stuck_status, stuck_tr
 use Rattle.l4_stuck.specs.Stuck.{Stuck}
 use Rattle.l4_questions.specs.declared.question.Question.{Question}
 
--- The histories that entries stand for, and that all of them are possible.
-
+-- The histories that entries stand for.
 abbrev pub traces_along : Machine → List (Vec ℕ Global) → List (List Step)
 traces_along m endings = map (trace_along m) (schedules_from endings)
-
-abbrev pub AreHistories : Machine → (traces : List (List Step)) → Type 0
-AreHistories m traces = AllByRecursion (IsHistory m) traces
 
 -- The ending that a trace comes to, in this world. Its first line tells how many of its steps are no
 -- ticks.
@@ -40,7 +36,7 @@ report_in m trace w = report_text (view m w) (undecided_sends m w trace) Quiet
 
 abbrev pub ending_in : Machine → (trace : List Step) → World → Ending
 ending_in m trace w = record {
-  head = codes "steps" ∷ decimal (length_of trace) ∷ [];
+  head = codes " steps " ++ decimal (length_of trace);
   report = report_in m trace w;
   waits = waits_text m w;
   is_stuck = is_stuck_world w;
@@ -119,10 +115,10 @@ pub record IsAnswer (m : Machine) (q : Question) (waits : Bool)
 abbrev pub asked_traces : Machine → Question → (traces : List (List Step)) → List (List Step)
 asked_traces m q traces = filter (λ trace. is_asked q (ending_after m trace)) traces
 
--- The element of this number, where the first has the number `first`.
-abbrev pub numbered : {A : Type 0} → (first number : ℕ) → List A → Option A
-numbered first number [] = None
-numbered first number (x ∷ xs) = if first == number then Some x else numbered (first + 1) number xs
+-- The element of this number, where the first has the number 1.
+abbrev pub numbered : {A : Type 0} → (number : ℕ) → List A → Option A
+numbered zero xs = None
+numbered (suc before) xs = slice_get xs before
 
 -- These lines are the trace of the ending that an answer gives this number. Without lines it gives
 -- the number to none.
@@ -138,10 +134,10 @@ pub record IsTraceAnswer (m : Machine) (q : Question) (number : ℕ) (lines : Op
   pub is_stuck_whole : Bool
   pub stuck_are : AreAskedStuck m q stuck is_stuck_whole
   pub told : lines ≡ option_map trace_of
-      (numbered 1 number (asked_traces m q traces ++ stuck_traces m stuck))
+      (numbered number (asked_traces m q traces ++ stuck_traces m stuck))
   -- each step of the trace has a line of its own
   pub spelled : (trace : List Step) →
-      numbered 1 number (asked_traces m q traces ++ stuck_traces m stuck) ≡ Some trace →
+      numbered number (asked_traces m q traces ++ stuck_traces m stuck) ≡ Some trace →
       list_all has_line trace ≡ true
 
 -- What status 0 says where no such ending should exist: no history comes to an ending that is asked

@@ -2,8 +2,8 @@
 use Rattle.std.specs.Prelude.{ℕ, Bool, List}
 
 pub record Ending : Type 0 where
-  -- the words behind its number
-  pub head : List (List ℕ)
+  -- what stands behind its number in its first line
+  pub head : List ℕ
   -- the lines of its report
   pub report : List ℕ
   -- the lines that tell who waits for whom there

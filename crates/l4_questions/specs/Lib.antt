@@ -1,13 +1,12 @@
 pub mod Answers
 pub mod Asked
 pub mod Endings
+pub mod Found
 pub mod Limits
 pub mod Met
 pub mod Placed
 pub mod Printed
 pub mod Quiet
 pub mod Runs
-pub mod Shown
-pub mod Waiting
 pub mod Writing
 pub mod Stuck

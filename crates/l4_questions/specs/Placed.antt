@@ -1,101 +1,42 @@
 -- The answer to a question about the runs that processors make by schedules.
-use Rattle.std.specs.Prelude.{Bool, true, false, ◌≡◌, ◌<◌, ◌≤◌, ◌==◌, ◌&&◌, ◌||◌, not, ℕ, Option, None, Some, List, [], ◌∷◌, codes, decimal, length, map}
-use Rattle.std.specs.List.{list_any, range_with_len}
-use Rattle.l4_model.specs.Words.{Id}
+use Rattle.std.specs.Prelude.{Bool, true, false, ◌≡◌, ◌<◌, ◌≤◌, ◌==◌, ◌||◌, ℕ, Option, None, List, [], ◌∷◌, ◌++◌, codes, decimal, map}
+use Rattle.std.specs.List.{list_any}
 use Rattle.l4_model.specs.Machine.{Declaration, Machine}
-use Rattle.l4_model.specs.World.{Name, World, receive_now}
-use Rattle.l4_model.specs.History.{Report, reached, view, waiting as undecided_sends}
-use Rattle.l4_core_model.specs.Runs.{Run, System, at_rest, is_empty, told}
+use Rattle.l4_core_model.specs.Runs.{Run, told}
 use Rattle.l4_choices.specs.Entries.{Entry, replay_entries}
-use Rattle.l4_split.specs.Laws.{home_thread}
 use Rattle.l4_states.specs.Endings.{AreAllEndings, AreEndings}
 use Rattle.l4_endings.specs.Deepest.{IsDeepest}
 use Rattle.l4_expect.specs.Expected.{Expected}
-use Rattle.l4_futures.specs.Stuck.{is_closed}
-use Rattle.l4_reports.specs.ReportLines.{ending_at_rest, report_text}
 use Rattle.l4_schedules.specs.Written.{schedule_text}
-use Rattle.l4_waits.specs.Lines.{waits_text}
 use Rattle.l4_words.specs.Lines.{line_of_words}
-use Rattle.l4_questions.specs.Asked.{asks}
+use Rattle.l4_questions.specs.Answers.{ending_after}
+use Rattle.l4_questions.specs.Asked.{is_asked}
 use Rattle.l4_questions.specs.Endings.{Ending}
 use Rattle.l4_questions.specs.Limits.{question_fault}
 use Rattle.l4_questions.specs.Printed.{IsTold}
 use Rattle.l4_questions.specs.declared.question.Question.{Question}
 
--- The world that the history of a core run reaches, and what a report says of it: the sends that
--- are undecided there, and its lines.
+-- The ending that a core run comes to at rest is that of the history that its events tell.
 
-abbrev pub world_after : Machine → Run → Option World
-world_after m r = reached m (told r.events)
-
-abbrev pub sends_in : Machine → Run → Option World → List (Name × Id)
-sends_in m r None = []
-sends_in m r (Some w) = undecided_sends m w (told r.events)
-
-abbrev pub threads_in : Machine → Option World → List Report
-threads_in m None = []
-threads_in m (Some w) = view m w
-
-abbrev pub sends_after : Machine → Run → List (Name × Id)
-sends_after m r = sends_in m r (world_after m r)
+abbrev pub ending_of_run : Machine → Run → Ending
+ending_of_run m r = ending_after m (told r.events)
 
 abbrev pub report_of_run : Machine → Run → List ℕ
-report_of_run m r =
-    report_text (threads_in m (world_after m r)) (sends_after m r)
-    (ending_at_rest (at_rest m r.system))
-
--- The report that the replay of entries ends with.
-abbrev pub report_after : Machine → List Entry → List ℕ
-report_after m entries = report_of_run m (replay_entries m entries)
-
--- Who waits for whom in that world.
-
-abbrev pub waits_in : Machine → Option World → List ℕ
-waits_in m None = []
-waits_in m (Some w) = waits_text m w
-
-abbrev pub waits_after : Machine → List Entry → List ℕ
-waits_after m entries = waits_in m (world_after m (replay_entries m entries))
-
--- A send waits for its receiver.
-
-abbrev pub has_waiting_send_after : Machine → Run → Bool
-has_waiting_send_after m r = not (is_empty (sends_after m r))
-
-abbrev pub has_waiting_send : Machine → List Entry → Bool
-has_waiting_send m entries = has_waiting_send_after m (replay_entries m entries)
-
--- The thread at this place is in a receive phase that takes one thread alone.
-abbrev pub is_closed_at : Machine → System → (place : ℕ) → Bool
-is_closed_at m g place = is_closed (receive_now (home_thread m g.locals place).phase)
-
-abbrev pub has_closed_receive : Machine → System → Bool
-has_closed_receive m g = list_any (is_closed_at m g) (range_with_len 0 (length m.threads))
-
--- A thread waits that may wait for ever, after a core run.
-abbrev pub is_stuck_after : Machine → Run → Bool
-is_stuck_after m r = has_waiting_send_after m r || has_closed_receive m r.system
-
-abbrev pub is_stuck : Machine → List Entry → Bool
-is_stuck m entries = is_stuck_after m (replay_entries m entries)
+report_of_run m r = (ending_of_run m r).report
 
 -- A question asks for a core run as it asks for the ending that it comes to.
 abbrev pub is_asked_after : Machine → Question → Run → Bool
-is_asked_after m q r = asks q (is_stuck_after m r) (report_of_run m r)
+is_asked_after m q r = is_asked q (ending_of_run m r)
 
--- The list of a schedule is one word. An empty schedule has no word.
-abbrev pub list_words : List Entry → List (List ℕ)
-list_words [] = []
-list_words (e ∷ entries) = schedule_text (e ∷ entries) ∷ []
+-- Behind its number stands the list of its schedule. An empty schedule has no word.
+abbrev pub list_head : List Entry → List ℕ
+list_head [] = []
+list_head (e ∷ entries) = codes " " ++ schedule_text (e ∷ entries)
 
 -- The ending that entries lead to.
 abbrev pub placed_ending : Machine → List Entry → Ending
-placed_ending m entries = record {
-  head = list_words entries;
-  report = report_after m entries;
-  waits = waits_after m entries;
-  is_stuck = is_stuck m entries;
-}
+placed_ending m entries =
+    record (ending_of_run m (replay_entries m entries)) { head = list_head entries }
 
 abbrev pub placed_endings : Machine → List (List Entry) → List Ending
 placed_endings m endings = map (placed_ending m) endings

@@ -3,7 +3,6 @@ use Rattle.std.specs.Prelude.{Bool, true, false, ◌≡◌, ◌+◌, ℕ, if◌t
 use Rattle.std.specs.List.{list_all}
 use Rattle.l4_expect.specs.Expected.{Expected}
 use Rattle.l4_expect.specs.Unmet.{are_met, expected_status, unmet_text}
-use Rattle.l4_words.specs.Lines.{line_of_words}
 use Rattle.l4_questions.specs.Asked.{asked_of}
 use Rattle.l4_questions.specs.Endings.{Ending}
 use Rattle.l4_questions.specs.declared.question.Question.{Question}
@@ -12,7 +11,7 @@ use Rattle.l4_questions.specs.declared.question.Wanted.TheVariants.{Whatever, No
 
 -- The first line of an ending has its number.
 abbrev pub head_line : (number : ℕ) → Ending → List ℕ
-head_line number e = line_of_words (codes "ending" ∷ decimal number ∷ e.head)
+head_line number e = codes "ending " ++ decimal number ++ e.head ++ codes "\n"
 
 -- Then comes its report, and who waits for whom, where that is asked for.
 abbrev pub ending_text : (waits : Bool) → (number : ℕ) → Ending → List ℕ
@@ -52,21 +51,15 @@ abbrev pub status_of_search : (is_whole : Bool) → ℕ
 status_of_search true = 0
 status_of_search false = 3
 
--- Where no such ending should exist, 4 as soon as one is found.
-abbrev pub status_of_none : List Ending → (is_whole : Bool) → ℕ
-status_of_none [] is_whole = status_of_search is_whole
-status_of_none (e ∷ asked) is_whole = 4
-
--- Where one should exist, 0 as soon as one is found, and 4 where there is none.
-abbrev pub status_of_some : List Ending → (is_whole : Bool) → ℕ
-status_of_some (e ∷ asked) is_whole = 0
-status_of_some [] true = 4
-status_of_some [] false = 3
-
+-- Where no such ending should exist, 4 as soon as one is found. Where one should exist, 0 as soon as
+-- one is found, and 4 where there is none.
 abbrev pub status_of_asked : Wanted → List Ending → (is_whole : Bool) → ℕ
 status_of_asked Whatever asked is_whole = status_of_search is_whole
-status_of_asked NoEnding asked is_whole = status_of_none asked is_whole
-status_of_asked AnEnding asked is_whole = status_of_some asked is_whole
+status_of_asked NoEnding [] is_whole = status_of_search is_whole
+status_of_asked NoEnding (e ∷ asked) is_whole = 4
+status_of_asked AnEnding (e ∷ asked) is_whole = 0
+status_of_asked AnEnding [] true = 4
+status_of_asked AnEnding [] false = 3
 
 -- As soon as an ending does not meet what is expected, the status is 4.
 abbrev pub answer_status : Option (List Expected) → Question → List Ending → (is_whole : Bool) → ℕ

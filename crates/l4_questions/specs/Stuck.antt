@@ -5,7 +5,8 @@ use Rattle.l4_model.specs.Machine.{Machine, Declaration}
 use Rattle.l4_model.specs.Steps.{Step}
 use Rattle.l4_futures.specs.Endings.{length_of}
 use Rattle.l4_futures.specs.Traces.{trace_along}
-use Rattle.l4_stuck.specs.Stuck.{Stuck, AreStuckThreads, IsStuck}
+use Rattle.l4_stuck.specs.Stuck.{stuck_from, AreStuckThreads, IsStuck, Stuck}
+use Rattle.l4_stuck.specs.declared.search.StuckThread.{StuckThread}
 use Rattle.l4_words.specs.Lines.{line_of_words}
 use Rattle.l4_words.specs.Threads.{thread_word}
 use Rattle.l4_questions.specs.declared.question.Question.{Question}
@@ -24,8 +25,8 @@ AreAsked false m stuck is_whole = (stuck ≡ []) × (is_whole ≡ true)
 abbrev pub AreAskedStuck : Machine → Question → List Stuck → (is_whole : Bool) → Type 0
 AreAskedStuck m q stuck is_whole = AreAsked (asks_who_is_stuck q) m stuck is_whole
 
-abbrev pub AreAllStuck : Machine → List Stuck → Type 0
-AreAllStuck m stuck = AllByRecursion (IsStuck m) stuck
+abbrev pub AreAllStuck : Machine → List StuckThread → Type 0
+AreAllStuck m threads = AllByRecursion (λ t. IsStuck m (stuck_from t)) threads
 
 -- A line tells the thread, and how many steps but ticks the history has that leads there.
 

@@ -1,50 +1,22 @@
 //! The answer to a question about all histories.
-ghost use Rattle.std.specs.Prelude.{◌≡◌, ◌⊎◌, ◌++◌, IfErr, IfOk, List, Some, map};
+ghost use Rattle.std.specs.Prelude.{◌≡◌, ◌⊎◌, ◌++◌, IfErr, IfOk, Some};
 ghost use Rattle.std.specs.Option.{option_copied};
-ghost use Rattle.l4_all_endings.specs.Tried.{schedules_from, AreLed};
-ghost use Rattle.l4_futures.specs.Traces.{trace_along};
-ghost use Rattle.l4_questions.specs.Answers.{endings_after, last_lines, traces_along, whole_word};
-ghost use Rattle.l4_questions.specs.Answers.{AreHistories, IsAnswer};
+ghost use Rattle.l4_questions.specs.Answers.{last_lines, whole_word, IsAnswer};
 ghost use Rattle.l4_questions.specs.Limits.{question_fault};
 ghost use Rattle.l4_questions.specs.Stuck.{stuck_lines, AreAllStuck};
-ghost use Rattle.l4_questions.specs.Writing.{AreWritten};
 ghost use Rattle.l4_stuck.specs.Stuck.{stuck_of};
 ghost use Rattle.l4_questions.specs.declared.question.QuestionFault.TheVariants.{NoMemory as OutOfMemory};
 
 use crate::beside::Beside;
-use crate::judged::{Answer, Written};
+use crate::judged::{Answer, written_endings};
 use crate::question::{Question, QuestionFault};
-use crate::reached::ReachedEnding;
 use crate::stuck::{asked_stuck, stuck_lines, stuck_status};
-use l4_all_endings::{FoundEndings, all_endings, trace_of};
+use l4_all_endings::{FoundEndings, all_endings};
 use l4_explore::progress::Progress;
 use l4_script::machine::Machine;
 use l4_stuck::FoundThreads;
 use l4_types::errors::NoMemory;
 use std::alloc::Global;
-
-// What is written of endings. It keeps one trace at a time.
-fn written(
-    alloc: Global,
-    machine: &Machine,
-    question: &Question<'_>,
-    beside: Beside<'_, '_>,
-    endings: &[Vec<u32>],
-) -> Result<Written, NoMemory>
-    requires led { AreLed machine.now (schedules_from endings.now) }
-    requires possible { AreHistories machine.now (traces_along machine.now endings.now) }
-    ensures { IfOk result (AreWritten question.now beside.entry.waits
-        (option_copied beside.entry.expected)
-        (endings_after machine.now (traces_along machine.now endings.now))) }
-{
-    let mut written = Written::new(alloc);
-    for entries in endings {
-        let trace = trace_of(alloc, machine, entries.as_slice())?;
-        let shown = ReachedEnding::new(alloc, machine, trace)?;
-        written.write(alloc, question, beside, shown)?;
-    }
-    Ok(written)
-}
 
 fn whole_word(is_whole: bool) -> &'static str
     ensures { result.now ≡ whole_word is_whole }
@@ -74,7 +46,7 @@ fn lines_behind(
     found: &FoundEndings,
     stuck: &FoundThreads,
 ) -> Result<Vec<u8>, NoMemory>
-    requires { AreAllStuck machine.now (stuck_of stuck.now.threads.items) }
+    requires { AreAllStuck machine.now stuck.now.threads.items }
     ensures { IfOk result (λ lines. lines.items ≡
         stuck_lines machine.now (stuck_of stuck.now.threads.items) stuck.now.is_whole
         ++ last_lines found.now.endings.items found.now.worlds found.now.depth found.now.is_whole) }
@@ -107,9 +79,9 @@ pub fn answer<P: Progress>(
     let (depth, most) = question.limits()?;
     let found = all_endings(alloc, machine, depth, most, progress)?;
     let stuck = asked_stuck(alloc, machine, question, depth, most, progress)?;
-    let written = written(alloc, machine, question, beside, found.endings.as_slice())?;
+    let written = written_endings(alloc, machine, question, beside, &found.endings)?;
     let last = lines_behind(alloc, machine, &found, &stuck)?;
-    let answer = written.into_answer(question, last.as_slice(), found.is_whole)?;
+    let answer = written.into_answer(question, &last, found.is_whole)?;
     Ok(Answer {
         status: stuck_status(question.wanted, &stuck, answer.status),
         ..answer

@@ -4,7 +4,7 @@ ghost use Rattle.std.specs.Option.{option_copied};
 ghost use Rattle.l4_expect.specs.Unmet.{expected_status};
 ghost use Rattle.l4_questions.specs.Printed.{told_unmet, unmet_of};
 
-use crate::shown::Shown;
+use crate::found::FoundEnding;
 use l4_expect::expectations::Expectations;
 use l4_types::errors::NoMemory;
 
@@ -30,35 +30,33 @@ impl<'e, 't> Beside<'e, 't> {
 }
 
 // Appends the expectations that an ending does not meet.
-fn tell_unmet<S: Shown>(
+fn tell_unmet(
     expected: &Expectations<'_>,
     number: usize,
-    shown: &S,
+    found: &FoundEnding<'_>,
     unmet: &mut Vec<u8>,
 ) -> Result<(), NoMemory>
-    requires { S.is_true shown.now }
     ensures { OnOk result (unmet.new.items ≡
-        unmet.old.items ++ told_unmet expected.now number (S.ending shown.now)) }
+        unmet.old.items ++ told_unmet expected.now number found.now) }
 {
-    shown.write_head(number, unmet)?;
-    expected.write_unmet(shown.report(), unmet)?;
+    found.write_head(number, unmet)?;
+    expected.write_unmet(found.report(), unmet)?;
     Ok(())
 }
 
 /// Appends the expectations that an ending does not meet, if there are any.
-pub(crate) fn write_unmet<S: Shown>(
+pub(crate) fn write_unmet(
     expected: Option<&Expectations<'_>>,
     number: usize,
-    shown: &S,
+    found: &FoundEnding<'_>,
     unmet: &mut Vec<u8>,
 ) -> Result<(), NoMemory>
-    requires { S.is_true shown.now }
     ensures { OnOk result (unmet.new.items ≡
-        unmet.old.items ++ unmet_of (option_copied expected.entry) number (S.ending shown.now)) }
+        unmet.old.items ++ unmet_of (option_copied expected.entry) number found.now) }
 {
     match expected {
-        Some(expected) if !expected.are_met(shown.report()) => {
-            tell_unmet(expected, number, shown, unmet)
+        Some(expected) if !expected.are_met(found.report()) => {
+            tell_unmet(expected, number, found, unmet)
         }
         _ => Ok(()),
     }

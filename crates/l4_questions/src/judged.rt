@@ -1,18 +1,20 @@
 //! The answer to a question, ending by ending.
-ghost use Rattle.std.specs.Prelude.{◌≡◌, ◌++◌, ◌∷◌, ◌+◌, ◌^◌, ◌<◌, [], Bool, List, Option, IfOk, OnOk, cond, length};
+ghost use Rattle.std.specs.Prelude.{◌≡◌, ◌++◌, ◌∷◌, ◌+◌, ◌^◌, ◌<◌, ◌≤◌, [], Bool, List, Option, IfOk, OnOk, length, map};
+ghost use Rattle.std.specs.List.{AllByRecursion};
 ghost use Rattle.std.specs.Option.{option_copied};
 ghost use Rattle.l4_expect.specs.Expected.{Expected};
-ghost use Rattle.l4_questions.specs.Asked.{is_asked};
 ghost use Rattle.l4_questions.specs.Endings.{Ending};
 ghost use Rattle.l4_questions.specs.Printed.{ending_text, status_of_asked, status_of_search};
 ghost use Rattle.l4_questions.specs.Printed.{unmet_of, IsTold};
-ghost use Rattle.l4_questions.specs.Writing.{counted, AreWritten};
+ghost use Rattle.l4_questions.specs.Writing.{AreWritten};
 ghost use Rattle.l4_questions.specs.declared.question.Question.{Question as AskedQuestion};
 
 use crate::asked::is_asked;
 use crate::beside::{Beside, status_beside, write_unmet};
+use crate::found::FoundEnding;
+use crate::listed::Listed;
 use crate::question::{Question, Wanted};
-use crate::shown::Shown;
+use l4_script::machine::Machine;
 use l4_types::errors::NoMemory;
 use std::alloc::Global;
 
@@ -41,10 +43,11 @@ pub(crate) struct Written {
 }
 
 impl Written {
-    /// What is written of no ending.
-    pub(crate) fn new(alloc: Global) -> Written
-        ensures { (q : AskedQuestion) (waits : Bool) (expected : Option (List Expected)) →
-            AreWritten q waits expected [] result }
+    // What is written before the first ending.
+    fn new(alloc: Global) -> Written
+        ensures written { (q : AskedQuestion) (waits : Bool) (expected : Option (List Expected))
+            (all : List Ending) → AreWritten q waits expected all all result }
+        ensures count { result.count ≡ 0 }
     {
         Written {
             lines: Vec::new(alloc),
@@ -53,59 +56,52 @@ impl Written {
         }
     }
 
-    // Appends an ending with its number, if the question asks for it.
-    fn write_next<S: Shown + Drop>(
+    // Appends an ending that is asked for, with its number.
+    fn write_asked(
         &mut self,
         alloc: Global,
-        question: &Question<'_>,
         beside: Beside<'_, '_>,
-        shown: S,
+        found: FoundEnding<'_>,
     ) -> Result<(), NoMemory>
-        requires known { S.is_true shown }
         requires room { self.old.count + 1 < 2 ^ 64 }
         ensures lines { OnOk result (self.new.lines.items ≡ self.old.lines.items ++
-            cond (is_asked question.now (S.ending shown))
-            (ending_text beside.entry.waits (self.old.count + 1) (S.ending shown)) []) }
+            ending_text beside.entry.waits (self.old.count + 1) found.entry) }
         ensures unmet { OnOk result (self.new.unmet.items ≡ self.old.unmet.items ++
-            cond (is_asked question.now (S.ending shown))
-            (unmet_of (option_copied beside.entry.expected) (self.old.count + 1)
-            (S.ending shown)) []) }
-        ensures count { OnOk result (self.new.count ≡
-            counted (is_asked question.now (S.ending shown)) self.old.count) }
+            unmet_of (option_copied beside.entry.expected) (self.old.count + 1) found.entry) }
+        ensures count { OnOk result (self.new.count ≡ self.old.count + 1) }
     {
-        if !is_asked(alloc, question, &shown)? {
+        let number = self.count + 1;
+        found.write_head(number, &mut self.lines)?;
+        self.lines.extend_from_slice(found.report())?;
+        write_unmet(beside.expected, number, &found, &mut self.unmet)?;
+        self.count = number;
+        if !beside.waits {
             return Ok(());
         }
-        let number = self.count + 1;
-        shown.write_head(number, &mut self.lines)?;
-        self.lines.extend_from_slice(shown.report())?;
-        write_unmet(beside.expected, number, &shown, &mut self.unmet)?;
-        if beside.waits {
-            shown.write_waits(alloc, &mut self.lines)?;
-        }
-        self.count = number;
-        Ok(())
+        found.write_waits(alloc, &mut self.lines)
     }
 
-    /// Writes one more ending.
-    ///
-    /// `NoMemory`: memory was refused.
-    pub(crate) fn write<S: Shown + Drop>(
+    // Writes the next ending, if the question asks for it.
+    fn write(
         &mut self,
         alloc: Global,
         question: &Question<'_>,
         beside: Beside<'_, '_>,
-        shown: S,
+        found: FoundEnding<'_>,
     ) -> Result<(), NoMemory>
-        requires known { S.is_true shown }
         requires room { self.old.count + 1 < 2 ^ 64 }
-        ensures { OnOk result ((before : List Ending) →
+        ensures written { OnOk result ((all left : List Ending) →
             AreWritten question.now beside.entry.waits (option_copied beside.entry.expected)
-            before self.old →
+            all (found.entry ∷ left) self.old →
             AreWritten question.now beside.entry.waits (option_copied beside.entry.expected)
-            (before ++ S.ending shown ∷ []) self.new) }
+            all left self.new) }
+        ensures count { OnOk result (self.new.count ≤ self.old.count + 1) }
     {
-        self.write_next(alloc, question, beside, shown)
+        if !is_asked(question, &found) {
+            return Ok(());
+        }
+        self.write_asked(alloc, beside, found)?;
+        Ok(())
     }
 
     /// The answer, with what the search says of itself last.
@@ -119,7 +115,7 @@ impl Written {
     ) -> Result<Answer, NoMemory>
         ensures { IfOk result (λ answer. (waits : Bool) (expected : Option (List Expected))
             (endings : List Ending) →
-            AreWritten question.now waits expected endings self →
+            AreWritten question.now waits expected endings [] self →
             IsTold question.now waits expected endings last.now is_whole answer.lines.items
             answer.unmet.items answer.status) }
     {
@@ -132,6 +128,28 @@ impl Written {
             unmet: self.unmet,
         })
     }
+}
+
+/// What is written of the endings that a search lists. It keeps one at a time.
+///
+/// `NoMemory`: memory was refused.
+pub(crate) fn written_endings<E: Listed>(
+    alloc: Global,
+    machine: &Machine,
+    question: &Question<'_>,
+    beside: Beside<'_, '_>,
+    endings: &[E],
+) -> Result<Written, NoMemory>
+    requires { AllByRecursion (E.leads machine.now) endings.now }
+    ensures { IfOk result (AreWritten question.now beside.entry.waits
+        (option_copied beside.entry.expected) (map (E.ending machine.now) endings.now) []) }
+{
+    let mut written = Written::new(alloc);
+    for entries in endings {
+        let found = entries.ending(alloc, machine)?;
+        written.write(alloc, question, beside, found)?;
+    }
+    Ok(written)
 }
 
 fn status_of_search(is_whole: bool) -> u8

@@ -20,16 +20,14 @@
 mod answering;
 mod asked;
 pub mod beside;
-mod closed;
+mod found;
 mod judged;
 pub mod laws;
+mod listed;
 pub mod met;
-mod placed;
 mod placed_answering;
 mod printed;
 pub mod question;
-mod reached;
-mod shown;
 mod stuck;
 mod traces;
 

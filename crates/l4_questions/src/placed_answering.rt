@@ -1,42 +1,18 @@
 //! The answer to a question about the runs that processors make by schedules.
 ghost use Rattle.std.specs.Prelude.{◌≡◌, ◌⊎◌, IfErr, IfOk, Some};
 ghost use Rattle.std.specs.Option.{option_copied};
-ghost use Rattle.l4_endings.specs.Tried.{told};
 ghost use Rattle.l4_questions.specs.Limits.{question_fault};
-ghost use Rattle.l4_questions.specs.Placed.{placed_endings, IsPlacedAnswer};
-ghost use Rattle.l4_questions.specs.Writing.{AreWritten};
+ghost use Rattle.l4_questions.specs.Placed.{IsPlacedAnswer};
 ghost use Rattle.l4_questions.specs.declared.question.QuestionFault.TheVariants.{NoMemory as OutOfMemory};
 
 use crate::beside::Beside;
-use crate::judged::{Answer, Written};
-use crate::placed::PlacedEnding;
+use crate::judged::{Answer, written_endings};
 use crate::printed::states_line;
 use crate::question::{Question, QuestionFault};
 use l4_endings::endings;
 use l4_explore::progress::Progress;
-use l4_machine::Entry;
 use l4_script::machine::Machine;
-use l4_types::errors::NoMemory;
 use std::alloc::Global;
-
-// What is written of endings. It replays one at a time.
-fn written(
-    alloc: Global,
-    machine: &Machine,
-    question: &Question<'_>,
-    beside: Beside<'_, '_>,
-    endings: &[Vec<Entry>],
-) -> Result<Written, NoMemory>
-    ensures { IfOk result (AreWritten question.now beside.entry.waits
-        (option_copied beside.entry.expected) (placed_endings machine.now (told endings.now))) }
-{
-    let mut written = Written::new(alloc);
-    for entries in endings {
-        let shown = PlacedEnding::new(alloc, machine, entries.as_slice())?;
-        written.write(alloc, question, beside, shown)?;
-    }
-    Ok(written)
-}
 
 /// The answer to a question: the endings that it asks for, numbered from 1, shorter schedules
 /// first. They are among the endings of all core runs of at most `depth` events, each once, with a
@@ -59,7 +35,7 @@ pub fn placed_answer<P: Progress>(
 {
     let (depth, most) = question.limits()?;
     let found = endings(alloc, machine, depth, most, progress)?;
-    let written = written(alloc, machine, question, beside, found.endings.as_slice())?;
+    let written = written_endings(alloc, machine, question, beside, &found.endings)?;
     let last = states_line(alloc, machine, found.states, found.depth, found.is_whole)?;
-    Ok(written.into_answer(question, last.as_slice(), found.is_whole)?)
+    Ok(written.into_answer(question, &last, found.is_whole)?)
 }

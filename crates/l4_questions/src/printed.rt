@@ -1,37 +1,11 @@
-//! What is printed of endings that schedules lead to.
-ghost use Rattle.std.specs.Prelude.{◌≡◌, ◌∷◌, ◌++◌, IfOk, OnOk, codes, decimal, map};
-ghost use Rattle.l4_words.specs.Lines.{line_of_words};
-ghost use Rattle.l4_machine.specs.Entries.{entry_from};
-ghost use Rattle.l4_questions.specs.Placed.{end_words, has_thread_on, list_words, states_line};
-ghost use Rattle.l4_questions.specs.Placed.{share_processor, whole_words};
+//! The last line of an answer about placed runs.
+ghost use Rattle.std.specs.Prelude.{◌≡◌, IfOk};
+ghost use Rattle.l4_questions.specs.Placed.{end_words, has_thread_on, share_processor};
+ghost use Rattle.l4_questions.specs.Placed.{states_line, whole_words};
 
-use l4_machine::Entry;
-use l4_schedules::writing::write_schedule;
 use l4_script::machine::{Declaration, Machine};
 use l4_types::errors::NoMemory;
 use std::alloc::Global;
-
-/// Appends the first line of an ending: its number, and the entries that lead there.
-///
-/// `NoMemory`: memory was refused, and a part of the line may have been appended.
-pub(crate) fn write_head(
-    number: usize,
-    entries: &[Entry],
-    lines: &mut Vec<u8>,
-) -> Result<(), NoMemory>
-    ensures { OnOk result (lines.new.items ≡ lines.old.items ++ line_of_words
-        (codes "ending" ∷ decimal number ∷ list_words (map entry_from entries.now))) }
-{
-    let mut words = String::new(*lines.allocator());
-    write!(words, "ending {number}")?;
-    lines.extend_from_slice(words.as_bytes())?;
-    if !entries.is_empty() {
-        lines.push(b' ')?;
-        write_schedule(entries, lines)?;
-    }
-    lines.push(b'\n')?;
-    Ok(())
-}
 
 // Whether one of these threads is on this processor.
 fn has_thread_on(cpu: u8, threads: &[Declaration]) -> bool

@@ -79,7 +79,7 @@ pub(crate) fn stuck_lines(
     machine: &Machine,
     found: &FoundThreads,
 ) -> Result<Vec<u8>, NoMemory>
-    requires { AreAllStuck machine.now (stuck_of found.now.threads.items) }
+    requires { AreAllStuck machine.now found.now.threads.items }
     ensures { IfOk result (λ lines. lines.items ≡
         stuck_lines machine.now (stuck_of found.now.threads.items) found.now.is_whole) }
 {

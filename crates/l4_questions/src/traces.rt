@@ -1,9 +1,8 @@
 //! The trace of one ending.
-ghost use Rattle.std.specs.Prelude.{◌≡◌, ◌⊎◌, ◌+◌, ◌++◌, IfErr, IfOk, Some, map, option_map, true};
-ghost use Rattle.std.specs.List.{list_all};
-ghost use Rattle.l4_all_endings.specs.Tried.{schedules_from, AreLed};
-ghost use Rattle.l4_questions.specs.Answers.{asked_traces, numbered, traces_along};
-ghost use Rattle.l4_questions.specs.Answers.{AreHistories, IsTraceAnswer};
+ghost use Rattle.std.specs.Prelude.{◌≡◌, ◌⊎◌, ◌++◌, IfErr, IfOk, Some, option_map, true};
+ghost use Rattle.std.specs.List.{list_all, AllByRecursion};
+ghost use Rattle.l4_questions.specs.Answers.{asked_traces, numbered, traces_along, IsTraceAnswer};
+ghost use Rattle.l4_questions.specs.Found.{IsLed};
 ghost use Rattle.l4_questions.specs.Limits.{question_fault};
 ghost use Rattle.l4_questions.specs.declared.question.QuestionFault.TheVariants.{NoMemory as OutOfMemory};
 ghost use Rattle.l4_questions.specs.Stuck.{stuck_traces, AreAllStuck};
@@ -11,8 +10,8 @@ ghost use Rattle.l4_stuck.specs.Stuck.{stuck_of};
 ghost use Rattle.l4_trace.specs.Lines.{has_line, trace_of};
 
 use crate::asked::is_asked;
+use crate::listed::Listed;
 use crate::question::{Question, QuestionFault};
-use crate::reached::ReachedEnding;
 use crate::stuck::asked_stuck;
 use l4_all_endings::{all_endings, trace_of};
 use l4_explore::progress::Progress;
@@ -23,7 +22,7 @@ use l4_trace::traces::TraceWriter;
 use l4_types::errors::NoMemory;
 use std::alloc::Global;
 
-// The trace of the ending that an answer gives this number.
+// The trace of the ending that an answer gives this number, or of the thread behind the endings.
 fn numbered(
     alloc: Global,
     machine: &Machine,
@@ -32,49 +31,30 @@ fn numbered(
     endings: &[Vec<u32>],
     stuck: &[StuckThread],
 ) -> Result<Option<History>, NoMemory>
-    requires led { AreLed machine.now (schedules_from endings.now) }
-    requires possible { AreHistories machine.now (traces_along machine.now endings.now) }
-    requires stuck { AreAllStuck machine.now (stuck_of stuck.now) }
-    ensures { IfOk result (λ trace. option_map (λ h. h.steps) trace ≡ numbered 1 number
+    requires led { AllByRecursion (IsLed machine.now) endings.now }
+    requires stuck { AreAllStuck machine.now stuck.now }
+    ensures { IfOk result (λ trace. option_map (λ h. h.steps) trace ≡ numbered number
         (asked_traces machine.now question.now (traces_along machine.now endings.now)
         ++ stuck_traces machine.now (stuck_of stuck.now))) }
 {
-    let mut count = 0;
-    for entries in endings {
-        let trace = trace_of(alloc, machine, entries.as_slice())?;
-        let shown = ReachedEnding::new(alloc, machine, trace)?;
-        if !is_asked(alloc, question, &shown)? {
-            continue;
-        }
-        count += 1;
-        if count == number {
-            return Ok(Some(shown.into_trace()));
-        }
-    }
-    let trace = numbered_stuck(alloc, machine, number, count, stuck)?;
-    Ok(trace)
-}
-
-// The trace of the thread to which an answer gives this number, where so many endings have theirs.
-fn numbered_stuck(
-    alloc: Global,
-    machine: &Machine,
-    number: u64,
-    count: u64,
-    stuck: &[StuckThread],
-) -> Result<Option<History>, NoMemory>
-    requires { AreAllStuck machine.now (stuck_of stuck.now) }
-    ensures { IfOk result (λ trace. option_map (λ h. h.steps) trace ≡
-        numbered (count + 1) number (stuck_traces machine.now (stuck_of stuck.now))) }
-{
-    if number <= count {
-        return Ok(None);
-    }
-    let Some(thread) = stuck.get((number - count - 1) as usize) else {
+    // How many come before it.
+    let Some(mut before) = number.checked_sub(1) else {
         return Ok(None);
     };
-    let trace = trace_of(alloc, machine, thread.entries.as_slice())?;
-    Ok(Some(trace))
+    for entries in endings {
+        let found = entries.ending(alloc, machine)?;
+        if !is_asked(question, &found) {
+            continue;
+        }
+        if before == 0 {
+            return Ok(Some(trace_of(alloc, machine, entries)?));
+        }
+        before -= 1;
+    }
+    let Some(thread) = stuck.get(before as usize) else {
+        return Ok(None);
+    };
+    Ok(Some(trace_of(alloc, machine, &thread.entries)?))
 }
 
 // A line for each step of a trace.
@@ -89,7 +69,8 @@ fn lines_of(alloc: Global, trace: &History) -> Result<Vec<u8>, NoMemory>
 
 /// The trace of the ending that the answer to a question gives this number, a line for each of its
 /// steps. Threads that are stuck for ever are counted on behind the endings: the trace is that of a
-/// history after which the thread is. None where the answer gives the number to neither. `progress` hears how far the search has come.
+/// history after which the thread is. None where the answer gives the number to neither. `progress`
+/// hears how far the search has come.
 ///
 /// `Depth`, `States` and `NoMemory` as of `answer`.
 pub fn asked_trace<P: Progress>(
@@ -112,8 +93,8 @@ pub fn asked_trace<P: Progress>(
         machine,
         question,
         number,
-        found.endings.as_slice(),
-        stuck.threads.as_slice(),
+        &found.endings,
+        &stuck.threads,
     )?;
     match trace {
         None => Ok(None),

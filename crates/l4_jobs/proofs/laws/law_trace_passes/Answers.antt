@@ -2,4 +2,4 @@ use Rattle.l4_jobs.proofs.Traces.{passes}
 use Rattle.l4_jobs.proofs.laws.law_trace_passes.Goals as goal
 
 pub returns : goal.returns
-returns c = λ m o lines is_true written. passes m o lines is_true written
+returns c = λ text m o lines is_true written. passes text m o lines is_true written

@@ -12,7 +12,7 @@ returns-clause-ok g c =
     let found = c.in_ok-outcome.ensures in
     let done = c.in_ok-outcome_done.ensures in
     let text = c.in_ok-recorded_text.ensures ∙ ap (λ (es : List Entry). recorded_text (map entry_from es)) c.as_slice.ensures.value in
-    asked_run_done c.args.printed c.args.machine.now c.args.turns (Some c.args.name.now) (option_copied c.args.expected) _ _
+    asked_run_done c.args.printed c.args.text.now c.args.machine.now c.args.turns (Some c.args.name.now) (option_copied c.args.expected) _ _
     (λ refused. absurd (let err = found.range.1 refused in cc)) found.ok
     (record {
       written = done.lines;

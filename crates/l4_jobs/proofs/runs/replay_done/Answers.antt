@@ -21,7 +21,7 @@ returns-clause-ok g c =
     ∙ ap (λ (es : List Entry). list_for name (map entry_from es)) c.as_slice.ensures.value in (
       asked.0,
       asked.1,
-      asked_replay_done replay.printed c.args.machine.now replay.then_rest replay.schedule.now asked.0 _ name (option_copied c.args.expected) _ _ _
+      asked_replay_done replay.printed c.args.text.now c.args.machine.now replay.then_rest replay.schedule.now asked.0 _ name (option_copied c.args.expected) _ _ _
           asked.2 on.ok on.replayed
           (record {
             written = done.lines;

@@ -1,4 +1,4 @@
-use Rattle.l4_json.proofs.Going.{is_possible, one_more, still_placed}
+use Rattle.l4_json.proofs.Going.{is_possible, one_more, spelled_here, still_placed}
 use Rattle.l4_json.proofs.steps.push_steps.Goals as goal
 
 pub push_step-requires-clause-placed : goal.push_step-requires-clause-placed
@@ -14,3 +14,4 @@ loop-place-preserved c =
     let l = c.loop-place in
     one_more c.args.machine.now c.args.lines.now c.args.history.now.steps l.place _ l.world c.push_step.new.world l.out.items c.push_step.new.out.items _ l.invariant.0 l.invariant.1
     l.invariant.2 l.invariant.3 c.step.ensures c.in_ok-push_step.ensures.taken c.in_ok-push_step.ensures.told
+    (spelled_here c.args.history.now.steps l.place _ l.invariant.4 c.step.ensures c.in_ok-push_step.ensures.spelled)

@@ -1,4 +1,6 @@
-use Rattle.std.proofs.Common.{◌≡◌, ◌++◌, Some, drop, take}
+use Rattle.std.proofs.Common.{◌≡◌, ◌++◌, true, Some, drop, take}
+use Rattle.std.specs.List.{list_all}
+use Rattle.l4_trace.specs.Lines.{has_line}
 use Rattle.l4_model.specs.History.{reached, run}
 use Rattle.l4_model.specs.World.{World, opening}
 use Rattle.l4_json.specs.Steps.{steps_text}
@@ -11,3 +13,4 @@ invariant-loop-place l =
     × ((last : World) × (run l.machine l.world.world (drop l.place l.history.steps) ≡ Some last))
     × (l.out.items ++ steps_text l.machine l.lines l.world.world (drop l.place l.history.steps)
     ≡ l.initial.out.items ++ steps_text l.machine l.lines (opening l.machine) l.history.steps)
+    × (list_all has_line (take l.place l.history.steps) ≡ true)

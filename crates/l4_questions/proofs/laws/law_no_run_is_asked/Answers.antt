@@ -1,11 +1,18 @@
-use Rattle.l4_questions.proofs.Quiet.{run_not_asked, replay_not_asked, gathered_not_asked}
+use Rattle.l4_quiet.proofs.Outcomes.{run_quiet, replay_quiet, gathered_quiet}
+use Rattle.l4_questions.proofs.Quiet.{is_ending}
 use Rattle.l4_questions.proofs.laws.law_no_run_is_asked.Goals as goal
 
 pub returns-clause-of_run : goal.returns-clause-of_run
-returns-clause-of_run c = run_not_asked
+returns-clause-of_run c = λ m q most o machine none found quiet w at.
+    none o.history w
+    (is_ending m o found.outcome.is_true (run_quiet m most o machine found) quiet w at)
 
 pub returns-clause-of_replay : goal.returns-clause-of_replay
-returns-clause-of_replay c = replay_not_asked
+returns-clause-of_replay c = λ m q entries o machine none outcome quiet w at.
+    none o.history w
+    (is_ending m o outcome.is_true (replay_quiet m entries o machine outcome) quiet w at)
 
 pub returns-clause-of_gathered : goal.returns-clause-of_gathered
-returns-clause-of_gathered c = gathered_not_asked
+returns-clause-of_gathered c = λ m q processors o machine none gathered quiet w at.
+    none o.history w
+    (is_ending m o gathered.outcome.is_true (gathered_quiet m processors o machine gathered) quiet w at)

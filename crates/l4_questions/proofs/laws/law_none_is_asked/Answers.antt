@@ -1,5 +1,15 @@
-use Rattle.l4_questions.proofs.OfAll.{placed_none}
+use Rattle.std.proofs.Common.{subst}
+use Rattle.l4_states.specs.Endings.{AreAllEndings}
+use Rattle.l4_questions.specs.Placed.{ending_of_run, placed_endings}
+use Rattle.l4_questions.proofs.Asking.{none_asked}
+use Rattle.l4_questions.proofs.OfAll.{placed_found}
+use Rattle.l4_questions.proofs.Statuses.{none_by_status}
 use Rattle.l4_questions.proofs.laws.law_none_is_asked.Goals as goal
 
 pub returns : goal.returns
-returns c = placed_none
+returns c = λ m q waits expected lines unmet machine may none a r run.
+    let endings = placed_endings m a.endings in
+    let is = none_by_status q expected endings a.is_whole a.told.status_is none in
+    let all = subst (AreAllEndings m a.endings a.depth) is.1 a.searched.all in
+    none_asked q may endings (ending_of_run m r)
+    (placed_found m a.endings a.depth machine all r run) is.0

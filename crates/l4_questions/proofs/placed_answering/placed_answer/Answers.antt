@@ -1,11 +1,16 @@
-use Rattle.std.proofs.Common.{◌≡◌, ℕ, List, ap, subst, ◌∙◌, arith}
+use Rattle.std.proofs.Common.{◌≡◌, ℕ, List, [], map, ap, subst, ◌∙◌, arith}
 use Rattle.std.specs.Option.{option_copied}
 use Rattle.l4_states.specs.Endings.{AreEndings}
 use Rattle.l4_endings.specs.Tried.{told}
+use Rattle.l4_questions.specs.Found.{placed_by}
 use Rattle.l4_questions.specs.Placed.{placed_endings}
 use Rattle.l4_questions.specs.Printed.{IsTold}
 use Rattle.l4_questions.specs.Writing.{AreWritten}
+use Rattle.l4_questions.proofs.Lists.{all_replayed, placed_are}
 use Rattle.l4_questions.proofs.placed_answering.placed_answer.Goals as goal
+
+pub written_endings-requires : goal.written_endings-requires
+written_endings-requires g c = all_replayed c.args.machine.now _
 
 pub returns-clause-ok : goal.returns-clause-ok
 returns-clause-ok g c =
@@ -17,9 +22,9 @@ returns-clause-ok g c =
     let endings = told found.endings.items in
     let limits = c.in_ok-depth.ensures.ok in
     let answer = c.in_ok-into_answer.field-0 in
-    let written = subst (λ es.
-    AreWritten q waits expected (placed_endings m (told es)) c.in_ok-written.written)
-    c.as_slice.ensures.value c.in_ok-written.ensures in
+    let written = subst (λ es. AreWritten q waits expected es [] c.in_ok-written.written)
+    (ap (map (placed_by m)) c.deref.ensures.value ∙ placed_are m found.endings.items)
+    c.in_ok-written.ensures in
     record {
       lawful = limits.0;
       endings = endings;
@@ -41,6 +46,6 @@ returns-clause-ok g c =
       told =
           subst (λ (last : List ℕ). IsTold q waits expected (placed_endings m endings) last
           found.is_whole answer.lines.items answer.unmet.items answer.status)
-          (c.as_slice-2.ensures.value ∙ c.in_ok-last.ensures)
+          (c.deref-2.ensures.value ∙ c.in_ok-last.ensures)
           (c.in_ok-into_answer.ensures waits expected (placed_endings m endings) written);
     }

@@ -4,7 +4,7 @@ use Rattle.l4_futures.specs.Endings.{length_of}
 use Rattle.l4_futures.specs.Traces.{trace_along}
 use Rattle.l4_stuck.specs.Stuck.{stuck_from}
 use Rattle.l4_questions.specs.Stuck.{declared_word}
-use Rattle.l4_questions.proofs.StuckThreads.{stuck_length}
+use Rattle.l4_questions.proofs.StuckThreads.{leads}
 use Rattle.l4_questions.proofs.stuck.write_line.Goals as goal
 
 pub returns : goal.returns
@@ -21,7 +21,7 @@ returns c =
       arith,
       c.len.ensures,
       c.args.stuck.now.entries.ok.0,
-      stuck_length m s c.know_times.ensures c.requires,
+      (leads m s.entries c.know_times.ensures c.requires.led).1.long,
     ) in
     let told = c.in_ok-writeln.ensures.bytes
     ∙ ap (λ b. b ++ (codes " for ever, steps " ++ decimal c.len.result ++ codes "\n")) named

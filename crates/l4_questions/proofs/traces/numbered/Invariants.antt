@@ -1,19 +1,16 @@
-use Rattle.std.proofs.Common.{◌≡◌, ◌+◌, ◌≤◌, ◌++◌, drop}
+use Rattle.std.proofs.Common.{◌≡◌, ◌++◌, drop}
+use Rattle.std.specs.Prelude.{slice_get}
 use Rattle.l4_questions.specs.Answers.{asked_traces, numbered, traces_along}
 use Rattle.l4_questions.specs.Stuck.{stuck_traces}
 use Rattle.l4_questions.proofs.traces.numbered.Given as goal
 use Rattle.l4_stuck.specs.Stuck.{stuck_of}
 
--- It is none of the endings before the next one.
+-- So many come before it from the next ending on.
 abbrev pub invariant-loop-entries : goal.invariant-loop-entries
-invariant-loop-entries l = record {
-  behind :
-      numbered 1 l.number
-      (asked_traces l.machine l.question (traces_along l.machine l.endings)
-      ++ stuck_traces l.machine (stuck_of l.stuck))
-      ≡ numbered (l.count + 1) l.number
-      (asked_traces l.machine l.question
-      (drop l.entries-index (traces_along l.machine l.endings))
-      ++ stuck_traces l.machine (stuck_of l.stuck));
-  few : l.count ≤ l.entries-index;
-}
+invariant-loop-entries l =
+    numbered l.number
+    (asked_traces l.machine l.question (traces_along l.machine l.endings)
+    ++ stuck_traces l.machine (stuck_of l.stuck))
+    ≡ slice_get
+    (asked_traces l.machine l.question (traces_along l.machine (drop l.entries-index l.endings))
+    ++ stuck_traces l.machine (stuck_of l.stuck)) l.before

@@ -3,11 +3,11 @@ use Rattle.l4_explore.specs.Codes.{code_at}
 use Rattle.l4_explore.specs.Rows.{joined, numbers_of, AreBelow}
 use Rattle.l4_explore.proofs.rows.Rows.append.Given as goal
 
--- The parts so far, and those of what is left of the row, are the code.
+-- The pieces so far, and those of what is left of the row, are the code.
 abbrev pub invariant-loop-number : goal.invariant-loop-number
 invariant-loop-number l = record {
-  below : AreBelow (length l.self-inside.parts) (numbers_of l.row);
-  same : l.code.items ++ joined l.self-inside.parts (numbers_of l.row)
+  below : AreBelow (length l.self-inside.pieces) (numbers_of l.row);
+  same : l.code.items ++ joined l.self-inside.pieces (numbers_of l.row)
       ≡ l.fn.code.items ++ code_at l.self l.place;
 }
 

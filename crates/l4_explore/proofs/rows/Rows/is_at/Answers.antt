@@ -7,7 +7,7 @@ use Rattle.l4_explore.proofs.rows.Rows.is_at.Goals as goal
 
 pub loop-number-preserved : goal.loop-number-preserved
 loop-number-preserved c =
-    let parts = c.self.inside.parts in
+    let parts = c.self.inside.pieces in
     let row = c.loop-number.row.now in
     let others = c.in-Some.others.now in
     let left = c.in-Some-behind.left.now in
@@ -18,6 +18,6 @@ loop-number-preserved c =
           sym (eq_behind (code_at parts c.in-Some.number) (joined parts (numbers_of others)) left)
           ∙ ap (λ ns. bytes_eq (joined parts ns) (code_at parts c.in-Some.number ++ left)) (sym some)
           ∙ ap (λ rest. bytes_eq (joined parts (numbers_of row)) rest)
-          (sym (c.in-Some-behind.ensures.some ∙ ap (λ part. part ++ left) c.code.ensures))
+          (sym (c.in-Some-behind.ensures.some))
           ∙ c.loop-number.invariant.same;
     }

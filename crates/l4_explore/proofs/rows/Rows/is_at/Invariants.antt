@@ -7,8 +7,8 @@ use Rattle.l4_explore.proofs.rows.Rows.is_at.Given as goal
 -- What is left of the row is what is left of the code, or is not, as the whole of both.
 abbrev pub invariant-loop-number : goal.invariant-loop-number
 invariant-loop-number l = record {
-  below : AreBelow (length l.self-inside.parts) (numbers_of l.row);
-  same : bytes_eq (joined l.self-inside.parts (numbers_of l.row)) l.rest
+  below : AreBelow (length l.self-inside.pieces) (numbers_of l.row);
+  same : bytes_eq (joined l.self-inside.pieces (numbers_of l.row)) l.rest
       ≡ bytes_eq (code_at l.self l.place) l.code;
 }
 

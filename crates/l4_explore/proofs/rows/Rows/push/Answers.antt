@@ -25,34 +25,34 @@ either (Err e) count rows new row old more ok err = subst (AreRows count) (sym e
 
 pub returns-in_err-row-clause-err : goal.returns-in_err-row-clause-err
 returns-in_err-row-clause-err c = on_err c.from_residual.result _
-    (rows_as c.self.inside.parts c.row_of.new.parts c.row_of.ensures.more c.self.inside.rows
+    (rows_as c.self.inside.pieces c.row_of.new.pieces c.row_of.ensures.more c.self.inside.rows
     c.self.invariant ∙ c.self.view_is)
 
 is_row : (c : goal.After-drop-row) →
-    IsRowOf c.row_of.new.parts c.deref.result.now c.args.code.now
-is_row c = subst (λ row. IsRowOf c.row_of.new.parts row c.args.code.now) (sym c.deref.ensures.value)
+    IsRowOf c.row_of.new.pieces c.deref.result.now c.args.code.now
+is_row c = subst (λ row. IsRowOf c.row_of.new.pieces row c.args.code.now) (sym c.deref.ensures.value)
     c.in_ok-row.ensures.ok
 
 pub invariant_of-self-2 : goal.invariant_of-self-2
 invariant_of-self-2 c =
-    let rows = still_rows c.self.inside.parts c.row_of.new.parts c.row_of.ensures.more
+    let rows = still_rows c.self.inside.pieces c.row_of.new.pieces c.row_of.ensures.more
     c.self.inside.rows c.self.invariant in
-    either c.push.result (length c.row_of.new.parts) c.self.inside.rows c.push.new.self
+    either c.push.result (length c.row_of.new.pieces) c.self.inside.rows c.push.new.self
     c.deref.result.now rows
-    (rows_more (length c.row_of.new.parts) c.self.inside.rows c.deref.result.now rows
+    (rows_more (length c.row_of.new.pieces) c.self.inside.rows c.deref.result.now rows
     (is_row c).below)
     c.push.ensures.ok c.push.ensures.err
 
 pub returns-clause-ok : goal.returns-clause-ok
 returns-clause-ok c = on_ok c.push.result _ _ (λ is.
-    ap (map (whole c.row_of.new.parts)) is
-    ∙ view_more c.self.inside.parts c.row_of.new.parts c.row_of.ensures.more c.self.inside.rows
+    ap (map (whole c.row_of.new.pieces)) is
+    ∙ view_more c.self.inside.pieces c.row_of.new.pieces c.row_of.ensures.more c.self.inside.rows
     c.deref.result.now c.args.code.now c.self.invariant (is_row c).is
     ∙ ap (λ codes. codes ++ c.args.code.now ∷ []) c.self.view_is) c.push.ensures.ok
 
 pub returns-clause-err : goal.returns-clause-err
 returns-clause-err c = on_err_of c.push.result _ _ (λ is.
-    ap (map (whole c.row_of.new.parts)) is
-    ∙ rows_as c.self.inside.parts c.row_of.new.parts c.row_of.ensures.more c.self.inside.rows
+    ap (map (whole c.row_of.new.pieces)) is
+    ∙ rows_as c.self.inside.pieces c.row_of.new.pieces c.row_of.ensures.more c.self.inside.rows
     c.self.invariant
     ∙ c.self.view_is) c.push.ensures.err

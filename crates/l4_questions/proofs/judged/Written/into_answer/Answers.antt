@@ -1,16 +1,18 @@
-use Rattle.std.proofs.Common.{◌≡◌, ℕ, List, length, ap, refl, ◌∙◌}
+use Rattle.std.proofs.Common.{List, ℕ, length, ap, refl, ◌+◌, ◌≡◌, ◌∙◌, arith}
 use Rattle.std.specs.Prelude.{◌==◌}
 use Rattle.l4_expect.specs.Unmet.{expected_status}
 use Rattle.l4_questions.specs.Asked.{asked_of}
-use Rattle.l4_questions.proofs.Telling.{finished}
+use Rattle.l4_questions.proofs.Writing.{finished}
 use Rattle.l4_questions.proofs.judged.Written.into_answer.Goals as goal
 
 pub returns : goal.returns
 returns c = λ waits expected endings had.
+    let asked = asked_of c.args.question.now endings in
+    let count : c.args.self.count ≡ length asked = omega (arith, had.count) in
     finished c.args.question.now waits expected endings c.args.self c.args.last.now
     c.extend_from_slice.new.self.items c.args.self.unmet.items c.args.is_whole
     c.status_of-status.result c.status_beside.result had c.in_ok-extend_from_slice.ensures.items
-    refl (c.status_of-status.ensures (asked_of c.args.question.now endings) had.count)
+    refl (c.status_of-status.ensures asked count)
     (c.status_beside.ensures
     ∙ ap (λ (unmet : List ℕ). expected_status (length unmet == 0) c.status_of-status.result)
     c.as_slice.ensures.value)

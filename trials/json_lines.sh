@@ -1,0 +1,8 @@
+#!/bin/bash
+# Compares the lines that the objects of `--json` tell with those that are printed without it, of each
+# command of the cases (json_lines.py). Takes a program; else it is compiled as it stands, without a
+# proof. It ends at the first difference, and else prints counts.
+set -eu -o pipefail
+# shellcheck source=trials/common.sh
+. "$(dirname "$0")/common.sh"
+python3 -B "$TRIALS/json_lines.py" "${1:-$(unproved_program)}" "$TRIALS/../crates/l4_cases/data"

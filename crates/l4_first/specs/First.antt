@@ -2,7 +2,7 @@
 use Rattle.std.specs.Prelude.{ℕ, ◌==◌, ◌/◌, ◌%◌, ◌^◌, ◌≡◌, ◌⊎◌, ◌&&◌, not, Bool, true, false, Option, Some, None, List, [], ◌∷◌, ◌++◌, length, find, slice_get, is_some}
 use Rattle.std.specs.List.{list_any}
 use Rattle.l4_model.specs.Words.{GlobalId, is_id_of, same_id}
-use Rattle.l4_model.specs.Machine.{OrderKind, Delete, To, ToId, ToLast, Instr, Set, Copy, Add, Tag, Ask, Ipc, Machine}
+use Rattle.l4_model.specs.Machine.{OrderKind, Delete, To, ToId, ToLast, Assign, AssignTag, Instr, Run, Ask, Ipc, Machine}
 use Rattle.l4_model.specs.World.{PendingOrder, World, Owed, owed_of, is_in, list_at}
 use Rattle.l4_model.specs.Conditions.{◌>>=◌, Found, found, Pending, undecided, is_zero}
 use Rattle.l4_model.specs.Steps.{Step, Local, Begin, Wait, Order, Obey, SendTimeout, Retarget}
@@ -56,10 +56,8 @@ abbrev pub asks_to_propagate : ℕ → Bool
 asks_to_propagate mr0 = (mr0 / 2 ^ 12) % 2 == 1
 
 abbrev pub may_ask : Instr → Bool
-may_ask (Tag word) = asks_to_propagate word
-may_ask (Set a word) = a == 0
-may_ask (Copy a b) = a == 0
-may_ask (Add format a word) = a == 0
+may_ask (Run (AssignTag word)) = asks_to_propagate word
+may_ask (Run (Assign a value)) = a == 0
 may_ask _ = false
 
 abbrev pub may_turn : Machine → Bool

@@ -9,7 +9,7 @@ use Rattle.std.specs.Prelude.{slice_get, slice_index, find, is_some, not, IfSome
 use Rattle.std.specs.List.{AllByRecursion}
 use Rattle.std.specs.Option.{option_map}
 use Rattle.l4_model.specs.Words.{GlobalId, Id, NilThread, AnyThread, AnyLocalThread, LocalThread, GlobalThread, Period}
-use Rattle.l4_model.specs.Machine.{Machine, Declaration, OrderKind, CancelSend, CancelReceive, CancelBoth, Delete, Instr, Set, Copy, Add, Tag, Vs, Ipc, Ask, Jump, OnErr, End, place_of}
+use Rattle.l4_model.specs.Machine.{Machine, Declaration, OrderKind, CancelSend, CancelReceive, CancelBoth, Delete, Instr, Run, Ipc, Ask, End, place_of}
 use Rattle.l4_model.specs.World.{World, Thread, Context, Send, Receive, Owed, Phase, Ready, Sending, Receiving, Ordering, Ended, Deleted, Name, changed, opening, opening_thread, is_alive, is_deleted, is_in, list_at, owed_of, must_wait}
 use Rattle.l4_model.specs.Rules.{Act, Orders, RunsAlone, ipc_act, ask_act, act, is_admitted, destination, receive_phase, received_tag, is_cross}
 use Rattle.l4_model.specs.Effects.{runs, begins, waits, fails, decided, refused, receives, goes_on, delivered, asked, orders, obeyed, turns, turns_in}
@@ -148,13 +148,7 @@ ask_goes m id (GlobalThread t) what = by (is_admitted m id t what)
 act_goes : (m : Machine) (id : GlobalId) (now : ℕ) (c : Context) (i : Instr) → ActGoes (act m id now c i)
 act_goes m id now c (Ipc to from send_period receive_period) = ipc_goes m id now c (destination c to) send_period (receive_phase from receive_period)
 act_goes m id now c (Ask target what) = ask_goes m id target what
-act_goes m id now c (Set a word) = tt
-act_goes m id now c (Copy a b) = tt
-act_goes m id now c (Add format a word) = tt
-act_goes m id now c (Tag word) = tt
-act_goes m id now c (Vs other) = tt
-act_goes m id now c (Jump place) = tt
-act_goes m id now c (OnErr place) = tt
+act_goes m id now c (Run own) = tt
 act_goes m id now c End = tt
 
 -- Steps

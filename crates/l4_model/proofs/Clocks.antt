@@ -4,7 +4,7 @@ use Rattle.std.proofs.lemmas.Bool.{leb-true, le-leb}
 use Rattle.std.specs.Prelude.{slice_get, slice_index, ◌==◌, is_some}
 use Rattle.std.specs.Option.{option_map}
 use Rattle.l4_model.specs.Words.{GlobalId, Id, NilThread, AnyThread, AnyLocalThread, LocalThread, GlobalThread, Period}
-use Rattle.l4_model.specs.Machine.{Machine, Declaration, OrderKind, Instr, Set, Copy, Add, Tag, Vs, Ipc, Ask, Jump, OnErr, End, place_of}
+use Rattle.l4_model.specs.Machine.{Machine, Declaration, OrderKind, Instr, Run, Ipc, Ask, End, place_of}
 use Rattle.l4_model.specs.World.{World, Thread, Context, Send, Receive, Phase, Ready, Sending, Receiving, Ordering, Ended, Deleted, Name}
 use Rattle.l4_model.specs.Rules.{Act, RunsAlone, Sends, Receives, Orders, act, ipc_act, ask_act, is_admitted, destination, receive_phase}
 use Rattle.l4_model.specs.Conditions.{Found, found, found_at, found_by, Pending, undecided, receiver_of, instruction, act_of, is_nobody, is_no_destination, has_passed, is_refusable, is_timed_out, ◌>>=◌, ◌>>◌}
@@ -126,15 +126,9 @@ ask_retimed m id later (GlobalThread t) what = by (is_admitted m id t what)
     by false = refl
 
 act_retimed : (m : Machine) (id : GlobalId) (now later : ℕ) (c : Context) (i : Instr) → act m id later c i ≡ retimed later (act m id now c i)
-act_retimed m id now later c (Set a word) = refl
-act_retimed m id now later c (Copy a b) = refl
-act_retimed m id now later c (Add format a word) = refl
-act_retimed m id now later c (Tag word) = refl
-act_retimed m id now later c (Vs other) = refl
+act_retimed m id now later c (Run own) = refl
 act_retimed m id now later c (Ipc to from send_period receive_period) = ipc_retimed m id now later c (destination c to) send_period (receive_phase from receive_period)
 act_retimed m id now later c (Ask target what) = ask_retimed m id later target what
-act_retimed m id now later c (Jump place) = refl
-act_retimed m id now later c (OnErr place) = refl
 act_retimed m id now later c End = refl
 
 act_at : (m : Machine) (clocks : List ℕ) (t : Found) → act_of m (at_clocks clocks t) ≡ retimed (slice_index clocks t.declared.cpu) (act_of m t)

@@ -4,7 +4,7 @@ use Rattle.std.proofs.lemmas.Bool.{eqb-true}
 use Rattle.std.specs.Prelude.{slice_get, ◌==◌}
 use Rattle.std.specs.Option.{option_map}
 use Rattle.l4_model.specs.Words.{GlobalId}
-use Rattle.l4_model.specs.Machine.{Machine, Instr, Set, Copy, Add, Tag, Vs, Ipc, Ask, Jump, OnErr, End, OrderKind, CancelSend, CancelReceive, CancelBoth, Delete, place_of}
+use Rattle.l4_model.specs.Machine.{Machine, Instr, Run, Ipc, Ask, End, OrderKind, CancelSend, CancelReceive, CancelBoth, Delete, place_of}
 use Rattle.l4_model.specs.World.{Context, Thread, World, Send, Receive, Owed, Phase, Ready, Sending, Receiving, Ordering, Ended, Deleted, changed, change, is_alive, is_ready, unqueued, others_owed, Name}
 use Rattle.l4_model.specs.Rules.{ran}
 use Rattle.l4_model.specs.Steps.{Step, Local, Begin, Queue, Deliver, Wait, SendTimeout, ReceiveTimeout, SendNobody, ReceiveNobody, SendCancel, ReceiveCancel, Drop, Order, Obey, Tick, Retarget, without_send, next}
@@ -74,15 +74,9 @@ status-asked CancelBoth t = refl
 status-asked Delete t = refl
 
 pub begun-ran : (i : Instr) (c : Context) → (ran i c).begun ≡ c.begun
-begun-ran (Set a word) c = refl
-begun-ran (Copy a b) c = refl
-begun-ran (Add format a word) c = refl
-begun-ran (Tag word) c = refl
-begun-ran (Vs id) c = refl
+begun-ran (Run own) c = refl
 begun-ran (Ipc to from send_period receive_period) c = refl
 begun-ran (Ask target what) c = refl
-begun-ran (Jump place) c = refl
-begun-ran (OnErr place) c = cond_both (λ (x : Context). x.begun) c.begun (c.error == 0) _ _ refl refl
 begun-ran End c = refl
 
 -- What a step does to the statuses: it begins this send, it decides this send, or it keeps them.

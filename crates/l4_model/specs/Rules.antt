@@ -2,7 +2,7 @@
 -- instruction asks for.
 use Rattle.std.specs.Prelude.{ℕ, ◌+◌, ◌*◌, ◌/◌, ◌%◌, ◌^◌, Bool, if◌then◌else◌, ◌==◌, not, ◌&&◌, false, Option, Some, None, is_some, unwrap_or, true, ◌∷◌, ◌++◌, take, drop, length, slice_index, slice_set}
 use Rattle.l4_model.specs.Words.{word_limit, GlobalId, Id, NilThread, AnyThread, AnyLocalThread, LocalThread, GlobalThread, same_id, Period}
-use Rattle.l4_model.specs.Machine.{Tag, To, ToId, ToLast, OrderKind, Delete, Instr, Set, Copy, Add, Vs, Ipc, Ask, Jump, OnErr, End, Machine, is_declared, same_space, same_cpu}
+use Rattle.l4_model.specs.Machine.{To, ToId, ToLast, OrderKind, Delete, Value, Word, Register, Sum, Own, Assign, AssignTag, AssignVs, GoTo, GoToOnErr, Instr, Run, Ipc, Ask, End, Machine, is_declared, same_space, same_cpu}
 use Rattle.l4_model.specs.World.{Name, Context, Receive, Message, Send, PendingOrder, Owed}
 
 -- Who is accepted (manual: Ipc, `FromSpecifier`): anythread takes every sender, anylocalthread
@@ -85,18 +85,39 @@ received message mr0 c =
 abbrev pub ordered : ℕ → Context → Context
 ordered code c = advanced (record c { error = code })
 
--- An instruction was run that concerns nobody else. An ipc is then one without phases (manual:
--- Ipc), and an order is refused.
+-- What an instruction leaves that concerns its thread alone: of the message registers, of
+-- VirtualSender, and where the script goes on.
+
+-- What is assigned to MR a.
+abbrev pub assigned : Value → (a : ℕ) → (words : List ℕ) → ℕ
+assigned (Word word) a words = word
+assigned (Register b) a words = slice_index words b
+assigned (Sum format word) a words = (slice_index words a + word) % word_limit format
+
+abbrev pub words_after : Own → List ℕ → List ℕ
+words_after (Assign a value) words = slice_set words a (assigned value a words)
+words_after (AssignTag word) words = slice_set words 0 word
+words_after _ words = words
+
+abbrev pub actual_after : Own → Id → Id
+actual_after (AssignVs id) actual = id
+actual_after _ actual = actual
+
+abbrev pub place_after : Own → (error place : ℕ) → ℕ
+place_after (GoTo target) error place = target
+place_after (GoToOnErr target) error place = if error == 0 then place + 1 else target
+place_after _ error place = place + 1
+
+-- An instruction was run for itself. An ipc is then one without phases (manual: Ipc), and an order
+-- is refused.
 abbrev pub ran : Instr → Context → Context
-ran (Set a word) c = advanced (with_register a word c)
-ran (Copy a b) c = advanced (with_register a (register c b) c)
-ran (Add format a word) c = advanced (with_register a ((register c a + word) % word_limit format) c)
-ran (Tag word) c = advanced (with_register 0 word c)
-ran (Vs id) c = advanced (record c { actual = id })
+ran (Run own) c = record c {
+  words = words_after own c.words;
+  actual = actual_after own c.actual;
+  place = place_after own c.error c.place;
+}
 ran (Ipc to from send_period receive_period) c = advanced (sent c)
 ran (Ask target what) c = ordered order_refused_code c
-ran (Jump place) c = record c { place = place }
-ran (OnErr place) c = if c.error == 0 then advanced c else record c { place = place }
 ran End c = c
 
 -- What the instruction at hand asks for

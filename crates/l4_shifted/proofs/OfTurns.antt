@@ -7,7 +7,7 @@ use Rattle.std.specs.List.{list_any}
 use Rattle.l4_model.specs.Options.{if_some}
 use Rattle.l4_model.specs.Rules.{act, ipc_act, destination, receive_phase, receive_timeout_code, receive_nobody_code, receive_cancelled_code}
 use Rattle.l4_model.specs.Words.{clock_limit, GlobalId, Id, NilThread, AnyThread, AnyLocalThread, LocalThread, GlobalThread, Period}
-use Rattle.l4_model.specs.Machine.{Instr, Set, Copy, Add, Tag, Vs, Ipc, Ask, Jump, OnErr, End, Machine, instruction_at, place_of}
+use Rattle.l4_model.specs.Machine.{Instr, Run, Ipc, Ask, End, Machine, instruction_at, place_of}
 use Rattle.l4_model.specs.World.{Context, Owed, Ready, Sending, Receiving, Ordering, Ended, Deleted, Receive, Thread, changed, is_deleted, receive_now}
 use Rattle.l4_model.specs.Steps.{ReceiveCancel, ReceiveNobody, ReceiveTimeout, Tick}
 use Rattle.l4_model.specs.Conditions.{act_of, instruction, is_gone, is_nobody, ◌>>=◌, ◌>>◌}
@@ -272,14 +272,8 @@ act_timeless : (m : Machine) (t : GlobalId) (now then : ℕ) (c : Context) (i : 
     timeless_act (act m t now c i) ≡ timeless_act (act m t then c i)
 act_timeless m t now then c (Ipc to from send_period receive_period) =
     ipc_timeless m t now then c (destination c to) send_period (receive_phase from receive_period)
-act_timeless m t now then c (Set a word) = refl
-act_timeless m t now then c (Copy a b) = refl
-act_timeless m t now then c (Add format a word) = refl
-act_timeless m t now then c (Tag word) = refl
-act_timeless m t now then c (Vs id) = refl
+act_timeless m t now then c (Run own) = refl
 act_timeless m t now then c (Ask target what) = refl
-act_timeless m t now then c (Jump place) = refl
-act_timeless m t now then c (OnErr place) = refl
 act_timeless m t now then c End = refl
 
 act_like : (m : Machine) (l k : Local) (i : ℕ) → IsLike l k →

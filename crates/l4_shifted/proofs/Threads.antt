@@ -3,9 +3,8 @@
 use Rattle.std.proofs.Common.{◌≡◌, ℕ, Bool, true, false, cond, Option, Some, None, refl, ap, sym, ◌∙◌}
 use Rattle.std.specs.Prelude.{◌==◌, ◌||◌}
 use Rattle.std.specs.Option.{option_map}
-use Rattle.l4_model.specs.Machine.{OrderKind, CancelSend, CancelReceive, CancelBoth, Delete, Instr, Set, Copy, Add, Tag, Vs, Ipc, Ask, Jump, OnErr, End}
+use Rattle.l4_model.specs.Machine.{OrderKind, CancelSend, CancelReceive, CancelBoth, Delete, Instr, Run, Ipc, Ask, End}
 use Rattle.l4_model.specs.World.{Send, Receive, Owed, Phase, Ready, Sending, Receiving, Ordering, Ended, Deleted, Thread, is_alive, is_sending}
-use Rattle.l4_model.specs.Rules.{advanced}
 use Rattle.l4_model.specs.Effects.{runs, begins, waits, fails, decided, goes_on, delivered, asked, has_receive_phase, turns, turned_send, turns_in, obeyed}
 use Rattle.l4_core_model.specs.Letters.{Result, Delivered, Refused, TimedOut, Nobody, Cancelled, Dropped}
 use Rattle.l4_core_model.specs.Local.{after_decision, was_delivered}
@@ -134,31 +133,7 @@ pub waits_same : (receive : Receive) (now : ℕ) → IsSame (waits receive now) 
 waits_same receive now t = refl
 
 pub runs_same : (i : Instr) → IsSame (runs i) (runs i)
-runs_same (Set a word) t = refl
-runs_same (Copy a b) t = refl
-runs_same (Add format a word) t = refl
-runs_same (Tag word) t = refl
-runs_same (Vs id) t = refl
+runs_same (Run own) t = refl
 runs_same (Ipc to from send_period receive_period) t = refl
 runs_same (Ask target what) t = refl
-runs_same (Jump place) t = refl
-runs_same (OnErr place) t = by (t.context.error == 0)
-  where
-    by : (b : Bool) →
-        (let u : Thread = record t {
-          context = record (cond b (advanced t.context) (record t.context { place = place })) {
-            begun = 0;
-          };
-          phase = Ready;
-          send = option_map timeless_send t.send;
-        } in u)
-        ≡ (let u : Thread = record t {
-          context =
-              cond b (advanced (record t.context { begun = 0 }))
-              (record t.context { place = place; begun = 0 });
-          phase = Ready;
-          send = option_map timeless_send t.send;
-        } in u)
-    by true = refl
-    by false = refl
 runs_same End t = refl

@@ -5,7 +5,7 @@ use Rattle.std.specs.List.{AllByRecursion}
 use Rattle.std.proofs.lemmas.Bool.{eqb-true}
 use Rattle.l4_model.specs.Options.{if_some}
 use Rattle.l4_model.specs.Words.{GlobalId, same_id}
-use Rattle.l4_model.specs.Machine.{Machine, Instr, Set, Copy, Add, Tag, Vs, Ipc, Ask, Jump, OnErr, End, OrderKind, CancelSend, CancelReceive, CancelBoth, Delete, is_declared, is_place, place_of}
+use Rattle.l4_model.specs.Machine.{Machine, Instr, Run, Ipc, Ask, End, OrderKind, CancelSend, CancelReceive, CancelBoth, Delete, is_declared, is_place, place_of}
 use Rattle.l4_model.specs.World.{PendingOrder, Context, Message, Owed, Phase, Ready, Sending, Receiving, Ordering, Ended, Deleted, Receive, Send, Thread, changed, is_alive, is_deleted, opening_thread, receive_now}
 use Rattle.l4_model.specs.Rules.{Act, RunsAlone, Sends, Receives, Orders, is_cross, owed_by, received_tag}
 use Rattle.l4_model.specs.Steps.{Begin, Deliver, Local as RanLocal, Obey, Order, Queue, Retarget, Wait}
@@ -83,16 +83,9 @@ obeyed_keeps t =
     cond_both (λ (u : Thread). u.context.begun) t.context.begun (is_alive t.phase) _ _ refl refl
 
 runs_keeps : (i : Instr) → IsUncounting (runs i)
-runs_keeps (Set a word) t = refl
-runs_keeps (Copy a b) t = refl
-runs_keeps (Add format a word) t = refl
-runs_keeps (Tag word) t = refl
-runs_keeps (Vs id) t = refl
+runs_keeps (Run own) t = refl
 runs_keeps (Ipc to from send_period receive_period) t = refl
 runs_keeps (Ask target what) t = refl
-runs_keeps (Jump place) t = refl
-runs_keeps (OnErr place) t =
-    cond_both (λ (c : Context). c.begun) t.context.begun (t.context.error == 0) _ _ refl refl
 runs_keeps End t = refl
 
 -- A letter that brings a send or withdraws it names the last one of its thread, and comes from the

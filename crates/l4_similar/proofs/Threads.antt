@@ -2,9 +2,9 @@
 use Rattle.std.proofs.Common.{◌≡◌, ℕ, zero, suc, Bool, true, false, cond, Option, Some, None, List, [], ◌∷◌, map, refl}
 use Rattle.std.specs.Prelude.{slice_index_or, ◌==◌}
 use Rattle.l4_model.specs.Words.{GlobalId, Id, NilThread, AnyThread, AnyLocalThread, LocalThread, GlobalThread, Period}
-use Rattle.l4_model.specs.Machine.{Machine, OrderKind, CancelSend, CancelReceive, CancelBoth, Delete, Instr, Set, Copy, Add, Tag, Vs, Ipc, Ask, Jump, OnErr, End}
+use Rattle.l4_model.specs.Machine.{Machine, OrderKind, CancelSend, CancelReceive, CancelBoth, Delete, Instr, Run, Ipc, Ask, End}
 use Rattle.l4_model.specs.World.{Context, Send, Receive, Owed, Phase, Ready, Sending, Receiving, Ordering, Ended, Deleted, Thread, is_alive}
-use Rattle.l4_model.specs.Rules.{act, ipc_act, destination, receive_phase, advanced}
+use Rattle.l4_model.specs.Rules.{act, ipc_act, destination, receive_phase}
 use Rattle.l4_model.specs.Effects.{runs, fails, decided, goes_on, delivered, asked, turns, turns_in, obeyed}
 use Rattle.l4_core_model.specs.Letters.{Result, Delivered, Refused, TimedOut, Nobody, Cancelled, Dropped}
 use Rattle.l4_core_model.specs.Local.{after_decision, was_delivered}
@@ -63,24 +63,9 @@ pub obeyed_same : IsSame obeyed obeyed
 obeyed_same t = cond_same (is_alive t.phase) _ _ _ _ refl refl
 
 pub runs_same : (i : Instr) → IsSame (runs i) (runs i)
-runs_same (Set a word) t = refl
-runs_same (Copy a b) t = refl
-runs_same (Add format a word) t = refl
-runs_same (Tag word) t = refl
-runs_same (Vs id) t = refl
+runs_same (Run own) t = refl
 runs_same (Ipc to from send_period receive_period) t = refl
 runs_same (Ask target what) t = refl
-runs_same (Jump place) t = refl
-runs_same (OnErr place) t = by (t.context.error == 0)
-  where
-    after : Context → Thread
-    after c = record t { context = c; phase = Ready }
-
-    by : (b : Bool) →
-        numberless_thread (after (cond b (advanced t.context) (record t.context { place = place })))
-        ≡ after (cond b (advanced (record t.context { begun = 0 })) (record t.context { place = place; begun = 0 }))
-    by true = refl
-    by false = refl
 runs_same End t = refl
 
 -- What an instruction asks for does not depend on the number of sends either.
@@ -97,16 +82,10 @@ ipc_same m sender now c (GlobalThread t) period receive = refl
 
 pub act_same : (m : Machine) (t : GlobalId) (now : ℕ) (c : Context) (i : Instr) →
     act m t now (record c { begun = 0 }) i ≡ act m t now c i
-act_same m t now c (Set a word) = refl
-act_same m t now c (Copy a b) = refl
-act_same m t now c (Add format a word) = refl
-act_same m t now c (Tag word) = refl
-act_same m t now c (Vs id) = refl
+act_same m t now c (Run own) = refl
 act_same m t now c (Ipc to from send_period receive_period) =
     ipc_same m t now c (destination c to) send_period (receive_phase from receive_period)
 act_same m t now c (Ask target what) = refl
-act_same m t now c (Jump place) = refl
-act_same m t now c (OnErr place) = refl
 act_same m t now c End = refl
 
 -- Looking up

@@ -4,7 +4,7 @@ use Rattle.std.specs.Prelude.{slice_get, IfSome}
 use Rattle.std.specs.Option.{option_map}
 use Rattle.std.specs.List.{AllByRecursion}
 use Rattle.l4_model.specs.Words.{GlobalId, Id, NilThread, AnyThread, AnyLocalThread, LocalThread, GlobalThread, Period, is_id_of}
-use Rattle.l4_model.specs.Machine.{Machine, Declaration, OrderKind, CancelSend, CancelReceive, CancelBoth, Delete, Instr, Set, Copy, Add, Tag, Vs, Ipc, Ask, Jump, OnErr, End, instruction_at}
+use Rattle.l4_model.specs.Machine.{Machine, Declaration, OrderKind, CancelSend, CancelReceive, CancelBoth, Delete, Instr, Run, Ipc, Ask, End, instruction_at}
 use Rattle.l4_model.specs.World.{World, Thread, Context, Send, Receive, Owed, Phase, Ready, Sending, Receiving, Ordering, Ended, Deleted, Name, changed, opening, opening_thread, is_alive}
 use Rattle.l4_model.specs.Rules.{Act, RunsAlone, Sends, Receives, Orders, act, ipc_act, ask_act, is_admitted, destination, receive_phase}
 use Rattle.l4_model.specs.Effects.{runs, begins, waits, fails, decided, refused, receives, goes_on, delivered, asked, orders, obeyed, turned_receive, turns, turns_in}
@@ -72,15 +72,9 @@ ask_short m id (GlobalThread t) what = by (is_admitted m id t what)
     by false = tt
 
 act_short : (m : Machine) (id : GlobalId) (now : ℕ) (c : Context) (i : Instr) → IsShortIn i → ActShort (act m id now c i)
-act_short m id now c (Set a word) h = tt
-act_short m id now c (Copy a b) h = tt
-act_short m id now c (Add format a word) h = tt
-act_short m id now c (Tag word) h = tt
-act_short m id now c (Vs other) h = tt
+act_short m id now c (Run own) h = tt
 act_short m id now c (Ipc to from send_period receive_period) h = ipc_short m id now c (destination c to) send_period (receive_phase from receive_period) h.0 (phase_short from receive_period h.1)
 act_short m id now c (Ask target what) h = ask_short m id target what
-act_short m id now c (Jump place) h = tt
-act_short m id now c (OnErr place) h = tt
 act_short m id now c End h = tt
 
 declared_short : (ds : List Declaration) (i : ℕ) (d : Declaration) → AllByRecursion (λ (x : Declaration). AllByRecursion IsShortIn x.script) ds → slice_get ds i ≡ Some d → AllByRecursion IsShortIn d.script
@@ -116,15 +110,9 @@ cond_short true x y p q = p
 cond_short false x y p q = q
 
 runs_short : (i : Instr) → KeepsShort (runs i)
-runs_short (Set a word) t h = (tt, h.1)
-runs_short (Copy a b) t h = (tt, h.1)
-runs_short (Add format a word) t h = (tt, h.1)
-runs_short (Tag word) t h = (tt, h.1)
-runs_short (Vs id) t h = (tt, h.1)
+runs_short (Run own) t h = (tt, h.1)
 runs_short (Ipc to from send_period receive_period) t h = (tt, h.1)
 runs_short (Ask target what) t h = (tt, h.1)
-runs_short (Jump place) t h = (tt, h.1)
-runs_short (OnErr place) t h = (tt, h.1)
 runs_short End t h = (tt, h.1)
 
 fails_short : (code : ℕ) → KeepsShort (fails code)

@@ -1,7 +1,7 @@
 -- An ipc begins.
 use Rattle.std.proofs.Common.{◌≡◌, ℕ, ◌<◌, Bool, true, false, cond, is_some, Option, Some, None, length, refl, ap, sym, ◌∙◌, subst, arith}
 use Rattle.l4_model.specs.Words.{GlobalId, Id, NilThread, AnyThread, AnyLocalThread, LocalThread, GlobalThread}
-use Rattle.l4_model.specs.Machine.{Machine, Instr, Set, Copy, Add, Tag, Vs, Ipc, Ask, Jump, OnErr, End}
+use Rattle.l4_model.specs.Machine.{Machine, Instr, Run, Ipc, Ask, End}
 use Rattle.l4_model.specs.World.{Context, Receive, Send, Thread, opening_thread}
 use Rattle.l4_model.specs.Rules.{Act, RunsAlone, Sends, Receives, Orders, act, ask_act, destination, ipc_act, is_admitted, receive_phase, request}
 use Rattle.l4_model.specs.Conditions.{act_of, instruction}
@@ -66,13 +66,7 @@ goes_to_partner m t now c (Ask target what) send e = by target e
     by AnyLocalThread e = cc
     by (LocalThread word) e = cc
     by (GlobalThread id) e = asks id (is_admitted m t id what) e
-goes_to_partner m t now c (Set a word) send e = cc
-goes_to_partner m t now c (Copy a b) send e = cc
-goes_to_partner m t now c (Add format a word) send e = cc
-goes_to_partner m t now c (Tag word) send e = cc
-goes_to_partner m t now c (Vs id) send e = cc
-goes_to_partner m t now c (Jump place) send e = cc
-goes_to_partner m t now c (OnErr place) send e = cc
+goes_to_partner m t now c (Run own) send e = cc
 goes_to_partner m t now c End send e = cc
 
 -- The thread that begins it has this send.

@@ -53,13 +53,7 @@ own_act m id now c (model.Ask target what) send e = no_send target e
     no_send AnyLocalThread e = cc
     no_send (LocalThread word) e = cc
     no_send (GlobalThread t) e = by (is_admitted m id t what) _ e
-own_act m id now c (model.Set a word) send e = cc
-own_act m id now c (model.Copy a b) send e = cc
-own_act m id now c (model.Add format a word) send e = cc
-own_act m id now c (model.Tag word) send e = cc
-own_act m id now c (model.Vs other) send e = cc
-own_act m id now c (model.Jump place) send e = cc
-own_act m id now c (model.OnErr place) send e = cc
+own_act m id now c (model.Run own) send e = cc
 own_act m id now c model.End send e = cc
 
 fits-starts : (m : Machine) (cpu : ℕ) (l : Local) (i : ℕ) (a : Act) (now : ℕ) → ((send : Send) → a ≡ Sends send → Fits m cpu l i (begins send (thread l i))) → ((receive : Receive) → Fits m cpu l i (waits receive now (thread l i))) → Fits m cpu l i (thread l i) → Fits m cpu l i (starts a now (thread l i))

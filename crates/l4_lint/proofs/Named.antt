@@ -4,7 +4,7 @@ use Rattle.std.specs.Prelude.{not, is_some, nat_lt, find, filter, slice_index, I
 use Rattle.std.specs.List.{AllByRecursion, list_any, position_or_len}
 use Rattle.std.proofs.lemmas.Bool.{and_parts, lt-ltb, or_from}
 use Rattle.l4_model.specs.Words.{GlobalId, Id, NilThread, AnyThread, AnyLocalThread, LocalThread, GlobalThread, Period, same_id}
-use Rattle.l4_model.specs.Machine.{Machine, Declaration, Instr, Set, Copy, Add, Tag, Vs, Ipc, Ask, Jump, OnErr, End, OrderKind, CancelSend, CancelReceive, CancelBoth, Delete, declaration_of, is_declared, agree, same_space}
+use Rattle.l4_model.specs.Machine.{Machine, Declaration, Instr, Run, Ipc, Ask, End, OrderKind, CancelSend, CancelReceive, CancelBoth, Delete, declaration_of, is_declared, agree, same_space}
 use Rattle.l4_model.specs.World.{World, Owed, Name, PendingOrder, Receive, Context, same_name, one_more, owed_of, opening}
 use Rattle.l4_model.specs.Rules.{act, ipc_act, ask_act, is_admitted, destination, receive_phase, owed_by, Orders, RunsAlone}
 use Rattle.l4_model.specs.Conditions.{Found, found, Pending, undecided}
@@ -90,13 +90,7 @@ act_declared m id now c (Ipc to from send_period receive_period) order h =
   where
     no_order : (o : Option PendingOrder) (order : PendingOrder) → o ≡ None → o ≡ Some order → ⊥
     no_order o order e f = cc
-act_declared m id now c (Set a word) order h = cc
-act_declared m id now c (Copy a b) order h = cc
-act_declared m id now c (Add format a word) order h = cc
-act_declared m id now c (Tag word) order h = cc
-act_declared m id now c (Vs other) order h = cc
-act_declared m id now c (Jump place) order h = cc
-act_declared m id now c (OnErr place) order h = cc
+act_declared m id now c (Run own) order h = cc
 act_declared m id now c End order h = cc
 
 -- The sends of owed retargets are of declared threads.

@@ -28,9 +28,6 @@ accepts m from shown receiver = takes from shown (same_space m shown receiver)
 abbrev pub register : Context → ℕ → ℕ
 register c a = slice_index c.words a
 
-abbrev pub with_register : ℕ → ℕ → Context → Context
-with_register a word c = record c { words = slice_set c.words a word }
-
 -- The script goes on at the next instruction.
 abbrev pub advanced : Context → Context
 advanced c = record c { place = c.place + 1 }

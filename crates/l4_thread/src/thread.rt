@@ -1,9 +1,9 @@
 //! The part of a thread that its own instructions read and write.
-ghost use Rattle.std.specs.Prelude.{◌≡◌, ◌<◌, ◌^◌, ◌+◌, ◌%◌, IfSome, false, true, take, drop, length, List, [], ℕ};
+ghost use Rattle.std.specs.Prelude.{◌≡◌, ◌<◌, ◌^◌, ◌+◌, ◌%◌, IfSome, false, true, take, drop, length, List, [], ℕ, slice_set};
 ghost use Rattle.std.specs.Option.{option_map};
 ghost use Rattle.l4_model.specs.Words.{word_of_tag, word_limit, register_count};
 ghost use Rattle.l4_model.specs.World.{opening_context};
-ghost use Rattle.l4_model.specs.Rules.{failed, sent, received, ordered, advanced, ran, register, with_register, destination, receive_phase};
+ghost use Rattle.l4_model.specs.Rules.{failed, sent, received, ordered, advanced, ran, register, destination, receive_phase};
 ghost use Rattle.l4_types.specs.Codes.{code_of};
 ghost use Rattle.l4_types.specs.FormatView.{format_of};
 ghost use Rattle.l4_types.specs.PeriodView.{period_of, IsTimely};
@@ -136,7 +136,9 @@ impl Thread {
     // Sets a message register to a word.
     fn set(&mut self, register: Register, word: u64)
         ensures { self.new ≡ record self.old {
-          context = with_register register word self.old.context;
+          context = record self.old.context {
+            words = slice_set self.old.context.words register word;
+          };
         } }
     {
         self.regs.words[usize::from(register.number())] = word;
@@ -153,9 +155,10 @@ impl Thread {
     // Adds a word to a message register, as a format counts it.
     fn add(&mut self, format: Format, to: Register, word: u64)
         ensures { self.new ≡ record self.old {
-          context = with_register to
-              ((register self.old.context to + word) % word_limit (format_of format))
-              self.old.context;
+          context = record self.old.context {
+            words = slice_set self.old.context.words to
+                ((register self.old.context to + word) % word_limit (format_of format));
+          };
         } }
     {
         let sum = format.sum(self.register(to.number()), word);

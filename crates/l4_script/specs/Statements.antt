@@ -91,12 +91,20 @@ register_value operand = number_from 0 last_register operand >>= λ b. Ok (Regis
 abbrev pub sum_value : Format → List ℕ → Judged Value
 sum_value format operand = word_from format operand >>= λ word. Ok (Sum format word)
 
--- `set A W`, `copy A B` or `add A W`, behind its first word, by what its last word says.
+-- How a line says what a register becomes, by its first word.
+unfoldable pub value_of : Format → (name : List ℕ) → Option (List ℕ → Judged Value)
+value_of format name =
+    if bytes_eq name (codes "set") then Some (word_value format)
+    else (if bytes_eq name (codes "copy") then Some register_value
+    else (if bytes_eq name (codes "add") then Some (sum_value format)
+    else None))
+
+-- `set A W`, `copy A B` or `add A W`, behind its first word.
 unfoldable pub assign_of : (List ℕ → Judged Value) → List (List ℕ) → Judged Instr
-assign_of value_of operands = do
+assign_of said operands = do
   numbers ← needs (two operands) BadLine
   register ← number_from 1 last_register numbers.0
-  value ← value_of numbers.1
+  value ← said numbers.1
   Ok (Run (Assign register value))
 
 -- `tag W`, behind its first word: bits 6 to 11 are the number of typed words.
@@ -171,13 +179,10 @@ abbrev pub end_of : List (List ℕ) → Judged Instr
 end_of [] = Ok End
 end_of _ = Err BadLine
 
--- An instruction by its first word.
-unfoldable pub instruction_of : Format → (name : List ℕ) → (operands : List (List ℕ)) → Judged Instr
-instruction_of format name operands =
-    if bytes_eq name (codes "set") then assign_of (word_value format) operands
-    else (if bytes_eq name (codes "copy") then assign_of register_value operands
-    else (if bytes_eq name (codes "add") then assign_of (sum_value format) operands
-    else (if bytes_eq name (codes "tag") then tag_of format operands
+-- An instruction that assigns no value, by its first word.
+unfoldable pub other_of : Format → (name : List ℕ) → (operands : List (List ℕ)) → Judged Instr
+other_of format name operands =
+    if bytes_eq name (codes "tag") then tag_of format operands
     else (if bytes_eq name (codes "vs") then vs_of format operands
     else (if bytes_eq name (codes "ipc") then ipc_of format operands
     else (if bytes_eq name (codes "exregs") then exregs_of format operands
@@ -185,7 +190,17 @@ instruction_of format name operands =
     else (if bytes_eq name (codes "jump") then jump_of operands
     else (if bytes_eq name (codes "onerr") then on_error_of operands
     else (if bytes_eq name (codes "end") then end_of operands
-    else Err BadLine))))))))))
+    else Err BadLine)))))))
+
+abbrev pub assigned_or : Option (List ℕ → Judged Value) → (operands : List (List ℕ)) →
+    Judged Instr → Judged Instr
+assigned_or (Some said) operands other = assign_of said operands
+assigned_or None operands other = other
+
+-- An instruction by its first word.
+unfoldable pub instruction_of : Format → (name : List ℕ) → (operands : List (List ℕ)) → Judged Instr
+instruction_of format name operands =
+    assigned_or (value_of format name) operands (other_of format name operands)
 
 -- Adds a thread, unless there are too many or its number is taken.
 unfoldable pub declare : Declaration → Machine → Judged Machine

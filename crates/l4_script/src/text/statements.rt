@@ -356,7 +356,7 @@ fn is(word: &[u8], keyword: &[u8]) -> bool
 /// An instruction of this name, or the first fault of its line: `BadLine`, `BadNumber`, `BadId` or
 /// `TypedItems`.
 #[inline(always)]
-#[tactic(auto, unfolding(crate::specs::Statements::instruction_of))]
+#[tactic(auto, unfolding(crate::specs::Statements::instruction_of, crate::specs::Statements::value_of, crate::specs::Statements::other_of))]
 pub fn instruction(format: Format, name: &[u8], operands: Words<'_>) -> Result<Instr, TextFaultKind>
     ensures { Returns instr_of result (instruction_of (format_of format) name.now operands.entry) }
 {

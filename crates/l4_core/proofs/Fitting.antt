@@ -1,6 +1,5 @@
 -- What may happen to a thread, and what a change keeps of it.
 use Rattle.std.proofs.Common.{◌≡◌, ℕ, ◌+◌, ◌<◌, ◌≤◌, ◌^◌, Bool, true, false, cond, not, Option, Some, None, is_some, is_none, length, refl, ap, sym, ◌∙◌, subst, inl, inr, ◌⊎◌, arith}
-use Rattle.std.specs.Prelude.{◌==◌}
 use Rattle.l4_model.specs.Words.{GlobalId, Id, NilThread, AnyThread, AnyLocalThread, LocalThread, GlobalThread, Period}
 use Rattle.l4_model.specs.Machine as model
 use Rattle.l4_model.specs.Machine.{Machine, Instr, OrderKind, CancelSend, CancelReceive, CancelBoth, Delete}

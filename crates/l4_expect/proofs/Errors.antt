@@ -1,6 +1,6 @@
 -- Which ErrorCodes the threads of a history have, and what its report tells of each of them.
 use Rattle.std.proofs.Common.{◌≡◌, ℕ, zero, suc, ◌<◌, ◌^◌, Bool, true, Option, Some, None, List, [], ◌∷◌, map, refl, subst, arith}
-use Rattle.std.specs.Prelude.{◌==◌, slice_get, zip}
+use Rattle.std.specs.Prelude.{slice_get, zip}
 use Rattle.std.specs.List.{list_all}
 use Rattle.std.proofs.lemmas.Bool.{and_parts, and_from, ltb-true, lt-ltb}
 use Rattle.l4_model.specs.Words.{Format, W64, W32, is_word_in}

@@ -1,7 +1,7 @@
 -- A thread whose script receives nothing: what its tag register and its register ActualSender have is what the script writes there, and
 -- so is what it sends.
 use Rattle.std.proofs.Common.{subst, ◌≡◌, ℕ, zero, suc, ◌<◌, Bool, true, false, Option, Some, None, List, [], ◌∷◌, refl, ap, sym, arith}
-use Rattle.std.specs.Prelude.{◌==◌, slice_index, slice_set, IfSome}
+use Rattle.std.specs.Prelude.{slice_index, slice_set, IfSome}
 use Rattle.std.specs.Option.{option_map}
 use Rattle.l4_model.specs.Words.{GlobalId, Id, NilThread, AnyThread, AnyLocalThread, LocalThread, GlobalThread, Period}
 use Rattle.l4_model.specs.Machine.{Machine, Declaration, Assign, Instr, Run, Tag, Vs, Ipc, Ask, Jump, OnErr, End, OrderKind, CancelSend, CancelReceive, CancelBoth, Delete, instruction_at}

@@ -1,7 +1,7 @@
 -- What each step does to the numbers of begun sends and to the undecided sends.
 use Rattle.std.proofs.Common.{subst, ◌≡◌, ℕ, ◌+◌, true, Option, Some, None, List, map, refl, ap, sym, ◌∙◌}
 use Rattle.std.proofs.lemmas.Bool.{eqb-true}
-use Rattle.std.specs.Prelude.{slice_get, ◌==◌}
+use Rattle.std.specs.Prelude.{slice_get}
 use Rattle.std.specs.Option.{option_map}
 use Rattle.l4_model.specs.Words.{GlobalId}
 use Rattle.l4_model.specs.Machine.{Machine, Instr, Run, Ipc, Ask, End, OrderKind, CancelSend, CancelReceive, CancelBoth, Delete, place_of}

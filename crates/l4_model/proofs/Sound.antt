@@ -2,7 +2,7 @@
 use Rattle.std.proofs.Common.{subst, ◌≡◌, ℕ, ◌+◌, ◌<◌, ◌≤◌, true, false, Option, Some, None, List, ◌∷◌, ◌++◌, length, drop, refl, ap, sym, ◌∙◌, arith, ⊎_elim}
 use Rattle.std.proofs.lemmas.Bool.{or_cases}
 use Rattle.std.proofs.lemmas.List.{length-set, length-append, length-drop}
-use Rattle.std.specs.Prelude.{◌==◌, is_some, IfSome}
+use Rattle.std.specs.Prelude.{is_some, IfSome}
 use Rattle.std.specs.Option.{option_map}
 use Rattle.l4_model.specs.Words.{GlobalId}
 use Rattle.l4_model.specs.Machine.{Machine, Declaration, Instr, Run, Ipc, Ask, End, OrderKind, CancelSend, CancelReceive, CancelBoth, Delete, is_declared, instruction_at}
@@ -11,7 +11,7 @@ use Rattle.l4_model.specs.Rules.{act, ran, received_tag}
 use Rattle.l4_model.specs.Steps.{Step, send_of, next}
 use Rattle.l4_model.specs.Effects.{phase_after, runs, begins, waits, fails, decided, refused, receives, goes_on, delivered, has_receive_phase, asked, asked_send, asked_receive, orders, obeyed, calls_to_receive, turned_receive, turned_send, turns_in, turns}
 use Rattle.l4_model.specs.Reached.{Suits, BeganBy, IsSendOf, ThreadFacts}
-use Rattle.l4_model.proofs.Chains.{cond_keeps, cond_both}
+use Rattle.l4_model.proofs.Chains.{cond_keeps}
 use Rattle.l4_model.proofs.Own.{own_sets}
 use Rattle.l4_model.proofs.Requests.{act_request, message_short, shown_declared}
 use Rattle.l4_model.proofs.Keeping.{Each, Maintained, step_each, opening_each}

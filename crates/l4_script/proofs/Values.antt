@@ -1,11 +1,11 @@
 -- Values in lines: what a line says can be assigned, and what can be assigned is read.
-use Rattle.std.proofs.Common.{◌≡◌, ℕ, ◌^◌, ◌<◌, ◌≤◌, true, false, not, cond, ◌&&◌, List, get_or, Option, Some, None, Ok, refl, ap, sym, subst, arith}
-use Rattle.std.specs.Prelude.{◌==◌, nat_le, codes, decimal, bytes_eq}
+use Rattle.std.proofs.Common.{◌≡◌, ℕ, ◌^◌, ◌<◌, true, false, not, List, get_or, Some, None, Ok, refl, ap, sym, subst, arith}
+use Rattle.std.specs.Prelude.{◌==◌, codes, decimal, bytes_eq}
 use Rattle.std.proofs.lemmas.Bool.{and_parts, and_from, ltb-true, leb-true, le-leb}
 use Rattle.l4_model.specs.Words.{Format, W64, W32, word_limit, is_word_in, same_format}
 use Rattle.l4_model.specs.Machine.{Value, Word, Register, Sum}
 use Rattle.l4_words.proofs.Found.{some_same}
-use Rattle.l4_script.specs.Judged.{Judged, ◌>>=◌}
+use Rattle.l4_script.specs.Judged.{Judged}
 use Rattle.l4_script.specs.Numbers.{number_from, word_from}
 use Rattle.l4_script.specs.Statements.{word_value, register_value, sum_value, value_of}
 use Rattle.l4_script.specs.Canonical.{keyword_of, operand_of, can_be_assigned}

@@ -1,7 +1,7 @@
 -- A change of a thread depends neither on how many sends it began, nor on when its phase or send
 -- began.
 use Rattle.std.proofs.Common.{◌≡◌, ℕ, Bool, true, false, cond, Option, Some, None, refl, ap, sym, ◌∙◌}
-use Rattle.std.specs.Prelude.{◌==◌, ◌||◌}
+use Rattle.std.specs.Prelude.{◌||◌}
 use Rattle.std.specs.Option.{option_map}
 use Rattle.l4_model.specs.Machine.{OrderKind, CancelSend, CancelReceive, CancelBoth, Delete, Instr, Run, Ipc, Ask, End}
 use Rattle.l4_model.specs.World.{Send, Receive, Owed, Phase, Ready, Sending, Receiving, Ordering, Ended, Deleted, Thread, is_alive, is_sending}

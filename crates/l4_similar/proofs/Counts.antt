@@ -6,7 +6,7 @@ use Rattle.std.proofs.lemmas.Bool.{eqb-true}
 use Rattle.l4_model.specs.Options.{if_some}
 use Rattle.l4_model.specs.Words.{GlobalId, same_id}
 use Rattle.l4_model.specs.Machine.{Machine, Instr, Run, Ipc, Ask, End, OrderKind, CancelSend, CancelReceive, CancelBoth, Delete, is_declared, is_place, place_of}
-use Rattle.l4_model.specs.World.{PendingOrder, Context, Message, Owed, Phase, Ready, Sending, Receiving, Ordering, Ended, Deleted, Receive, Send, Thread, changed, is_alive, is_deleted, opening_thread, receive_now}
+use Rattle.l4_model.specs.World.{PendingOrder, Message, Owed, Phase, Ready, Sending, Receiving, Ordering, Ended, Deleted, Receive, Send, Thread, changed, is_alive, is_deleted, opening_thread, receive_now}
 use Rattle.l4_model.specs.Rules.{Act, RunsAlone, Sends, Receives, Orders, is_cross, owed_by, received_tag}
 use Rattle.l4_model.specs.Steps.{Begin, Deliver, Local as RanLocal, Obey, Order, Queue, Retarget, Wait}
 use Rattle.l4_model.specs.Conditions.{act_of, instruction, is_zero}

@@ -18,6 +18,8 @@ ghost use Rattle.l4_lint.specs.Reading.{begins_script};
 ghost use Rattle.l4_lint.specs.Views.{doubtful_of};
 
 use crate::bytes::split_word;
+use crate::commands::instruction_operands;
+use crate::hints::Operand;
 use crate::spelling::push_place;
 use l4_script::instructions::Instr;
 use l4_script::machine::{Declaration, Machine};
@@ -302,7 +304,10 @@ fn is_one_of_ids(word: &[u8]) -> bool
 fn is_write(word: &[u8]) -> bool
     ensures { result ≡ is_write word.now }
 {
-    is(word, b"set") || is(word, b"copy") || is(word, b"add")
+    match instruction_operands(word) {
+        Some([Operand::Register, ..]) => true,
+        _ => false,
+    }
 }
 
 // Appends the doubts of a line of a script.

@@ -105,6 +105,11 @@ place_after (GoTo target) error place = target
 place_after (GoToOnErr target) error place = if error == 0 then place + 1 else target
 place_after _ error place = place + 1
 
+-- The register that an instruction assigns a value.
+abbrev pub assigned_by : Instr → Option ℕ
+assigned_by (Run (Assign a value)) = Some a
+assigned_by _ = None
+
 -- An instruction was run for itself. An ipc is then one without phases (manual: Ipc), and an order
 -- is refused.
 abbrev pub ran : Instr → Context → Context

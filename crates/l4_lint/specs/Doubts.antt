@@ -16,7 +16,7 @@ use Rattle.l4_lint.specs.declared.doubts.Doubt.TheVariants.{NoThread, NoLimit, N
 use Rattle.l4_lint.specs.declared.doubts.Mark.{Mark}
 use Rattle.l4_lint.specs.declared.hints.Operand.{Operand}
 use Rattle.l4_lint.specs.declared.hints.Operand.TheVariants as operand
-use Rattle.l4_lint.specs.Commands.{instruction_operands}
+use Rattle.l4_lint.specs.Commands.{first_operand}
 use Rattle.l4_lint.specs.declared.doubts.Mark.TheVariants.{Always, Perhaps}
 use Rattle.l4_lint.specs.Bytes.{behind, word_of}
 use Rattle.l4_lint.specs.Faults.{faults_of}
@@ -116,14 +116,14 @@ abbrev pub is_one_of_ids : (word : List ℕ) → Bool
 is_one_of_ids word =
     bytes_eq word (codes "exregs") || bytes_eq word (codes "delete") || bytes_eq word (codes "vs")
 
--- A line that assigns to a register names it first.
+-- A line that writes a register names it first.
 
-abbrev pub names_register : Option (List Operand) → Bool
-names_register (Some (operand.Register ∷ rest)) = true
+abbrev pub names_register : Option Operand → Bool
+names_register (Some operand.Register) = true
 names_register _ = false
 
 abbrev pub is_write : (word : List ℕ) → Bool
-is_write word = names_register (instruction_operands word)
+is_write word = names_register (first_operand word)
 
 abbrev pub script_doubts : Machine → Option Declaration → (number : ℕ) → (line : List ℕ) →
     List Doubtful

@@ -1,7 +1,7 @@
 //! What may stand behind the first word of a line.
 ghost use Rattle.std.specs.Prelude.{◌≡◌};
 ghost use Rattle.std.specs.Option.{option_copied};
-ghost use Rattle.l4_lint.specs.Commands.{instruction_operands, operands_behind, operands_of};
+ghost use Rattle.l4_lint.specs.Commands.{instruction_operands, first_operand, operands_behind, operands_of};
 
 use crate::hints::{Lines, Operand};
 
@@ -68,7 +68,7 @@ const NOTHING: &[Operand] = &[];
 
 /// The operands of the instruction of this name. None where no instruction has it.
 #[tactic(auto, unfolding(crate::specs::Commands::instruction_operands))]
-pub(crate) fn instruction_operands(name: &[u8]) -> Option<&'static [Operand]>
+fn instruction_operands(name: &[u8]) -> Option<&'static [Operand]>
     ensures { option_copied result ≡ instruction_operands name.now }
 {
     if name == SET {
@@ -105,6 +105,13 @@ pub(crate) fn instruction_operands(name: &[u8]) -> Option<&'static [Operand]>
         return Some(NOTHING);
     }
     None
+}
+
+/// The first operand of the instruction of this name. None where it has none.
+pub(crate) fn first_operand(name: &[u8]) -> Option<Operand>
+    ensures { result ≡ first_operand name.now }
+{
+    instruction_operands(name)?.first().copied()
 }
 
 fn operands_behind(

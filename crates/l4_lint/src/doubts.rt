@@ -18,7 +18,7 @@ ghost use Rattle.l4_lint.specs.Reading.{begins_script};
 ghost use Rattle.l4_lint.specs.Views.{doubtful_of};
 
 use crate::bytes::split_word;
-use crate::commands::instruction_operands;
+use crate::commands::first_operand;
 use crate::hints::Operand;
 use crate::spelling::push_place;
 use l4_script::instructions::Instr;
@@ -304,10 +304,7 @@ fn is_one_of_ids(word: &[u8]) -> bool
 fn is_write(word: &[u8]) -> bool
     ensures { result ≡ is_write word.now }
 {
-    match instruction_operands(word) {
-        Some([Operand::Register, ..]) => true,
-        _ => false,
-    }
+    matches!(first_operand(word), Some(Operand::Register))
 }
 
 // Appends the doubts of a line of a script.

@@ -82,8 +82,8 @@ received message mr0 c =
 abbrev pub ordered : ℕ → Context → Context
 ordered code c = advanced (record c { error = code })
 
--- What an instruction leaves that concerns its thread alone: of the message registers, of
--- VirtualSender, and where the script goes on.
+-- What an instruction that concerns its thread alone leaves: in the message registers, in
+-- VirtualSender, and as the place where the script goes on.
 
 -- What is assigned to MR a.
 abbrev pub assigned : Value → (a : ℕ) → (words : List ℕ) → ℕ

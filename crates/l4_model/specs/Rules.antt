@@ -1,6 +1,6 @@
 -- What an instruction, a message and a failure do to the registers of a thread, and what an
 -- instruction asks for.
-use Rattle.std.specs.Prelude.{ℕ, ◌+◌, ◌*◌, ◌/◌, ◌%◌, ◌^◌, Bool, if◌then◌else◌, ◌==◌, not, ◌&&◌, false, Option, Some, None, is_some, unwrap_or, true, ◌∷◌, ◌++◌, take, drop, length, slice_index, slice_set}
+use Rattle.std.specs.Prelude.{ℕ, ◌+◌, ◌*◌, ◌/◌, ◌%◌, ◌^◌, Bool, if◌then◌else◌, ◌==◌, not, ◌&&◌, false, Option, Some, None, is_some, unwrap_or, true, ◌∷◌, ◌++◌, List, take, drop, length, slice_index, slice_set}
 use Rattle.l4_model.specs.Words.{word_limit, GlobalId, Id, NilThread, AnyThread, AnyLocalThread, LocalThread, GlobalThread, same_id, Period}
 use Rattle.l4_model.specs.Machine.{To, ToId, ToLast, OrderKind, Delete, Value, Word, Register, Sum, Own, Assign, AssignTag, AssignVs, GoTo, GoToOnErr, Instr, Run, Ipc, Ask, End, Machine, is_declared, same_space, same_cpu}
 use Rattle.l4_model.specs.World.{Name, Context, Receive, Message, Send, PendingOrder, Owed}

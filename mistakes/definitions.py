@@ -8,7 +8,7 @@ import tempfile
 
 from edits import CRATES, DEFINITIONS, TOP, edits_of
 
-MODEL = ["l4_model", "l4_core_model", "l4_split", "l4_merge", "l4_choices", "l4_similar", "l4_shifted", "l4_explore", "l4_states", "l4_worlds", "l4_first", "l4_rests", "l4_futures", "l4_forever"]
+MODEL = ["l4_model", "l4_core_model", "l4_refines", "l4_merge", "l4_bisimilar", "l4_explore", "l4_states", "l4_worlds", "l4_first", "l4_rests", "l4_futures", "l4_forever"]
 IMPORT = re.compile(r"l4_core_model\.proofs\.(\w+)")
 REFUSED = re.compile(r"(?:\./)?proofs/(\S+):\d+:\d+: error: `([^`]+)`")
 UNBUILT = re.compile(r"rt: the library (\S*) did not build")
@@ -31,7 +31,7 @@ def keep_what_the_law_imports(copy):
     """Leaves of l4_core_model its definitions, and the proof files on which the law stands: no row."""
     crates = copy / "crates"
     proofs = crates / "l4_core_model" / "proofs"
-    above = [path for crate in ("l4_split", "l4_merge") for path in (crates / crate / "proofs").rglob("*.antt")]
+    above = [path for crate in ("l4_refines", "l4_merge") for path in (crates / crate / "proofs").rglob("*.antt")]
     kept, todo = set(), set().union(*(imports_of(path.read_text()) for path in above))
     while todo:
         kept |= todo
@@ -70,7 +70,7 @@ def verdict(edit, copy):
     own, law = refused_by(copy, edit.home.name), ""
     if edit.home.name == "l4_core_model":
         keep_what_the_law_imports(copy)
-        law = refused_by(copy, "l4_split") or refused_by(copy, "l4_merge")
+        law = refused_by(copy, "l4_refines") or refused_by(copy, "l4_merge")
     if "no lemma: " in own + law:
         return f"NOT TRIED, {own}{law}"
     if not own + law:

@@ -51,8 +51,15 @@ struct Asked {
 impl Asked {
     fn of(words: impl Iterator<Item = String>) -> Result<Asked, Stop> {
         let mut asked = Asked::default();
+        let mut options = Vec::new();
         let mut words = words;
         while let Some(word) = words.next() {
+            if word.starts_with("--") {
+                if options.contains(&word) {
+                    return Err(not_done("an option that is given twice"));
+                }
+                options.push(word.clone());
+            }
             match word.as_str() {
                 "--report" => asked.report = true,
                 "--turns" => {

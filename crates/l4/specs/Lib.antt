@@ -11,4 +11,4 @@ pub use Rattle.l4_machine.specs.Outcomes
 pub use Rattle.l4_audit.specs.Audits
 pub use Rattle.l4_trace.specs.Lines
 pub use Rattle.l4_trace.specs.Reading
-pub mod RoundTrips
+pub mod Inner

@@ -24,7 +24,7 @@ ghost use Rattle.l4_machine.specs.Outcomes.{IsReplayed, compact_findings_of};
 ghost use Rattle.l4_machine.specs.declared.outcome.RunFault.TheVariants.{NoMemory as RunOutOfMemory};
 ghost use Rattle.l4_trace.specs.Reading.{steps_of};
 ghost use Rattle.l4_audit.specs.Audits.{Passes};
-ghost use Rattle.l4.specs.RoundTrips.{IsAudited};
+ghost use Rattle.l4.specs.Inner.RoundTrips.{IsAudited};
 
 use l4_audit::audit::{Audit, AuditFault, check};
 use l4_machine::{

@@ -10,16 +10,16 @@ use Rattle.l4_model.specs.Conditions.{◌>>=◌}
 use Rattle.l4_model.proofs.Chains.{bind_then, guard_then, some_is}
 use Rattle.l4_explore.specs.Tries.{State, Next, LeadOn, AreCoded, deepest}
 use Rattle.l4_explore.specs.Search.{Seen, Offers, seen_at, depth_of, IsCut, IsExplored}
-use Rattle.l4_explore.specs.Views.{next_from}
+use Rattle.l4_explore.specs.Inner.Views.{next_from}
 use Rattle.l4_explore.specs.declared.tries.Choice.{Choice as Found}
 use Rattle.l4_first.specs.First.{stands_alone}
 use Rattle.l4_worlds.specs.Late.{next_late}
 use Rattle.l4_futures.specs.Choices.{Choice, choice_at, step_at, entry_count, possible, tried, after_entry, after_entries, world_after}
 use Rattle.l4_worlds.specs.Histories.{IsTimed}
 use Rattle.l4_futures.proofs.Kept.{one_more, schedules, state_led}
-use Rattle.l4_outlooks.specs.Foreseen.{Foreseen, IsBehind, IsLed}
+use Rattle.l4_outlooks.specs.Inner.Foreseen.{Foreseen, IsBehind, IsLed}
 use Rattle.l4_outlooks.proofs.Leading.{led as more_led}
-use Rattle.l4_futures.specs.Search.{state_in, state_after, next_by, nexts, ends_of, AreTried}
+use Rattle.l4_futures.specs.Inner.Search.{state_in, state_after, next_by, nexts, ends_of, AreTried}
 use Rattle.l4_all_endings.specs.Tried.{next_at, nexts_at, entries_of, AreLed, AreOpen, LeadsToWorld}
 
 -- They lead on.

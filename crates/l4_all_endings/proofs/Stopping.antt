@@ -3,8 +3,8 @@ use Rattle.std.proofs.Common.{◌≡◌, ℕ, zero, suc, ◌≤◌, Some, refl, 
 use Rattle.std.specs.Prelude.{slice_get}
 use Rattle.l4_model.specs.Machine.{Machine}
 use Rattle.l4_model.proofs.Chains.{some_is}
-use Rattle.l4_outlooks.specs.Foreseen.{Foreseen, IsLed, opens}
-use Rattle.l4_all_endings.specs.Way.{AreStops, IsOnWay, Stop}
+use Rattle.l4_outlooks.specs.Inner.Foreseen.{Foreseen, IsLed, opens}
+use Rattle.l4_all_endings.specs.Inner.Way.{AreStops, IsOnWay, Stop}
 
 pub stop_at : (m : Machine) (stops : List Stop) (i : ℕ) (s : Stop) → AreStops m stops → slice_get stops i ≡ Some s → s.machine ≡ m
 stop_at m [] i s are is = cc

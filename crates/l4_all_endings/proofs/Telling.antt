@@ -9,15 +9,15 @@ use Rattle.l4_model.specs.Machine.{most_processors}
 use Rattle.l4_model.proofs.Inversions.{tick_taken}
 use Rattle.l4_model.proofs.Places.{and_true}
 use Rattle.l4_model.proofs.Worlds.{reached_facts}
-use Rattle.l4_audit.specs.Due.{CanTick, CanBeOver, CanBeDue}
-use Rattle.l4_outlooks.specs.Named.{open_step}
-use Rattle.l4_all_endings.specs.Telling.{Goes}
+use Rattle.l4_audit.specs.Inner.Due.{CanTick, CanBeOver, CanBeDue}
+use Rattle.l4_outlooks.specs.Inner.Named.{open_step}
+use Rattle.l4_all_endings.specs.Inner.Telling.{Goes}
 use Rattle.l4_all_endings.proofs.Leading.{one_led, open_on_way}
 use Rattle.std.proofs.Math.ListN.{length-append}
 use Rattle.l4_model.specs.Machine.{Machine}
 use Rattle.l4_model.specs.World.{World, Phase, Ready, Sending, Receiving, Ordering, Ended, Deleted, opening}
 use Rattle.l4_model.specs.Conditions.{◌>>=◌, ◌>>◌, Found, found, Pending, undecided}
-use Rattle.l4_model.specs.Steps.{Step, Local, Begin, Queue, Deliver, Wait, SendTimeout, ReceiveTimeout, SendNobody, ReceiveNobody, SendCancel, ReceiveCancel, Drop, Order, Obey, Tick, Retarget, next}
+use Rattle.l4_model.specs.Steps.{Step, SendTimeout, ReceiveTimeout, Tick, next}
 use Rattle.l4_model.specs.History.{run, reached}
 use Rattle.l4_model.proofs.Chains.{bind_then, some_is}
 use Rattle.l4_worlds.specs.Late.{next_late}
@@ -28,7 +28,7 @@ use Rattle.l4_futures.specs.Choices.{step_at, after_entry, after_entries, world_
 use Rattle.l4_futures.specs.Traces.{step_then, world_then, steps_along, trace_along}
 use Rattle.l4_futures.proofs.Kept.{one_more as led_more}
 use Rattle.l4_futures.proofs.Led.{is_led}
-use Rattle.l4_outlooks.specs.Foreseen.{Foreseen, IsBehind, IsLed}
+use Rattle.l4_outlooks.specs.Inner.Foreseen.{Foreseen, IsBehind, IsLed}
 use Rattle.l4_all_endings.specs.declared.traces.Telling.{Telling as Told}
 
 nothing_behind : (o : Option World) → told_behind o (λ v. []) ≡ []
@@ -114,21 +114,7 @@ one_tick m w (Tick cpu clock) rest few some = by (next m w (Tick cpu clock)) ref
         let at = slice_get_within w.clocks cpu t.now t.clock_is in
         let both = and_true (nat_lt t.now clock) (nat_lt clock (2 ^ 62)) t.later in
         (omega (arith, at, few), ltb-true clock (2 ^ 62) both.1)
-one_tick m w (Local id) rest few some = tt
-one_tick m w (Begin s) rest few some = tt
-one_tick m w (Queue s) rest few some = tt
-one_tick m w (Deliver s receiver shown actual tag words) rest few some = tt
-one_tick m w (Wait id) rest few some = tt
-one_tick m w (SendTimeout s) rest few some = tt
-one_tick m w (ReceiveTimeout id) rest few some = tt
-one_tick m w (SendNobody s) rest few some = tt
-one_tick m w (ReceiveNobody id) rest few some = tt
-one_tick m w (SendCancel s) rest few some = tt
-one_tick m w (ReceiveCancel id) rest few some = tt
-one_tick m w (Drop s) rest few some = tt
-one_tick m w (Order caller target what) rest few some = tt
-one_tick m w (Obey id) rest few some = tt
-one_tick m w (Retarget s) rest few some = tt
+one_tick m w _ rest few some = tt
 
 -- There is at most one tick.
 abbrev AtMostOne : List Step → Type 0
@@ -163,20 +149,7 @@ one_receive (Some t) = one_phase t t.now.phase
 one_due : (m : Machine) (w : World) (step : Step) → AtMostOne (until_due m w step)
 one_due m w (SendTimeout s) = one_send (undecided m w s)
 one_due m w (ReceiveTimeout id) = one_receive (found m w id)
-one_due m w (Tick cpu clock) = tt
-one_due m w (Local id) = tt
-one_due m w (Begin s) = tt
-one_due m w (Queue s) = tt
-one_due m w (Deliver s receiver shown actual tag words) = tt
-one_due m w (Wait id) = tt
-one_due m w (SendNobody s) = tt
-one_due m w (ReceiveNobody id) = tt
-one_due m w (SendCancel s) = tt
-one_due m w (ReceiveCancel id) = tt
-one_due m w (Drop s) = tt
-one_due m w (Order caller target what) = tt
-one_due m w (Obey id) = tt
-one_due m w (Retarget s) = tt
+one_due m w _ = tt
 
 few_tick : (m : Machine) (w : World) (ticks rest : List Step) → AtMostOne ticks → length w.clocks ≤ most_processors → IsSome (run m w (ticks ++ rest)) → CanBeOver ticks
 few_tick m w [] rest one few some = tt

@@ -1,3 +1,2 @@
+pub mod Inner
 pub mod Tried
-pub mod Telling
-pub mod Way

@@ -7,7 +7,7 @@ use Rattle.l4_model.specs.Machine.{Machine}
 use Rattle.l4_model.specs.World.{World}
 use Rattle.l4_explore.specs.Tries.{Next, deepest}
 use Rattle.l4_futures.specs.Choices.{Choice, after_entry, world_after}
-use Rattle.l4_futures.specs.Search.{nexts, state_in}
+use Rattle.l4_futures.specs.Inner.Search.{nexts, state_in}
 
 -- The state that an entry leads to from a world.
 abbrev pub next_at : Machine → World → ℕ → Option Next

@@ -3,7 +3,7 @@ ghost use Rattle.std.specs.Prelude.{◌≡◌, ◌++◌, ◌<◌, min, IfOk, OnO
 ghost use Rattle.l4_explore.specs.Search.{seen_at};
 ghost use Rattle.l4_explore.specs.Tries.{deepest};
 ghost use Rattle.l4_futures.specs.Endings.{AreAllEndings, HasLooked};
-ghost use Rattle.l4_futures.specs.Search.{ends_of};
+ghost use Rattle.l4_futures.specs.Inner.Search.{ends_of};
 ghost use Rattle.l4_futures.specs.Traces.{trace_along};
 ghost use Rattle.l4_all_endings.specs.Tried.{schedules_from, AreLed};
 

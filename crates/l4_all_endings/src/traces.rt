@@ -7,7 +7,7 @@ ghost use Rattle.l4_explore.specs.Tries.{deepest};
 ghost use Rattle.l4_worlds.specs.Told.{when_due};
 ghost use Rattle.l4_futures.specs.Choices.{world_after};
 ghost use Rattle.l4_futures.specs.Traces.{trace_along};
-ghost use Rattle.l4_all_endings.specs.Telling.{Goes, Tells};
+ghost use Rattle.l4_all_endings.specs.Inner.Telling.{Goes, Tells};
 
 use l4_audit::auditor::Auditor;
 use l4_history::history::History;

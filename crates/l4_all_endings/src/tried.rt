@@ -1,11 +1,11 @@
 //! The worlds of a machine, as a search tries them.
 ghost use Rattle.std.specs.Prelude.{◌≡◌, ◌+◌, ◌^◌, ◌<◌, IfOk, IsSome, Some, length, map};
-ghost use Rattle.l4_explore.specs.Views.{next_from, state_from};
+ghost use Rattle.l4_explore.specs.Inner.Views.{next_from, state_from};
 ghost use Rattle.l4_explore.specs.Tries.{AreCoded};
 ghost use Rattle.l4_futures.specs.Choices.{after_entry, world_after};
-ghost use Rattle.l4_futures.specs.Search.{state_after, state_in, AreTried};
-ghost use Rattle.l4_outlooks.specs.Foreseen.{IsLed};
-ghost use Rattle.l4_outlooks.specs.Standing.{left_alone};
+ghost use Rattle.l4_futures.specs.Inner.Search.{state_after, state_in, AreTried};
+ghost use Rattle.l4_outlooks.specs.Inner.Foreseen.{IsLed};
+ghost use Rattle.l4_outlooks.specs.Inner.Standing.{left_alone};
 ghost use Rattle.l4_all_endings.specs.Tried.{next_at, nexts_at, AreChoicesAfter, AreOpen};
 
 use crate::way::Way;

@@ -1,8 +1,8 @@
 //! The worlds that a search asks for, one after the other.
 ghost use Rattle.std.specs.Prelude.{◌≡◌, ◌<◌, ◌≤◌, ◌^◌, IfOk, IsSome, length, take, true};
 ghost use Rattle.l4_futures.specs.Choices.{world_after};
-ghost use Rattle.l4_outlooks.specs.Foreseen.{IsLed};
-ghost use Rattle.l4_all_endings.specs.Way.{IsOnWay};
+ghost use Rattle.l4_outlooks.specs.Inner.Foreseen.{IsLed};
+ghost use Rattle.l4_all_endings.specs.Inner.Way.{IsOnWay};
 
 use l4_outlooks::Outlook;
 use l4_script::machine::Machine;
@@ -24,8 +24,8 @@ struct Stop<'m> {
 }
 
 impl<'m> Model for Stop<'m> {
-    ghost use Rattle.l4_outlooks.specs.Foreseen.{IsLed};
-    ghost use Rattle.l4_all_endings.specs.Way.{Stop};
+    ghost use Rattle.l4_outlooks.specs.Inner.Foreseen.{IsLed};
+    ghost use Rattle.l4_all_endings.specs.Inner.Way.{Stop};
 
     ghost Value = { Stop };
 
@@ -84,7 +84,7 @@ pub struct Way<'m> {
 
 impl<'m> Model for Way<'m> {
     ghost use Rattle.l4_model.specs.Machine.{Machine as ModelMachine};
-    ghost use Rattle.l4_all_endings.specs.Way.{AreStops};
+    ghost use Rattle.l4_all_endings.specs.Inner.Way.{AreStops};
 
     ghost Value = { ModelMachine };
 

@@ -14,9 +14,9 @@ use Rattle.l4_model.proofs.Chains.{bind_then, some_is}
 use Rattle.l4_model.proofs.Worlds.{reached_facts}
 use Rattle.l4_core_model.proofs.Changed.{run-last}
 use Rattle.l4_audit.specs.declared.reasons.StepFault.{StepFault}
-use Rattle.l4_audit.specs.Audited.{Audited, IsPlaced}
-use Rattle.l4_audit.specs.Auditing.{Auditing, IsUnderWay, Judges, waiting_send}
-use Rattle.l4_audit.specs.Taking.{IsTaken, Judged}
+use Rattle.l4_audit.specs.Inner.Audited.{Audited, IsPlaced}
+use Rattle.l4_audit.specs.Inner.Auditing.{Auditing, IsUnderWay, Judges, waiting_send}
+use Rattle.l4_audit.specs.Inner.Taking.{IsTaken, Judged}
 use Rattle.l4_audit.proofs.Placing.{Placed, opening_placed, placed_at, step_placed}
 
 -- Of every world that a history reaches.

@@ -16,11 +16,11 @@ use Rattle.l4_core_model.specs.Letters.{Delivered}
 use Rattle.l4_core_model.specs.Local.{after_decision}
 use Rattle.l4_types.specs.declared.step_ref.DeliveryRef.{DeliveryRef}
 use Rattle.l4_script.proofs.Finding.{declared_at}
-use Rattle.l4_audit.specs.Audited.{Audited, with_world}
+use Rattle.l4_audit.specs.Inner.Audited.{Audited, with_world}
 use Rattle.l4_types.specs.StepView.{delivered as told}
-use Rattle.l4_audit.specs.Delivering.{taken_over, IsFound}
+use Rattle.l4_audit.specs.Inner.Delivering.{taken_over, IsFound}
 use Rattle.l4_audit.specs.Reasons.{reason}
-use Rattle.l4_audit.specs.Taking.{IsTaken}
+use Rattle.l4_audit.specs.Inner.Taking.{IsTaken}
 use Rattle.l4_audit.proofs.Reasoning.{is_possible}
 use Rattle.l4_audit.proofs.Starting.{changes_at}
 

@@ -13,11 +13,11 @@ use Rattle.l4_worlds.proofs.Taken.{late_send_timeout, late_receive_timeout}
 use Rattle.l4_types.specs.declared.step_ref.DeliveryRef.{DeliveryRef}
 use Rattle.l4_types.specs.declared.steps.Step as steps
 use Rattle.l4_types.specs.declared.steps.Step.TheVariants as types
-use Rattle.l4_types.specs.ClockTick.{ClockTick}
+use Rattle.l4_types.specs.Inner.ClockTick.{ClockTick}
 use Rattle.l4_types.specs.StepView.{seen}
-use Rattle.l4_audit.specs.Audited.{Audited, with_world}
+use Rattle.l4_audit.specs.Inner.Audited.{Audited, with_world}
 use Rattle.l4_audit.specs.Reasons.{reason}
-use Rattle.l4_audit.specs.Taking.{IsTakenLate, JudgedLate, JudgedNow}
+use Rattle.l4_audit.specs.Inner.Taking.{IsTakenLate, JudgedLate, JudgedNow}
 use Rattle.l4_audit.proofs.Reasoning.{tells_why}
 
 some_of : {A : Type 0} (o : Option A) → is_some o ≡ true → (x : A) × (o ≡ Some x)
@@ -87,19 +87,7 @@ pub as_now : (m : Machine) (w : World) (step : steps.Step DeliveryRef) → ((s :
 as_now m w (types.SendTimeout s) a b c = absurd (a s refl)
 as_now m w (types.ReceiveTimeout id) a b c = absurd (b id refl)
 as_now m w (types.Tick t) a b c = absurd (c t refl)
-as_now m w (types.Local id) a b c = refl
-as_now m w (types.Begin s) a b c = refl
-as_now m w (types.Queue s) a b c = refl
-as_now m w (types.Deliver d) a b c = refl
-as_now m w (types.Wait id) a b c = refl
-as_now m w (types.SendNobody s) a b c = refl
-as_now m w (types.ReceiveNobody id) a b c = refl
-as_now m w (types.SendCancel s) a b c = refl
-as_now m w (types.ReceiveCancel id) a b c = refl
-as_now m w (types.Drop s) a b c = refl
-as_now m w (types.Order caller target what) a b c = refl
-as_now m w (types.Obey id) a b c = refl
-as_now m w (types.Retarget s) a b c = refl
+as_now m w _ a b c = refl
 
 pub judged_late : {E : Type 0} (r : Result Bool E) (a b : Audited) (step : Step) → next_late a.machine a.world step ≡ next a.machine a.world step → IfOk r (λ taken. JudgedNow a step taken b) →
     IfOk r (λ taken. JudgedLate a step taken b)

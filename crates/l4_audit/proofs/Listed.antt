@@ -8,13 +8,13 @@ use Rattle.std.proofs.lemmas.Slice.Eq.{bytes_eq-Decides}
 use Rattle.l4_model.specs.Words.{GlobalId, same_id}
 use Rattle.l4_model.specs.Machine.{Machine, Declaration, OrderKind, CancelSend, CancelReceive, CancelBoth, Delete, place_of}
 use Rattle.l4_model.specs.World.{Name, Owed, PendingOrder, World, same_name}
-use Rattle.l4_model.specs.Rules.{received_tag, is_cross}
+use Rattle.l4_model.specs.Rules.{Failure, TimeOver, NobodyThere, CancelAsked, received_tag, is_cross}
 use Rattle.l4_model.specs.Conditions.{◌>>=◌, Found, Pending, found, undecided, receiver_of, act_of}
-use Rattle.l4_model.specs.Steps.{Step, Local, Begin, Queue, Deliver, Wait, SendTimeout, ReceiveTimeout, SendNobody, ReceiveNobody, SendCancel, ReceiveCancel, Drop, Order, Obey, Tick, Retarget, order_of, next, order_kind_code}
+use Rattle.l4_model.specs.Steps.{SendStep, ThreadStep, Step, Begin, Queue, Deliver, Drop, Order, Tick, Retarget, order_of, next, order_kind_code, OfThread, OfSend, Runs, Waits, Fails, Obeys, Begun, Queued, Failed, Dropped, Retargeted}
 use Rattle.l4_model.specs.Reached.{AreNamedOnce}
 use Rattle.l4_model.specs.Still.{is_tick}
 use Rattle.l4_model.proofs.Chains.{bind_then, guard_then, some_is, get-map}
-use Rattle.l4_model.proofs.Inversions.{local_taken, begin_taken, queue_taken, deliver_taken, wait_taken, send_timeout_taken, send_nobody_taken, send_cancel_taken, drop_taken, receive_timeout_taken, receive_nobody_taken, receive_cancel_taken, order_taken, obey_taken, retarget_taken}
+use Rattle.l4_model.proofs.Inversions.{begin_taken, queue_taken, deliver_taken, drop_taken, order_taken, retarget_taken, send_failed, thread_found}
 use Rattle.l4_model.proofs.Places.{and_true, eqb_same, id_of, known, sender_found, same_id_is, same_name_is, same_name_refl, known_send}
 use Rattle.l4_model.proofs.Worlds.{reached_facts}
 use Rattle.l4_core_model.specs.Local.{declared, undeclared}
@@ -183,48 +183,62 @@ retarget_listed m w v s h =
     let possible_so : is_some (next m w (Retarget k.o.send)) ≡ true = ap (λ x. is_some (next m w x)) (sym same) ∙ ap is_some h in
     subst (λ x. IsListed x (possible m w)) (sym same) (listed_in m w k.o.originator k.t (Retarget k.o.send) k.found inside possible_so)
 
--- One case for each step; the number is the place in the table.
-all_listed : (m : Machine) (w v : World) (step : Step) → next m w step ≡ Some v → is_tick step ≡ false → has_number step ≡ true → IsListed step (possible m w)
-all_listed m w v (Local id) h tick number =
-    let k = local_taken m w v id h in
-    listed_in m w id k.t (Local id) k.found (0, ap (λ x. Some (Some (Local x))) (id_of m w id k.t k.found).0) (ap is_some h)
-all_listed m w v (Begin s) h tick number =
+-- A step of a thread, or of its last send: the number is the place in the table.
+
+thread_listed : (m : Machine) (w : World) (id : GlobalId) (kind : ThreadStep) (n : ℕ) (t : Found) →
+    found m w id ≡ Some t → slice_get (candidates m w t) n ≡ Some (Some (OfThread kind t.declared.id)) →
+    is_some (next m w (OfThread kind id)) ≡ true → IsListed (OfThread kind id) (possible m w)
+thread_listed m w id kind n t is at goes =
+    listed_in m w id t (OfThread kind id) is
+    (n, at ∙ ap (λ x. Some (Some (OfThread kind x))) (id_of m w id t is).0) goes
+
+of_thread : (m : Machine) (w : World) (id : GlobalId) (kind : ThreadStep) (t : Found) → found m w id ≡ Some t →
+    is_some (next m w (OfThread kind id)) ≡ true → IsListed (OfThread kind id) (possible m w)
+of_thread m w id Runs t is goes = thread_listed m w id Runs 0 t is refl goes
+of_thread m w id Waits t is goes = thread_listed m w id Waits 4 t is refl goes
+of_thread m w id (Fails TimeOver) t is goes = thread_listed m w id (Fails TimeOver) 6 t is refl goes
+of_thread m w id (Fails NobodyThere) t is goes = thread_listed m w id (Fails NobodyThere) 8 t is refl goes
+of_thread m w id (Fails CancelAsked) t is goes = thread_listed m w id (Fails CancelAsked) 10 t is refl goes
+of_thread m w id Obeys t is goes = thread_listed m w id Obeys 13 t is refl goes
+
+last_listed : (m : Machine) (w v : World) (s : Name) (kind : SendStep) (n : ℕ) (p : Pending) →
+    undecided m w s ≡ Some p → is_number s.k ≡ true →
+    slice_get (candidates m w p.sender) n
+    ≡ Some (option_map (OfSend kind) (name_of p.sender.declared.id p.sender.now.context.begun)) →
+    next m w (OfSend kind s) ≡ Some v → IsListed (OfSend kind s) (possible m w)
+last_listed m w v s kind n p is number at h =
+    listed_in m w s.thread p.sender (OfSend kind s) (sender_found m w s p is)
+    (n, at ∙ ap (λ o. Some (option_map (OfSend kind) o)) (last_is m w s p is number)) (ap is_some h)
+
+refusal_listed : (m : Machine) (w v : World) (s : Name) (why : Failure) (p : Pending) → undecided m w s ≡ Some p →
+    is_number s.k ≡ true → next m w (OfSend (Failed why) s) ≡ Some v → IsListed (OfSend (Failed why) s) (possible m w)
+refusal_listed m w v s TimeOver p is number h = last_listed m w v s (Failed TimeOver) 5 p is number refl h
+refusal_listed m w v s NobodyThere p is number h = last_listed m w v s (Failed NobodyThere) 7 p is number refl h
+refusal_listed m w v s CancelAsked p is number h = last_listed m w v s (Failed CancelAsked) 9 p is number refl h
+
+all_listed : (m : Machine) (w v : World) (step : Step) → next m w step ≡ Some v → is_tick step ≡ false →
+    has_number step ≡ true → IsListed step (possible m w)
+all_listed m w v (OfThread kind id) h tick number =
+    let k = thread_found m w v kind id h in
+    of_thread m w id kind k.0 k.1 (ap is_some h)
+all_listed m w v (OfSend Begun s) h tick number =
     let k = begin_taken m w v s h in
-    listed_in m w s.thread k.t (Begin s) k.found (1, ap (λ o. Some (option_map Begin o)) (coming_is m w s k.t k.found k.next_k number)) (ap is_some h)
-all_listed m w v (Queue s) h tick number =
+    let name = coming_is m w s k.t k.found k.next_k number in
+    listed_in m w s.thread k.t (OfSend Begun s) k.found (1, ap (λ o. Some (option_map Begin o)) name) (ap is_some h)
+all_listed m w v (OfSend Queued s) h tick number =
     let k = queue_taken m w v s h in
-    listed_in m w s.thread k.p.sender (Queue s) (sender_found m w s k.p k.is_undecided) (2, ap (λ o. Some (option_map Queue o)) (last_is m w s k.p k.is_undecided number)) (ap is_some h)
-all_listed m w v (Deliver s receiver shown actual tag words) h tick number = delivery_listed m w v s receiver shown actual tag words h number
-all_listed m w v (Wait id) h tick number =
-    let k = wait_taken m w v id h in
-    listed_in m w id k.t (Wait id) k.found (4, ap (λ x. Some (Some (Wait x))) (id_of m w id k.t k.found).0) (ap is_some h)
-all_listed m w v (SendTimeout s) h tick number =
-    let k = send_timeout_taken m w v s h in
-    listed_in m w s.thread k.p.sender (SendTimeout s) (sender_found m w s k.p k.is_undecided) (5, ap (λ o. Some (option_map SendTimeout o)) (last_is m w s k.p k.is_undecided number)) (ap is_some h)
-all_listed m w v (ReceiveTimeout id) h tick number =
-    let k = receive_timeout_taken m w v id h in
-    listed_in m w id k.t (ReceiveTimeout id) k.found (6, ap (λ x. Some (Some (ReceiveTimeout x))) (id_of m w id k.t k.found).0) (ap is_some h)
-all_listed m w v (SendNobody s) h tick number =
-    let k = send_nobody_taken m w v s h in
-    listed_in m w s.thread k.p.sender (SendNobody s) (sender_found m w s k.p k.is_undecided) (7, ap (λ o. Some (option_map SendNobody o)) (last_is m w s k.p k.is_undecided number)) (ap is_some h)
-all_listed m w v (ReceiveNobody id) h tick number =
-    let k = receive_nobody_taken m w v id h in
-    listed_in m w id k.t (ReceiveNobody id) k.found (8, ap (λ x. Some (Some (ReceiveNobody x))) (id_of m w id k.t k.found).0) (ap is_some h)
-all_listed m w v (SendCancel s) h tick number =
-    let k = send_cancel_taken m w v s h in
-    listed_in m w s.thread k.p.sender (SendCancel s) (sender_found m w s k.p k.is_undecided) (9, ap (λ o. Some (option_map SendCancel o)) (last_is m w s k.p k.is_undecided number)) (ap is_some h)
-all_listed m w v (ReceiveCancel id) h tick number =
-    let k = receive_cancel_taken m w v id h in
-    listed_in m w id k.t (ReceiveCancel id) k.found (10, ap (λ x. Some (Some (ReceiveCancel x))) (id_of m w id k.t k.found).0) (ap is_some h)
-all_listed m w v (Drop s) h tick number =
+    last_listed m w v s Queued 2 k.p k.is_undecided number refl h
+all_listed m w v (OfSend (Failed why) s) h tick number =
+    let k = send_failed m w v s why h in
+    refusal_listed m w v s why k.p k.is_undecided number h
+all_listed m w v (OfSend Dropped s) h tick number =
     let k = drop_taken m w v s h in
-    listed_in m w s.thread k.p.sender (Drop s) (sender_found m w s k.p k.is_undecided) (11, ap (λ o. Some (option_map Drop o)) (last_is m w s k.p k.is_undecided number)) (ap is_some h)
+    last_listed m w v s Dropped 11 k.p k.is_undecided number refl h
+all_listed m w v (OfSend Retargeted s) h tick number = retarget_listed m w v s h
+all_listed m w v (Deliver s receiver shown actual tag words) h tick number =
+    delivery_listed m w v s receiver shown actual tag words h number
 all_listed m w v (Order caller target what) h tick number = order_listed m w v caller target what h
-all_listed m w v (Obey id) h tick number =
-    let k = obey_taken m w v id h in
-    listed_in m w id k.t (Obey id) k.found (13, ap (λ x. Some (Some (Obey x))) (id_of m w id k.t k.found).0) (ap is_some h)
 all_listed m w v (Tick cpu clock) h tick number = cc
-all_listed m w v (Retarget s) h tick number = retarget_listed m w v s h
 
 -- What is known of a candidate
 
@@ -257,40 +271,30 @@ turn_at (x ∷ os) (suc j) o once at =
 -- The thread that may be in for a step, and the step's place among its candidates.
 
 abbrev owner : List Owed → Step → Option GlobalId
-owner os (Local id) = Some id
-owner os (Begin s) = Some s.thread
-owner os (Queue s) = Some s.thread
+owner os (OfThread kind id) = Some id
+owner os (OfSend Retargeted s) = originator_named os s
+owner os (OfSend kind s) = Some s.thread
 owner os (Deliver s receiver shown actual tag words) = Some s.thread
-owner os (Wait id) = Some id
-owner os (SendTimeout s) = Some s.thread
-owner os (ReceiveTimeout id) = Some id
-owner os (SendNobody s) = Some s.thread
-owner os (ReceiveNobody id) = Some id
-owner os (SendCancel s) = Some s.thread
-owner os (ReceiveCancel id) = Some id
-owner os (Drop s) = Some s.thread
 owner os (Order caller target what) = Some caller
-owner os (Obey caller) = Some caller
 owner os (Tick cpu clock) = None
-owner os (Retarget s) = originator_named os s
 
 abbrev rank : List Owed → Step → ℕ
-rank os (Local id) = 0
-rank os (Begin s) = 1
-rank os (Queue s) = 2
+rank os (OfThread Runs id) = 0
+rank os (OfSend Begun s) = 1
+rank os (OfSend Queued s) = 2
 rank os (Deliver s receiver shown actual tag words) = 3
-rank os (Wait id) = 4
-rank os (SendTimeout s) = 5
-rank os (ReceiveTimeout id) = 6
-rank os (SendNobody s) = 7
-rank os (ReceiveNobody id) = 8
-rank os (SendCancel s) = 9
-rank os (ReceiveCancel id) = 10
-rank os (Drop s) = 11
+rank os (OfThread Waits id) = 4
+rank os (OfSend (Failed TimeOver) s) = 5
+rank os (OfThread (Fails TimeOver) id) = 6
+rank os (OfSend (Failed NobodyThere) s) = 7
+rank os (OfThread (Fails NobodyThere) id) = 8
+rank os (OfSend (Failed CancelAsked) s) = 9
+rank os (OfThread (Fails CancelAsked) id) = 10
+rank os (OfSend Dropped s) = 11
 rank os (Order caller target what) = 12
-rank os (Obey caller) = 13
+rank os (OfThread Obeys caller) = 13
 rank os (Tick cpu clock) = 0
-rank os (Retarget s) = 14 + place_named os s
+rank os (OfSend Retargeted s) = 14 + place_named os s
 
 record Fits (os : List Owed) (id : GlobalId) (n : ℕ) (step : Step) : Type 0 where
   no_tick : is_tick step ≡ false
@@ -306,6 +310,12 @@ AllFit os id n (c ∷ cs) = ((step : Step) → c ≡ Some step → Fits os id n 
 module _ (os : List Owed) (id : GlobalId) where
   fits_here : (n : ℕ) (x : Step) → Fits os id n x → (step : Step) → Some x ≡ Some step → Fits os id n step
   fits_here n x fit step e = subst (Fits os id n) (some_is x step e) fit
+
+  fits_thread : (n : ℕ) (kind : ThreadStep) → ((os : List Owed) → rank os (OfThread kind id) ≡ n) → (step : Step) →
+      Some (OfThread kind id) ≡ Some step → Fits os id n step
+  fits_thread n kind ranked step e =
+      subst (Fits os id n) (some_is (OfThread kind id) step e)
+      (record { no_tick = refl; number = refl; owned = λ once. refl; ranked = λ once. ranked os })
 
   fits_named : (n : ℕ) (f : Name → Step) (k : ℕ) → (is_number k ≡ true → Fits os id n (f (record { thread = id; k = k }))) → (step : Step) → option_map f (name_of id k) ≡ Some step → Fits os id n step
   fits_named n f k fit step e = by (is_number k) refl e
@@ -356,7 +366,7 @@ module _ (os : List Owed) (id : GlobalId) where
 
   fit_all : (m : Machine) (w : World) (t : Found) (a b : ℕ) → AllFit os id 0 (in_order m w t id (name_of id a) (name_of id b) ++ map (turn id) os)
   fit_all m w t a b = (
-    fits_here 0 (Local id) (record { no_tick = refl; number = refl; owned = λ once. refl; ranked = λ once. refl }),
+    fits_thread 0 Runs (λ os. refl),
     (
       fits_named 1 Begin a (λ is. record { no_tick = refl; number = is; owned = λ once. refl; ranked = λ once. refl }),
       (
@@ -364,25 +374,25 @@ module _ (os : List Owed) (id : GlobalId) where
         (
           fits_delivery m w b,
           (
-            fits_here 4 (Wait id) (record { no_tick = refl; number = refl; owned = λ once. refl; ranked = λ once. refl }),
+            fits_thread 4 Waits (λ os. refl),
             (
-              fits_named 5 SendTimeout b (λ is. record { no_tick = refl; number = is; owned = λ once. refl; ranked = λ once. refl }),
+              fits_named 5 (OfSend (Failed TimeOver)) b (λ is. record { no_tick = refl; number = is; owned = λ once. refl; ranked = λ once. refl }),
               (
-                fits_here 6 (ReceiveTimeout id) (record { no_tick = refl; number = refl; owned = λ once. refl; ranked = λ once. refl }),
+                fits_thread 6 (Fails TimeOver) (λ os. refl),
                 (
-                  fits_named 7 SendNobody b (λ is. record { no_tick = refl; number = is; owned = λ once. refl; ranked = λ once. refl }),
+                  fits_named 7 (OfSend (Failed NobodyThere)) b (λ is. record { no_tick = refl; number = is; owned = λ once. refl; ranked = λ once. refl }),
                   (
-                    fits_here 8 (ReceiveNobody id) (record { no_tick = refl; number = refl; owned = λ once. refl; ranked = λ once. refl }),
+                    fits_thread 8 (Fails NobodyThere) (λ os. refl),
                     (
-                      fits_named 9 SendCancel b (λ is. record { no_tick = refl; number = is; owned = λ once. refl; ranked = λ once. refl }),
+                      fits_named 9 (OfSend (Failed CancelAsked)) b (λ is. record { no_tick = refl; number = is; owned = λ once. refl; ranked = λ once. refl }),
                       (
-                        fits_here 10 (ReceiveCancel id) (record { no_tick = refl; number = refl; owned = λ once. refl; ranked = λ once. refl }),
+                        fits_thread 10 (Fails CancelAsked) (λ os. refl),
                         (
                           fits_named 11 Drop b (λ is. record { no_tick = refl; number = is; owned = λ once. refl; ranked = λ once. refl }),
                           (
                             fits_order (order_of (act_of m t)),
                             (
-                              fits_here 13 (Obey id) (record { no_tick = refl; number = refl; owned = λ once. refl; ranked = λ once. refl }),
+                              fits_thread 13 Obeys (λ os. refl),
                               fit_turns 14 os fits_turn,
                             ),
                           ),

@@ -9,9 +9,9 @@ use Rattle.l4_model.proofs.Chains.{map-changed}
 use Rattle.l4_core_model.specs.Plain as plain
 use Rattle.l4_core_model.proofs.Changed.{blocks}
 use Rattle.l4_core_model.proofs.Waiting.{unqueued_same}
-use Rattle.l4_audit.specs.Audited.{Audited, IsOf, senders_of, with_world}
+use Rattle.l4_audit.specs.Inner.Audited.{Audited, IsOf, senders_of, with_world}
 use Rattle.l4_audit.proofs.Writing.{audited, list_within}
-use Rattle.l4_thread.specs.Parts.{Block}
+use Rattle.l4_thread.specs.Inner.Parts.{Block}
 
 -- A place within the threads is within the lists.
 pub senders_within : (m : Machine) (bs : List Block) (lists : List (List plain.Waiting)) (cs : List ℕ) (os : List Owed) (a : Audited) (i : ℕ) → audited m bs (senders_of lists) cs os ≡ a → IsOf m bs lists →

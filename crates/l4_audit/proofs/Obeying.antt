@@ -8,7 +8,7 @@ use Rattle.l4_model.specs.Effects.{asked}
 use Rattle.l4_model.specs.Conditions.{Found, found}
 use Rattle.l4_model.proofs.Chains.{map-changed_same, get-map, some_is}
 use Rattle.l4_model.proofs.Places.{known, place_id}
-use Rattle.l4_audit.specs.Audited.{Audited, IsAsked, IsPlaced}
+use Rattle.l4_audit.specs.Inner.Audited.{Audited, IsAsked, IsPlaced}
 
 asked_context : (what : OrderKind) (t : Thread) → (asked what t).context ≡ t.context
 asked_context CancelSend t = refl

@@ -10,10 +10,10 @@ use Rattle.l4_model.specs.World as world
 use Rattle.l4_model.specs.World.{Name, others_owed, must_wait}
 use Rattle.l4_model.specs.Steps.{owing}
 use Rattle.l4_types.specs.declared.owed.Owed.{Owed}
-use Rattle.l4_types.specs.OwedView.{owed_of}
-use Rattle.l4_thread.specs.Parts.{Block}
-use Rattle.l4_audit.specs.Audited.{Audited, with_world}
-use Rattle.l4_audit.specs.Owing.{is_of_name, holds_up}
+use Rattle.l4_types.specs.Inner.OwedView.{owed_of}
+use Rattle.l4_thread.specs.Inner.Parts.{Block}
+use Rattle.l4_audit.specs.Inner.Audited.{Audited, with_world}
+use Rattle.l4_audit.specs.Inner.Owing.{is_of_name, holds_up}
 use Rattle.l4_audit.proofs.Writing.{audited}
 
 -- What is asked of them

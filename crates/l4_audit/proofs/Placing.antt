@@ -5,16 +5,16 @@ use Rattle.std.proofs.lemmas.Option.{slice_get_within}
 use Rattle.l4_model.specs.Words.{GlobalId}
 use Rattle.l4_model.specs.Machine.{Machine, Declaration, Instr, End, OrderKind, CancelSend, CancelReceive, CancelBoth, Delete}
 use Rattle.l4_model.specs.World.{Thread, PendingOrder, Send, Receive, Owed, Phase, Ready, Sending, Receiving, Ordering, Ended, Deleted, World, change, changed, opening, opening_thread, unqueued, others_owed, is_ready}
-use Rattle.l4_model.specs.Rules.{act}
+use Rattle.l4_model.specs.Rules.{receive_code, send_code, act}
 use Rattle.l4_model.specs.Effects.{runs, begins, waits, fails, decided, refused, receives, delivered, goes_on, asked, orders, obeyed, turns}
 use Rattle.l4_model.specs.Conditions.{Found, found, instruction}
 use Rattle.l4_model.specs.Steps as steps
 use Rattle.l4_model.specs.Reached.{Suits, WorldFacts}
 use Rattle.l4_model.proofs.Chains.{some_is, map-changed_same, get-map}
 use Rattle.l4_model.proofs.Places.{known}
-use Rattle.l4_model.proofs.Inversions.{local_taken, begin_taken, queue_taken, deliver_taken, wait_taken, send_timeout_taken, send_nobody_taken, send_cancel_taken, drop_taken, receive_timeout_taken, receive_nobody_taken, receive_cancel_taken, order_taken, obey_taken, tick_taken, retarget_taken}
+use Rattle.l4_model.proofs.Inversions.{local_taken, begin_taken, queue_taken, deliver_taken, wait_taken, drop_taken, order_taken, obey_taken, tick_taken, retarget_taken, send_failed, receive_failed}
 use Rattle.l4_worlds.specs.Late.{next_late}
-use Rattle.l4_worlds.proofs.Taken.{late_send_timeout, late_receive_timeout}
+use Rattle.l4_worlds.proofs.Taken.{late_refused, late_failed}
 
 -- What of a thread is spoken of: whether it asked for something, and its place.
 pub record Part : Type 0 where
@@ -177,67 +177,64 @@ kept m w v u i f e same is placed =
     same_parts m w v (ap parts (sym is) ∙ map-changed_same part f e u.threads i ∙ ap (map part) same) placed
 
 pub step_placed : (m : Machine) (w v : World) (step : steps.Step) → WorldFacts m w → steps.next m w step ≡ Some v → Placed m w → Placed m v
-step_placed m w v (steps.Local id) facts h placed =
+step_placed m w v (steps.OfThread steps.Runs id) facts h placed =
     let k = local_taken m w v id h in
     subst (Placed m) k.leads_to (ready_placed m w id k.t (runs (instruction k.t)) facts k.found k.ready refl placed)
-step_placed m w v (steps.Begin s) facts h placed =
+step_placed m w v (steps.OfThread steps.Waits id) facts h placed =
+    let k = wait_taken m w v id h in
+    subst (Placed m) k.leads_to
+    (ready_placed m w id k.t (waits k.receive k.t.clock) facts k.found k.ready refl placed)
+step_placed m w v (steps.OfThread (steps.Fails why) id) facts h placed =
+    let k = receive_failed m w v id why h in
+    let code = receive_code why in
+    kept m w v w k.t.at (fails code) (fails_part code) refl k.leads_to placed
+step_placed m w v (steps.OfThread steps.Obeys id) facts h placed =
+    let k = obey_taken m w v id h in
+    let what = k.order.what in
+    let u : World = change w k.target (asked what) in
+    subst (Placed m) k.leads_to
+    (silent_placed m u k.t.at obeyed obeyed_part (kept m w u w k.target (asked what) (asked_part what) refl refl placed))
+step_placed m w v (steps.OfSend steps.Begun s) facts h placed =
     let k = begin_taken m w v s h in
     subst (Placed m) k.leads_to (ready_placed m w s.thread k.t (begins k.send) facts k.found k.ready refl placed)
-step_placed m w v (steps.Queue s) facts h placed = let k = queue_taken m w v s h in subst (Placed m) k.leads_to placed
+step_placed m w v (steps.OfSend steps.Queued s) facts h placed =
+    subst (Placed m) (queue_taken m w v s h).leads_to placed
+step_placed m w v (steps.OfSend (steps.Failed why) s) facts h placed =
+    let k = send_failed m w v s why h in
+    let code = send_code why in
+    let u : World = unqueued w k.p.sender.at in
+    kept m w v u k.p.sender.at (refused code) (refused_part code) refl k.leads_to placed
+step_placed m w v (steps.OfSend steps.Dropped s) facts h placed =
+    let k = drop_taken m w v s h in
+    kept m w v (unqueued w k.p.sender.at) k.p.sender.at decided (λ t. refl) refl k.leads_to placed
+step_placed m w v (steps.OfSend steps.Retargeted s) facts h placed =
+    let k = retarget_taken m w v s h in
+    kept m w v (record w { owed = others_owed w.owed s }) k.t.at (turns k.o) (turned_part k.o) refl k.leads_to placed
 step_placed m w v (steps.Deliver s receiver shown actual tag words) facts h placed =
     let k = deliver_taken m w v s receiver shown actual tag words h in
     let got : World = change (unqueued w k.p.sender.at) k.r.at (receives k.p.send.message tag) in
-    let gone : World = change got k.p.sender.at (delivered k.p.send k.p.sender.clock) in
+    let sent : Thread → Thread = delivered k.p.send k.p.sender.clock in
+    let gone : World = change got k.p.sender.at sent in
     subst (Placed m) k.leads_to
-    (kept m got gone got k.p.sender.at (delivered k.p.send k.p.sender.clock) (delivered_part k.p.send k.p.sender.clock) refl refl
+    (kept m got gone got k.p.sender.at sent (delivered_part k.p.send k.p.sender.clock) refl refl
     (kept m w got (unqueued w k.p.sender.at) k.r.at (receives k.p.send.message tag) (λ t. refl) refl refl placed))
-step_placed m w v (steps.Wait id) facts h placed =
-    let k = wait_taken m w v id h in
-    subst (Placed m) k.leads_to (ready_placed m w id k.t (waits k.receive k.t.clock) facts k.found k.ready refl placed)
-step_placed m w v (steps.SendTimeout s) facts h placed =
-    let k = send_timeout_taken m w v s h in kept m w v (unqueued w k.p.sender.at) k.p.sender.at (refused 2) (refused_part 2) refl k.leads_to placed
-step_placed m w v (steps.SendNobody s) facts h placed =
-    let k = send_nobody_taken m w v s h in kept m w v (unqueued w k.p.sender.at) k.p.sender.at (refused 4) (refused_part 4) refl k.leads_to placed
-step_placed m w v (steps.SendCancel s) facts h placed =
-    let k = send_cancel_taken m w v s h in kept m w v (unqueued w k.p.sender.at) k.p.sender.at (refused 6) (refused_part 6) refl k.leads_to placed
-step_placed m w v (steps.Drop s) facts h placed =
-    let k = drop_taken m w v s h in kept m w v (unqueued w k.p.sender.at) k.p.sender.at decided (λ t. refl) refl k.leads_to placed
-step_placed m w v (steps.ReceiveTimeout id) facts h placed =
-    let k = receive_timeout_taken m w v id h in kept m w v w k.t.at (fails 3) (fails_part 3) refl k.leads_to placed
-step_placed m w v (steps.ReceiveNobody id) facts h placed =
-    let k = receive_nobody_taken m w v id h in kept m w v w k.t.at (fails 5) (fails_part 5) refl k.leads_to placed
-step_placed m w v (steps.ReceiveCancel id) facts h placed =
-    let k = receive_cancel_taken m w v id h in kept m w v w k.t.at (fails 7) (fails_part 7) refl k.leads_to placed
 step_placed m w v (steps.Order caller target what) facts h placed =
     let k = order_taken m w v caller target what h in
-    subst (Placed m) k.leads_to (found_placed m w caller k.t (orders k.order) k.found placed (λ has. order_within m k.t k.order k.ordered))
-step_placed m w v (steps.Obey caller) facts h placed =
-    let k = obey_taken m w v caller h in
-    let u : World = change w k.target (asked k.order.what) in
-    subst (Placed m) k.leads_to (silent_placed m u k.t.at obeyed obeyed_part (kept m w u w k.target (asked k.order.what) (asked_part k.order.what) refl refl placed))
-step_placed m w v (steps.Tick cpu clock) facts h placed = let k = tick_taken m w v cpu clock h in subst (Placed m) k.leads_to placed
-step_placed m w v (steps.Retarget s) facts h placed =
-    let k = retarget_taken m w v s h in
-    kept m w v (record w { owed = others_owed w.owed s }) k.t.at (turns k.o) (turned_part k.o) refl k.leads_to placed
+    subst (Placed m) k.leads_to
+    (found_placed m w caller k.t (orders k.order) k.found placed (λ has. order_within m k.t k.order k.ordered))
+step_placed m w v (steps.Tick cpu clock) facts h placed =
+    subst (Placed m) (tick_taken m w v cpu clock h).leads_to placed
 
 -- It stays so by a step that is possible where each finite period is over.
 pub late_placed : (m : Machine) (w v : World) (step : steps.Step) → WorldFacts m w → next_late m w step ≡ Some v → Placed m w → Placed m v
-late_placed m w v (steps.SendTimeout s) facts h placed =
-    let k = late_send_timeout m w v s h in kept m w v (unqueued w k.p.sender.at) k.p.sender.at (refused 2) (refused_part 2) refl k.leads_to placed
-late_placed m w v (steps.ReceiveTimeout id) facts h placed =
-    let k = late_receive_timeout m w v id h in kept m w v w k.t.at (fails 3) (fails_part 3) refl k.leads_to placed
+late_placed m w v (steps.OfSend (steps.Failed why) s) facts h placed =
+    let k = late_refused m w v s why h in
+    let code = send_code why in
+    let u : World = unqueued w k.p.sender.at in
+    kept m w v u k.p.sender.at (refused code) (refused_part code) refl k.leads_to placed
+late_placed m w v (steps.OfThread (steps.Fails why) id) facts h placed =
+    let k = late_failed m w v id why h in
+    let code = receive_code why in
+    kept m w v w k.t.at (fails code) (fails_part code) refl k.leads_to placed
 late_placed m w v (steps.Tick cpu clock) facts h placed = cc
-late_placed m w v (steps.Local id) facts h placed = step_placed m w v (steps.Local id) facts h placed
-late_placed m w v (steps.Begin s) facts h placed = step_placed m w v (steps.Begin s) facts h placed
-late_placed m w v (steps.Queue s) facts h placed = step_placed m w v (steps.Queue s) facts h placed
-late_placed m w v (steps.Deliver s receiver shown actual tag words) facts h placed =
-    step_placed m w v (steps.Deliver s receiver shown actual tag words) facts h placed
-late_placed m w v (steps.Wait id) facts h placed = step_placed m w v (steps.Wait id) facts h placed
-late_placed m w v (steps.SendNobody s) facts h placed = step_placed m w v (steps.SendNobody s) facts h placed
-late_placed m w v (steps.ReceiveNobody id) facts h placed = step_placed m w v (steps.ReceiveNobody id) facts h placed
-late_placed m w v (steps.SendCancel s) facts h placed = step_placed m w v (steps.SendCancel s) facts h placed
-late_placed m w v (steps.ReceiveCancel id) facts h placed = step_placed m w v (steps.ReceiveCancel id) facts h placed
-late_placed m w v (steps.Drop s) facts h placed = step_placed m w v (steps.Drop s) facts h placed
-late_placed m w v (steps.Order caller target what) facts h placed = step_placed m w v (steps.Order caller target what) facts h placed
-late_placed m w v (steps.Obey caller) facts h placed = step_placed m w v (steps.Obey caller) facts h placed
-late_placed m w v (steps.Retarget s) facts h placed = step_placed m w v (steps.Retarget s) facts h placed
+late_placed m w v step facts h placed = step_placed m w v step facts h placed

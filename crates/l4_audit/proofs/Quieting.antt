@@ -14,7 +14,7 @@ use Rattle.l4_model.proofs.Stillness.{still_exactly}
 use Rattle.l4_model.proofs.Worlds.{reached_facts}
 use Rattle.l4_types.specs.declared.reports.Ending.{Ending}
 use Rattle.l4_audit.specs.Audits.{is_quiet}
-use Rattle.l4_audit.specs.Stillness.{owes_nothing, is_still_now}
+use Rattle.l4_audit.specs.Inner.Stillness.{owes_nothing, is_still_now}
 
 pub owes_none : (os : List Owed) → (length os == 0) ≡ true → os ≡ []
 owes_none [] h = refl

@@ -38,9 +38,11 @@ last_value : {A B : Type 0} (o : Option A) (r : Reason) (f : A → B) → Agrees
 last_value None r f = record { same = refl }
 last_value (Some x) r f = record { same = refl }
 
-accepts_none : {B : Type 0} (m : Machine) (o : Option ℕ) (v : B) → Agrees (none_accepted m o ∷ []) (is_none o >> Some v)
-accepts_none m None v = record { same = refl }
-accepts_none m (Some first) v = record { same = refl }
+test_then_none : {B : Type 0} (m : Machine) (b : Bool) (r : Reason) (o : Option ℕ) (v : B) →
+    Agrees (test b r ∷ none_accepted m o ∷ []) ((b && is_none o) >> Some v)
+test_then_none m true r None v = record { same = refl }
+test_then_none m true r (Some first) v = record { same = refl }
+test_then_none m false r o v = record { same = refl }
 
 agrees : (m : Machine) (w : World) (step : Step) → Agrees (conditions m w step) (next m w step)
 agrees m w (Local id) =
@@ -68,24 +70,24 @@ agrees m w (Wait id) =
     tests (is_ready t.now.phase) _ _ _ (last_value (receive_of (act_of m t)) _ _)
 agrees m w (SendTimeout s) =
     needs (undecided m w s) _ _ _ λ p.
-    tests (is_timed_out m w p) _ _ _ (tests (not (must_wait w.owed s.thread p.send.to)) _ [] _ (passes _))
+    both_tests (is_timed_out m w p) (not (must_wait w.owed s.thread p.send.to)) _ _ _
 agrees m w (SendNobody s) =
     needs (undecided m w s) _ _ _ λ p.
-    tests (is_no_destination p.send.to (receiver_of m w p)) _ _ _ (tests (not (must_wait w.owed s.thread p.send.to)) _ [] _ (passes _))
+    both_tests (is_no_destination p.send.to (receiver_of m w p)) (not (must_wait w.owed s.thread p.send.to)) _ _ _
 agrees m w (SendCancel s) =
     needs (undecided m w s) _ _ _ λ p.
-    tests (is_waiting w p) _ _ _ (tests p.sender.now.cancel_send _ [] _ (passes _))
+    both_tests (is_waiting w p) p.sender.now.cancel_send _ _ _
 agrees m w (Drop s) =
     needs (undecided m w s) _ _ _ λ p.
     tests (is_waiting w p) _ _ _ (tests (is_deleted p.sender.now.phase) _ [] _ (passes _))
 agrees m w (ReceiveTimeout id) =
     needs (found m w id) _ _ _ λ t.
     needs (receive_now t.now.phase) _ _ _ λ receive.
-    tests (receive_passed t t.now.phase) _ _ _ (accepts_none m (first_accepted m w t receive.from) _)
+    test_then_none m (receive_passed t t.now.phase) _ (first_accepted m w t receive.from) _
 agrees m w (ReceiveNobody id) =
     needs (found m w id) _ _ _ λ t.
     needs (receive_now t.now.phase) _ _ _ λ receive.
-    tests (is_nobody receive.from (found_by m w receive.from)) _ _ _ (accepts_none m (first_accepted m w t receive.from) _)
+    test_then_none m (is_nobody receive.from (found_by m w receive.from)) _ (first_accepted m w t receive.from) _
 agrees m w (ReceiveCancel id) =
     needs (found m w id) _ _ _ λ t.
     needs (receive_now t.now.phase) _ _ _ λ receive.

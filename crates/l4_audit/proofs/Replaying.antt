@@ -13,9 +13,9 @@ use Rattle.l4_model.proofs.Faults.{tells_first_fault}
 use Rattle.l4_core_model.proofs.Changed.{run-last}
 use Rattle.l4_audit.specs.declared.reasons.StepFault.{StepFault}
 use Rattle.l4_audit.specs.declared.reasons.StepFault.TheVariants.{NoMemory, Refused}
-use Rattle.l4_audit.specs.Auditing.{Auditing, IsPassed, begins}
+use Rattle.l4_audit.specs.Inner.Auditing.{Auditing, IsPassed, begins}
 use Rattle.l4_audit.specs.Audits.{Blames, fault_at}
-use Rattle.l4_audit.specs.Taking.{Explains}
+use Rattle.l4_audit.specs.Inner.Taking.{Explains}
 use Rattle.l4_audit.proofs.Auditing.{begun_more}
 use Rattle.l4_audit.proofs.Reasoning.{is_impossible}
 

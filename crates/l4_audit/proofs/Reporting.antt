@@ -6,8 +6,8 @@ use Rattle.l4_model.specs.Machine.{Declaration, Machine}
 use Rattle.l4_model.specs.World.{Owed, opening, opening_thread}
 use Rattle.l4_model.specs.History.{report_of, view}
 use Rattle.l4_core_model.specs.Plain.{Waiting}
-use Rattle.l4_thread.specs.Parts.{Block}
-use Rattle.l4_audit.specs.Audited.{Audited, IsOf, senders_of}
+use Rattle.l4_thread.specs.Inner.Parts.{Block}
+use Rattle.l4_audit.specs.Inner.Audited.{Audited, IsOf, senders_of}
 use Rattle.l4_audit.proofs.Lists.{none_waits}
 use Rattle.l4_audit.proofs.Writing.{audited}
 

@@ -5,7 +5,7 @@ use Rattle.std.specs.Option.{option_map}
 use Rattle.std.proofs.lemmas.List.{length-map}
 use Rattle.std.proofs.lemmas.Option.{slice_get-map, get_or_from_slice_get}
 use Rattle.l4_model.specs.Words.{Id, NilThread, AnyThread, AnyLocalThread, LocalThread, GlobalThread, GlobalId, global_id, Period}
-use Rattle.l4_model.specs.Machine.{Machine, Declaration, Instr, Set, Copy, Add, Tag, Vs, Ipc, Ask, Jump, OnErr, End}
+use Rattle.l4_model.specs.Machine.{Machine, Declaration, Instr, Run, Ipc, Ask, End}
 use Rattle.l4_model.specs.World.{Thread, Send, Receive, Owed, World, Name, change, changed}
 use Rattle.l4_model.specs.Rules.{Act, RunsAlone, Sends, Receives, Orders, act, ipc_act, destination, receive_phase}
 use Rattle.l4_model.specs.Effects.{begins, waits}
@@ -16,12 +16,12 @@ use Rattle.l4_core_model.specs.Plain.{Waiting}
 use Rattle.l4_model.proofs.Chains.{some_is}
 use Rattle.l4_model.proofs.Places.{known}
 use Rattle.l4_types.specs.Ids.{global_of}
-use Rattle.l4_thread.specs.Parts.{Block}
-use Rattle.l4_thread.specs.Ipcs.{IsPermission, may_show, starts}
-use Rattle.l4_thread.specs.Requests.{asks_to_send, is_end}
+use Rattle.l4_thread.specs.Inner.Parts.{Block}
+use Rattle.l4_thread.specs.Inner.Ipcs.{IsPermission, may_show, starts}
+use Rattle.l4_thread.specs.Inner.Requests.{asks_to_send, is_end}
 use Rattle.l4_thread.proofs.Asking.{shown_is_global}
-use Rattle.l4_audit.specs.Phases.{is_nil}
-use Rattle.l4_audit.specs.Audited.{Audited, IsOf, with_world}
+use Rattle.l4_audit.specs.Inner.Phases.{is_nil}
+use Rattle.l4_audit.specs.Inner.Audited.{Audited, IsOf, with_world}
 use Rattle.l4_audit.specs.Starting.{id_at, starts_at, starting, IsStarting, CanStart}
 use Rattle.l4_audit.specs.Reasons.{reason}
 use Rattle.l4_audit.proofs.Reasoning.{is_possible}
@@ -170,15 +170,9 @@ no_send_at m t i e has asks = by i (subst (λ j. is_some (receive_of (act m t.de
     by_id (GlobalThread x) period receive h a = cc
 
     by : {P : Type 0} (i : Instr) → is_some (receive_of (act m t.declared.id t.clock t.now.context i)) ≡ true → asks_to_send t.now.context i ≡ true → P
-    by (Set x word) h a = cc
-    by (Copy x y) h a = cc
-    by (Add format x word) h a = cc
-    by (Tag word) h a = cc
-    by (Vs id) h a = cc
+    by (Run own) h a = cc
     by (Ipc to from send_period receive_period) h a = by_id (destination t.now.context to) send_period (receive_phase from receive_period) h a
     by (Ask target what) h a = cc
-    by (Jump place) h a = cc
-    by (OnErr place) h a = cc
     by End h a = cc
 
 -- A receive phase alone counts no send.

@@ -1,5 +1,6 @@
 -- The steps that a thread can be in for, test by test.
 use Rattle.std.proofs.Common.{◌≡◌, ℕ, ◌+◌, ◌-◌, ◌^◌, Bool, true, false, Option, Some, None, List, [], ◌∷◌, ◌++◌, map, length, refl, ap, sym, ◌∙◌, ◌||◌, ◌&&◌}
+use Rattle.std.proofs.Math.Bool.{and-true}
 use Rattle.std.specs.Prelude.{not, ◌==◌, is_some, is_none, replicate}
 use Rattle.std.specs.List.{list_all}
 use Rattle.std.specs.Option.{option_map}
@@ -7,15 +8,15 @@ use Rattle.l4_model.proofs.Chains.{some_is}
 use Rattle.l4_model.specs.Words.{GlobalId}
 use Rattle.l4_model.specs.Machine.{Machine, place_of, is_place}
 use Rattle.l4_model.specs.World.{Send, Receive, PendingOrder, Owed, World, Name, is_ready, is_deleted, is_alive, receive_now}
-use Rattle.l4_model.specs.Rules.{Act, RunsAlone, Sends, Receives, Orders, received_tag, is_cross}
+use Rattle.l4_model.specs.Rules.{Failure, TimeOver, NobodyThere, CancelAsked, Act, RunsAlone, Sends, Receives, Orders, received_tag, is_cross}
 use Rattle.l4_model.specs.Conditions.{Found, found, found_by, Pending, undecided, receiver_of, act_of, is_waiting, first_accepted, is_nobody, is_no_destination, is_timed_out, ◌>>=◌, ◌>>◌}
-use Rattle.l4_model.specs.Steps.{Step, next, order_kind_code, runs_alone, send_of, receive_of, order_of, receive_passed, after_local, after_begin, after_wait, after_obey, after_receive_timeout, after_receive_nobody, after_receive_cancel, after_queue, after_send_timeout, after_send_nobody, after_send_cancel, after_drop}
+use Rattle.l4_model.specs.Steps.{Step, next, order_kind_code, runs_alone, send_of, receive_of, order_of, receive_passed, after_local, after_begin, after_wait, after_obey, after_failure, may_fail, after_queue, after_refusal, after_drop}
 use Rattle.l4_model.specs.Still.{late, candidates, deliveries, orders, is_still_thread}
 use Rattle.l4_model.proofs.Places.{id_of, eqb_same}
 use Rattle.l4_core_model.proofs.Changed.{same_ids, same_bytes}
-use Rattle.l4_thread.specs.Parts.{Block}
-use Rattle.l4_audit.specs.Audited.{Audited, with_world}
-use Rattle.l4_audit.specs.Stillness.{may_obey, may_stop, is_taken, may_arrive, may_decide, may_send, is_still_found}
+use Rattle.l4_thread.specs.Inner.Parts.{Block}
+use Rattle.l4_audit.specs.Inner.Audited.{Audited, with_world}
+use Rattle.l4_audit.specs.Inner.Stillness.{may_obey, may_stop, is_taken, may_arrive, may_decide, may_send, is_still_found}
 use Rattle.l4_audit.proofs.Writing.{audited}
 
 -- Late clocks
@@ -94,19 +95,20 @@ abbrev holds : {B : Type 0} → Option B → (B → Bool) → Bool
 holds None p = false
 holds (Some y) p = p y
 
-guards_bound : {A B : Type 0} (o : Option B) (p q : B → Bool) (f : B → A) → is_none (o >>= λ y. p y >> (q y >> Some (f y))) ≡ not (holds o (λ y. p y && q y))
-guards_bound None p q f = refl
-guards_bound (Some y) p q f = two_guards (p y) (q y) (f y)
-
 guard_bound : {A B : Type 0} (o : Option B) (p : B → Bool) (f : B → A) → is_none (o >>= λ y. p y >> Some (f y)) ≡ not (holds o p)
 guard_bound None p f = refl
 guard_bound (Some y) p f = one_guard (p y) (f y)
 
+guards_bound : {A B : Type 0} (o : Option B) (p q : B → Bool) (f : B → A) → is_none (o >>= λ y. p y >> (q y >> Some (f y))) ≡ not (holds o (λ y. p y && q y))
+guards_bound None p q f = refl
+guards_bound (Some y) p q f = two_guards (p y) (q y) (f y)
+
 stops : (m : Machine) (w : World) (t : Found) → found m w t.declared.id ≡ Some t →
-    (is_none (after_receive_timeout m w t.declared.id) && (is_none (after_receive_nobody m w t.declared.id) && is_none (after_receive_cancel m w t.declared.id)))
+    (is_none (after_failure m w t.declared.id TimeOver) && (is_none (after_failure m w t.declared.id NobodyThere)
+    && is_none (after_failure m w t.declared.id CancelAsked)))
     ≡ not (may_stop m w t (receive_now t.now.phase))
 stops m w t is =
-    rw (timeouts, nobodies, cancels) (by (receive_now t.now.phase))
+    rw (fails_so TimeOver, fails_so NobodyThere, fails_so CancelAsked) (by (receive_now t.now.phase))
   where
     none : Receive → Bool
     none receive = is_none (first_accepted m w t receive.from)
@@ -120,14 +122,9 @@ stops m w t is =
     wish : Receive → Bool
     wish receive = t.now.cancel_receive
 
-    timeouts : is_none (after_receive_timeout m w t.declared.id) ≡ not (holds (receive_now t.now.phase) (λ r. passed r && none r))
-    timeouts = rw is (guards_bound (receive_now t.now.phase) passed none _)
-
-    nobodies : is_none (after_receive_nobody m w t.declared.id) ≡ not (holds (receive_now t.now.phase) (λ r. nobody r && none r))
-    nobodies = rw is (guards_bound (receive_now t.now.phase) nobody none _)
-
-    cancels : is_none (after_receive_cancel m w t.declared.id) ≡ not (holds (receive_now t.now.phase) wish)
-    cancels = rw is (guard_bound (receive_now t.now.phase) wish _)
+    fails_so : (why : Failure) → is_none (after_failure m w t.declared.id why) ≡
+        not (holds (receive_now t.now.phase) (λ r. may_fail m w t r why))
+    fails_so why = rw is (guard_bound (receive_now t.now.phase) (λ r. may_fail m w t r why) _)
 
     tests : (a b d e : Bool) → (not (a && d) && (not (b && d) && not e)) ≡ not (e || ((a || b) && d))
     tests true b true true = refl
@@ -245,8 +242,8 @@ arrives m w p None = refl
 arrives m w p (Some r) = refl
 
 sends_still : (m : Machine) (w : World) (s : Name) (t : Found) (o : Option Send) → undecided m w s ≡ option_map (λ send. record { sender = t; send = send }) o → w.owed ≡ [] →
-    (is_none (after_queue m w s) && (is_none (after_send_timeout m w s) && (is_none (after_send_nobody m w s) && (is_none (after_send_cancel m w s)
-    && (is_none (after_drop m w s) && list_all (λ step. is_none (next m w step)) (deliveries m w (undecided m w s) s))))))
+    (is_none (after_queue m w s) && (is_none (after_refusal m w s TimeOver) && (is_none (after_refusal m w s NobodyThere)
+    && (is_none (after_refusal m w s CancelAsked) && (is_none (after_drop m w s) && list_all (λ step. is_none (next m w step)) (deliveries m w (undecided m w s) s))))))
     ≡ not (may_send m w t o)
 sends_still m w s t None u none = rw u refl
 sends_still m w s t (Some send) u none =
@@ -262,9 +259,11 @@ sends_still m w s t (Some send) u none =
     let c : Bool = p.sender.now.cancel_send in
     let g : Bool = is_deleted p.sender.now.phase in
     let queues : is_none (after_queue m w s) ≡ not (holds to (λ r. alive r && out r)) = rw (is, none) (guards_bound to alive out _) in
-    let times : is_none (after_send_timeout m w s) ≡ not st = rw (is, none) (one_guard st _) in
-    let nobodies : is_none (after_send_nobody m w s) ≡ not sn = rw (is, none) (one_guard sn _) in
-    let cancels : is_none (after_send_cancel m w s) ≡ not (waits && c) = rw is (two_guards waits c _) in
+    let times : is_none (after_refusal m w s TimeOver) ≡ not st =
+    rw (is, none) (one_guard (st && true) _ ∙ ap not (and-true st)) in
+    let nobodies : is_none (after_refusal m w s NobodyThere) ≡ not sn =
+    rw (is, none) (one_guard (sn && true) _ ∙ ap not (and-true sn)) in
+    let cancels : is_none (after_refusal m w s CancelAsked) ≡ not (waits && c) = rw is (one_guard (waits && c) _) in
     let drops : is_none (after_drop m w s) ≡ not (waits && g) = rw is (two_guards waits g _) in
     let delivers : list_all (λ step. is_none (next m w step)) (deliveries m w (undecided m w s) s) ≡ not (holds to taken) =
     ap (λ o. list_all (λ step. is_none (next m w step)) (deliveries m w o s)) is ∙ deliver_is m w s p is to refl in
@@ -321,13 +320,13 @@ still_is m w id t is nothing =
     let l2 : Bool = is_none (after_begin m w (record { thread = tid; k = t.now.context.begun + 1 })) in
     let l3 : Bool = is_none (after_wait m w tid) in
     let ob : Bool = is_none (after_obey m w tid) in
-    let rt : Bool = is_none (after_receive_timeout m w tid) in
-    let rn : Bool = is_none (after_receive_nobody m w tid) in
-    let rc : Bool = is_none (after_receive_cancel m w tid) in
+    let rt : Bool = is_none (after_failure m w tid TimeOver) in
+    let rn : Bool = is_none (after_failure m w tid NobodyThere) in
+    let rc : Bool = is_none (after_failure m w tid CancelAsked) in
     let qu : Bool = is_none (after_queue m w last) in
-    let st : Bool = is_none (after_send_timeout m w last) in
-    let sn : Bool = is_none (after_send_nobody m w last) in
-    let sc : Bool = is_none (after_send_cancel m w last) in
+    let st : Bool = is_none (after_refusal m w last TimeOver) in
+    let sn : Bool = is_none (after_refusal m w last NobodyThere) in
+    let sc : Bool = is_none (after_refusal m w last CancelAsked) in
     let dr : Bool = is_none (after_drop m w last) in
     let start : is_still_thread m w id ≡ (l1 && (l2 && (l3 && (ob && (rt && (rn && (rc && (qu && (st && (sn && (sc && (dr && list_all none (ds ++ os))))))))))))) =
     ap (λ o. list_all none (candidates m w o)) is in

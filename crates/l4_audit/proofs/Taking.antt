@@ -5,15 +5,16 @@ use Rattle.std.proofs.lemmas.Option.{slice_get_within}
 use Rattle.l4_model.specs.Words.{GlobalId}
 use Rattle.l4_model.specs.Machine.{Machine, OrderKind, Instr, place_of}
 use Rattle.l4_model.specs.World.{Name, Thread, PendingOrder, Owed, World, change, queued, unqueued, owed_of, others_owed}
+use Rattle.l4_model.specs.Rules.{Failure, receive_code, send_code}
 use Rattle.l4_model.specs.Effects.{runs, fails, decided, refused, orders, asked, obeyed, turns}
 use Rattle.l4_model.specs.Conditions.{Found, Pending, found, undecided, receiver_of, instruction, act_of}
-use Rattle.l4_model.specs.Steps.{Step, Local, Begin, Queue, Wait, SendTimeout, ReceiveTimeout, SendNobody, ReceiveNobody, SendCancel, ReceiveCancel, Drop, Order, Obey, Tick, Retarget, next, order_of, without_send}
+use Rattle.l4_model.specs.Steps.{Step, Local, Begin, Queue, Wait, Drop, Order, Obey, Tick, Retarget, next, order_of, without_send, OfThread, OfSend, Fails, Failed}
 use Rattle.l4_model.proofs.Chains.{some_is}
-use Rattle.l4_model.proofs.Inversions.{local_taken, queue_taken, send_timeout_taken, send_nobody_taken, send_cancel_taken, drop_taken, receive_timeout_taken, receive_nobody_taken, receive_cancel_taken, order_taken, obey_taken, tick_taken, retarget_taken}
-use Rattle.l4_audit.specs.Audited.{Audited, IsAsked, with_world}
+use Rattle.l4_model.proofs.Inversions.{local_taken, queue_taken, drop_taken, order_taken, obey_taken, tick_taken, retarget_taken, send_failed, receive_failed}
+use Rattle.l4_audit.specs.Inner.Audited.{Audited, IsAsked, with_world}
 use Rattle.l4_audit.specs.Reasons.{reason}
 use Rattle.l4_audit.specs.Starting.{starting}
-use Rattle.l4_audit.specs.Taking.{IsTaken}
+use Rattle.l4_audit.specs.Inner.Taking.{IsTaken}
 use Rattle.l4_audit.proofs.Reasoning.{is_possible}
 use Rattle.l4_audit.proofs.Starting.{begins_now, waits_now}
 
@@ -55,23 +56,14 @@ queues_on a b s p r is to none e =
 send_lands : (a b : Audited) (p q : Pending) (f : Thread → Thread) (v : World) → q ≡ p → without_send a.world q f ≡ v → b ≡ with_world a (change (unqueued a.world p.sender.at) p.sender.at f) → b ≡ with_world a v
 send_lands a b p q f v same leads e = e ∙ ap (with_world a) (ap (λ (x : Pending). without_send a.world x f) (sym same) ∙ leads)
 
-pub times_out : (a b : Audited) (s : Name) (p : Pending) → undecided a.machine a.world s ≡ Some p → reason a.machine a.world (SendTimeout s) ≡ None →
-    b ≡ with_world a (change (unqueued a.world p.sender.at) p.sender.at (refused 2)) → IsTaken a (SendTimeout s) b
-times_out a b s p is none e =
-    lands a b (SendTimeout s) none λ v h.
-    let k = send_timeout_taken a.machine a.world v s h in send_lands a b p k.p (refused 2) v (some_is k.p p (sym k.is_undecided ∙ is)) k.leads_to e
-
-pub finds_nobody : (a b : Audited) (s : Name) (p : Pending) → undecided a.machine a.world s ≡ Some p → reason a.machine a.world (SendNobody s) ≡ None →
-    b ≡ with_world a (change (unqueued a.world p.sender.at) p.sender.at (refused 4)) → IsTaken a (SendNobody s) b
-finds_nobody a b s p is none e =
-    lands a b (SendNobody s) none λ v h.
-    let k = send_nobody_taken a.machine a.world v s h in send_lands a b p k.p (refused 4) v (some_is k.p p (sym k.is_undecided ∙ is)) k.leads_to e
-
-pub is_cancelled : (a b : Audited) (s : Name) (p : Pending) → undecided a.machine a.world s ≡ Some p → reason a.machine a.world (SendCancel s) ≡ None →
-    b ≡ with_world a (change (unqueued a.world p.sender.at) p.sender.at (refused 6)) → IsTaken a (SendCancel s) b
-is_cancelled a b s p is none e =
-    lands a b (SendCancel s) none λ v h.
-    let k = send_cancel_taken a.machine a.world v s h in send_lands a b p k.p (refused 6) v (some_is k.p p (sym k.is_undecided ∙ is)) k.leads_to e
+pub is_refused : (a b : Audited) (s : Name) (p : Pending) (why : Failure) → undecided a.machine a.world s ≡ Some p →
+    reason a.machine a.world (OfSend (Failed why) s) ≡ None →
+    b ≡ with_world a (change (unqueued a.world p.sender.at) p.sender.at (refused (send_code why))) →
+    IsTaken a (OfSend (Failed why) s) b
+is_refused a b s p why is none e =
+    lands a b (OfSend (Failed why) s) none λ v h.
+    let k = send_failed a.machine a.world v s why h in
+    send_lands a b p k.p (refused (send_code why)) v (some_is k.p p (sym k.is_undecided ∙ is)) k.leads_to e
 
 pub is_dropped : (a u b : Audited) (s : Name) (p : Pending) → undecided a.machine a.world s ≡ Some p → reason a.machine a.world (Drop s) ≡ None →
     u ≡ with_world a (unqueued a.world p.sender.at) → b ≡ with_world u (change u.world p.sender.at decided) → IsTaken a (Drop s) b
@@ -80,23 +72,13 @@ is_dropped a u b s p is none left e =
     let k = drop_taken a.machine a.world v s h in
     send_lands a b p k.p decided v (some_is k.p p (sym k.is_undecided ∙ is)) k.leads_to (e ∙ ap (λ (x : Audited). with_world x (change x.world p.sender.at decided)) left)
 
-pub receive_times_out : (a b : Audited) (id : GlobalId) (t : Found) → found a.machine a.world id ≡ Some t → reason a.machine a.world (ReceiveTimeout id) ≡ None →
-    b ≡ with_world a (change a.world t.at (fails 3)) → IsTaken a (ReceiveTimeout id) b
-receive_times_out a b id t is none e =
-    lands a b (ReceiveTimeout id) none λ v h.
-    let k = receive_timeout_taken a.machine a.world v id h in found_lands a b t k.t (λ x. fails 3) v (some_is k.t t (sym k.found ∙ is)) k.leads_to e
-
-pub receive_finds_nobody : (a b : Audited) (id : GlobalId) (t : Found) → found a.machine a.world id ≡ Some t → reason a.machine a.world (ReceiveNobody id) ≡ None →
-    b ≡ with_world a (change a.world t.at (fails 5)) → IsTaken a (ReceiveNobody id) b
-receive_finds_nobody a b id t is none e =
-    lands a b (ReceiveNobody id) none λ v h.
-    let k = receive_nobody_taken a.machine a.world v id h in found_lands a b t k.t (λ x. fails 5) v (some_is k.t t (sym k.found ∙ is)) k.leads_to e
-
-pub receive_is_cancelled : (a b : Audited) (id : GlobalId) (t : Found) → found a.machine a.world id ≡ Some t → reason a.machine a.world (ReceiveCancel id) ≡ None →
-    b ≡ with_world a (change a.world t.at (fails 7)) → IsTaken a (ReceiveCancel id) b
-receive_is_cancelled a b id t is none e =
-    lands a b (ReceiveCancel id) none λ v h.
-    let k = receive_cancel_taken a.machine a.world v id h in found_lands a b t k.t (λ x. fails 7) v (some_is k.t t (sym k.found ∙ is)) k.leads_to e
+pub receive_fails : (a b : Audited) (id : GlobalId) (t : Found) (why : Failure) → found a.machine a.world id ≡ Some t →
+    reason a.machine a.world (OfThread (Fails why) id) ≡ None →
+    b ≡ with_world a (change a.world t.at (fails (receive_code why))) → IsTaken a (OfThread (Fails why) id) b
+receive_fails a b id t why is none e =
+    lands a b (OfThread (Fails why) id) none λ v h.
+    let k = receive_failed a.machine a.world v id why h in
+    found_lands a b t k.t (λ x. fails (receive_code why)) v (some_is k.t t (sym k.found ∙ is)) k.leads_to e
 
 pub orders_on : (a b : Audited) (caller target : GlobalId) (what : OrderKind) (t : Found) (order : PendingOrder) → found a.machine a.world caller ≡ Some t → order_of (act_of a.machine t) ≡ Some order →
     reason a.machine a.world (Order caller target what) ≡ None → b ≡ with_world a (change a.world t.at (orders order)) → IsTaken a (Order caller target what) b

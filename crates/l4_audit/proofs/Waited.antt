@@ -9,8 +9,8 @@ use Rattle.l4_model.specs.Words.{GlobalId}
 use Rattle.l4_model.specs.World.{Owed, World}
 use Rattle.l4_model.specs.Machine.{Machine}
 use Rattle.l4_core_model.specs.Plain.{Waiting}
-use Rattle.l4_thread.specs.Parts.{Block}
-use Rattle.l4_audit.specs.Audited.{Audited, IsOf}
+use Rattle.l4_thread.specs.Inner.Parts.{Block}
+use Rattle.l4_audit.specs.Inner.Audited.{Audited, IsOf}
 use Rattle.l4_audit.specs.Waits.{waiting_thread, waits_in}
 use Rattle.l4_audit.specs.declared.waits.Wait.{Wait}
 use Rattle.l4_audit.proofs.Writing.{audited}

@@ -6,8 +6,8 @@ use Rattle.l4_core_model.specs.Plain.{Waiting}
 use Rattle.l4_model.specs.Machine.{Machine, Declaration}
 use Rattle.l4_model.specs.World.{Thread, Owed, change, changed}
 use Rattle.l4_model.proofs.Chains.{set_changed, map-changed}
-use Rattle.l4_thread.specs.Parts.{Block}
-use Rattle.l4_audit.specs.Audited.{Audited, IsOf, with_world}
+use Rattle.l4_thread.specs.Inner.Parts.{Block}
+use Rattle.l4_audit.specs.Inner.Audited.{Audited, IsOf, with_world}
 
 abbrev pub audited : Machine → List Block → List (List ℕ) → List ℕ → List Owed → Audited
 audited m bs ws cs os = record { machine = m; world = record { threads = map (λ (b : Block). b.thread) bs; waiting = ws; clocks = cs; owed = os } }

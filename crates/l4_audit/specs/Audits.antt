@@ -13,7 +13,7 @@ use Rattle.l4_audit.specs.declared.audit.AuditFault.{AuditFault}
 use Rattle.l4_audit.specs.declared.audit.AuditFault.TheVariants.{NoMemory, Refused}
 use Rattle.l4_audit.specs.declared.reasons.StepFault.{StepFault}
 use Rattle.l4_audit.specs.declared.reasons.StepFault.TheVariants.{NoMemory as Wanting, Refused as Refuses}
-use Rattle.l4_audit.specs.Auditing.{Auditing}
+use Rattle.l4_audit.specs.Inner.Auditing.{Auditing}
 
 abbrev pub is_quiet : Ending → Bool
 is_quiet Quiet = true

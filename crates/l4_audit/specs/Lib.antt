@@ -1,13 +1,6 @@
-pub mod Audited
-pub mod Auditing
 pub mod Audits
-pub mod Delivering
-pub mod Due
-pub mod Owing
-pub mod Phases
+pub mod Inner
 pub mod Possible
 pub mod Reasons
 pub mod Starting
-pub mod Stillness
-pub mod Taking
 pub mod Waits

@@ -11,13 +11,14 @@ use Rattle.l4_model.specs.Conditions.{◌>>=◌, ◌>>◌, Found, found, undecid
 use Rattle.l4_model.specs.Steps.{Step, Local, Begin, Queue, Deliver, Wait, SendTimeout}
 use Rattle.l4_model.specs.Steps.{ReceiveTimeout, SendNobody, ReceiveNobody, SendCancel}
 use Rattle.l4_model.specs.Steps.{ReceiveCancel, Drop, Order, Obey, Retarget, order_of, next}
+use Rattle.l4_model.specs.Steps.{OfSend, Retargeted}
 use Rattle.l4_model.specs.History.{reached}
 use Rattle.l4_model.specs.Still.{is_tick}
 use Rattle.l4_core_model.specs.Runs.{IsMachine}
 use Rattle.l4_types.specs.StepView.{step_of}
 use Rattle.l4_types.specs.declared.steps.Delivery.{Delivery}
 use Rattle.l4_types.specs.declared.steps.Step as types
-use Rattle.l4_audit.specs.Audited.{Audited}
+use Rattle.l4_audit.specs.Inner.Audited.{Audited}
 
 -- A trace names a send by a number from 1 on, in 64 bits.
 abbrev pub is_number : ℕ → Bool
@@ -102,13 +103,9 @@ Adds a old new step = Appends old new (option_to_list (where_possible a.machine 
 
 -- A step that names a send names it by such a number. A retarget has the name that a delivery told.
 abbrev pub has_number : Step → Bool
-has_number (Begin s) = is_number s.k
-has_number (Queue s) = is_number s.k
+has_number (OfSend Retargeted s) = true
+has_number (OfSend kind s) = is_number s.k
 has_number (Deliver s receiver shown actual tag words) = is_number s.k
-has_number (SendTimeout s) = is_number s.k
-has_number (SendNobody s) = is_number s.k
-has_number (SendCancel s) = is_number s.k
-has_number (Drop s) = is_number s.k
 has_number _ = true
 
 -- A step is possible and no tick, and a trace can tell it.

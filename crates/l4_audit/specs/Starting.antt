@@ -4,9 +4,9 @@ use Rattle.l4_model.specs.Words.{GlobalId, global_id}
 use Rattle.l4_model.specs.Machine.{Machine, Declaration, Instr}
 use Rattle.l4_model.specs.World.{Thread, World, change}
 use Rattle.l4_model.specs.Rules.{act}
-use Rattle.l4_thread.specs.Ipcs.{may_show, starts}
-use Rattle.l4_thread.specs.Requests.{asks_to_send, is_end}
-use Rattle.l4_audit.specs.Audited.{Audited}
+use Rattle.l4_thread.specs.Inner.Ipcs.{may_show, starts}
+use Rattle.l4_thread.specs.Inner.Requests.{asks_to_send, is_end}
+use Rattle.l4_audit.specs.Inner.Audited.{Audited}
 
 abbrev pub starts_at : Machine → (id : GlobalId) → (now : ℕ) → Instr → Thread → Thread
 starts_at m id now i t = starts (act m id now t.context i) now t

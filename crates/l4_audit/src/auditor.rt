@@ -6,12 +6,12 @@ ghost use Rattle.l4_model.specs.Still.{IsStill, late};
 ghost use Rattle.l4_types.specs.ReportView.{report_of_view};
 ghost use Rattle.l4_types.specs.StepView.{seen, step_of};
 ghost use Rattle.l4_worlds.specs.Told.{until_due};
-ghost use Rattle.l4_audit.specs.Auditing.{Judges, begins, waiting_send};
+ghost use Rattle.l4_audit.specs.Inner.Auditing.{Judges, begins, waiting_send};
 ghost use Rattle.l4_audit.specs.Audits.{is_quiet};
-ghost use Rattle.l4_audit.specs.Due.{ticks_of, CanBeDue};
+ghost use Rattle.l4_audit.specs.Inner.Due.{ticks_of, CanBeDue};
 ghost use Rattle.l4_audit.specs.Possible.{possible};
 ghost use Rattle.l4_audit.specs.Reasons.{reason};
-ghost use Rattle.l4_audit.specs.Stillness.{is_still_now};
+ghost use Rattle.l4_audit.specs.Inner.Stillness.{is_still_now};
 ghost use Rattle.l4_audit.specs.Waits.{waits_in};
 
 use crate::reasons::{Reason, StepFault};
@@ -36,7 +36,7 @@ pub struct Auditor<'m> {
 }
 
 impl<'m> Model for Auditor<'m> {
-    ghost use Rattle.l4_audit.specs.Auditing.{Auditing, IsUnderWay};
+    ghost use Rattle.l4_audit.specs.Inner.Auditing.{Auditing, IsUnderWay};
 
     ghost Value = { Auditing };
 

@@ -3,16 +3,17 @@ ghost use Rattle.std.specs.Prelude.{◌≡◌, ◌<◌, ◌≤◌, false, is_som
 ghost use Rattle.std.specs.Option.{option_map};
 ghost use Rattle.l4_model.specs.Machine.{Machine, declaration_of, same_cpu, most_instructions};
 ghost use Rattle.l4_model.specs.World.{is_ready, is_deleted, receive_now};
-ghost use Rattle.l4_model.specs.Conditions.{instruction, act_of, may_still_accept, call_accepts, is_elsewhere};
+ghost use Rattle.l4_model.specs.Conditions.{instruction, act_of, may_still_accept, call_accepts};
+ghost use Rattle.l4_model.specs.Conditions.{is_elsewhere};
 ghost use Rattle.l4_model.specs.Rules.{accepts, destination, ask_act};
 ghost use Rattle.l4_model.specs.Steps.{runs_alone, send_of, receive_of, order_of, receive_passed};
 ghost use Rattle.l4_types.specs.StepView.{order_kind_of};
-ghost use Rattle.l4_audit.specs.Delivering.{IsFound};
-ghost use Rattle.l4_audit.specs.Phases.{has_phase};
+ghost use Rattle.l4_audit.specs.Inner.Delivering.{IsFound};
+ghost use Rattle.l4_audit.specs.Inner.Phases.{has_phase};
 ghost use Rattle.l4_audit.specs.Reasons.{state_in};
-ghost use Rattle.l4_script.specs.Scripts.{instr_of, to_of};
-ghost use Rattle.l4_thread.specs.Ipcs.{may_show};
-ghost use Rattle.l4_thread.specs.Requests.{is_end};
+ghost use Rattle.l4_script.specs.Inner.Scripts.{instr_of, to_of};
+ghost use Rattle.l4_thread.specs.Inner.Ipcs.{may_show};
+ghost use Rattle.l4_thread.specs.Inner.Requests.{is_end};
 
 use crate::periods::has_passed;
 use l4_script::instructions::{Instr, Ipc, To};

@@ -1,7 +1,7 @@
 //! Periods that pass.
 ghost use Rattle.std.specs.Prelude.{◌≡◌};
 ghost use Rattle.l4_model.specs.Conditions.{has_passed, is_zero};
-ghost use Rattle.l4_types.specs.PeriodView.{period_of};
+ghost use Rattle.l4_types.specs.Inner.PeriodView.{period_of};
 
 use l4_types::times::Period;
 

@@ -1,7 +1,7 @@
 //! A machine at one moment.
 ghost use Rattle.std.specs.Prelude.{◌≡◌, ◌<◌, All, length, map, slice_index};
 ghost use Rattle.l4_model.specs.World.{list_at};
-ghost use Rattle.l4_types.specs.OwedView.{owed_of};
+ghost use Rattle.l4_types.specs.Inner.OwedView.{owed_of};
 ghost use Rattle.l4_model.specs.Conditions.{found, found_at, found_by, undecided, receiver_of};
 
 mod copies;
@@ -43,8 +43,8 @@ pub struct World<'m> {
 
 impl<'m> Model for World<'m> {
     ghost use Rattle.std.specs.Prelude.{map};
-    ghost use Rattle.l4_types.specs.OwedView.{owed_of};
-    ghost use Rattle.l4_audit.specs.Audited.{Audited, IsOf, senders_of};
+    ghost use Rattle.l4_types.specs.Inner.OwedView.{owed_of};
+    ghost use Rattle.l4_audit.specs.Inner.Audited.{Audited, IsOf, senders_of};
 
     ghost Value = { Audited };
 

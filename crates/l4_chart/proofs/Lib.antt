@@ -3,3 +3,4 @@ pub mod Lawful
 pub mod Repeated
 pub mod Shown
 pub mod Under
+pub mod AllSteps

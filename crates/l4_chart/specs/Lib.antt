@@ -1,11 +1,11 @@
 pub mod Cells
 pub mod Charts
 pub mod Drawings
+pub mod Inner
 pub mod Laws
 pub mod Layouts
 pub mod Marks
-pub mod Scenes
 pub mod Texts
-pub mod ThreadFaults
 pub mod Threads
 pub mod Windows
+pub mod Whole

@@ -22,4 +22,5 @@ mod shapes;
 pub mod svg;
 pub mod text;
 pub mod threads;
+pub mod whole;
 pub mod window;

@@ -1,6 +1,6 @@
 //! Where the parts of a picture stand, in whole pixels.
 ghost use Rattle.std.specs.Prelude.{◌≡◌, ◌≤◌, length};
-ghost use Rattle.l4_chart.specs.Scenes.{column_step, scene_of, at, column_x, row_y, end_x};
+ghost use Rattle.l4_chart.specs.Inner.Scenes.{column_step, scene_of, at, column_x, row_y, end_x};
 
 use crate::chart::Chart;
 use crate::layout::widest;

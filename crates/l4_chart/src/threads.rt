@@ -4,7 +4,7 @@ ghost use Rattle.std.specs.Option.{option_copied};
 ghost use Rattle.l4_chart.specs.Threads.{items_left, named_thread, threads_of};
 ghost use Rattle.l4_chart.specs.declared.threads.ThreadsFault.TheVariants.{NoMemory as OutOfMemory};
 ghost use Rattle.l4_chart.specs.declared.threads.ThreadsFault.TheVariants.{Item as FaultyItem};
-ghost use Rattle.l4_chart.specs.ThreadFaults.{IsThreadsFault};
+ghost use Rattle.l4_chart.specs.Inner.ThreadFaults.{IsThreadsFault};
 
 use l4_script::machine::Machine;
 use l4_types::errors::NoMemory;

@@ -3,7 +3,7 @@ use Rattle.std.proofs.Common.{◌≡◌, ℕ, List, ◌∷◌, sym, ap}
 use Rattle.l4_model.specs.Words.{Id, NilThread, AnyThread, AnyLocalThread, LocalThread, GlobalThread, word_of}
 use Rattle.l4_types.specs.Ids.{kind_of}
 use Rattle.l4_types.specs.declared.ids.Kind.TheVariants.{Local, Global}
-use Rattle.l4_states.specs.Codes.{id_code}
+use Rattle.l4_states.specs.Inner.Codes.{id_code}
 
 pub local_id : (id : Id) (word : ℕ) → kind_of id ≡ Local → word ≡ word_of id → (rest : List ℕ) → id_code id rest ≡ 3 ∷ word ∷ rest
 local_id NilThread word is of rest = cc

@@ -3,9 +3,9 @@ use Rattle.std.proofs.Common.{◌≡◌, ℕ, zero, suc, ◌+◌, ◌/◌, ◌%�
 use Rattle.std.proofs.Math.Seq.{drop-cons}
 use Rattle.std.proofs.lemmas.List.{drop_all}
 use Rattle.std.proofs.lemmas.Bool.{lt-ltb, le-ltb, eqb-true, eq-eqb}
-use Rattle.l4_states.specs.Bytes.{put_by, put_number}
-use Rattle.l4_states.specs.Codes.{chained, each, length_code, number_code, sized}
-use Rattle.l4_codes.specs.Written.{Written, with_numbers, Writes, room, IsLeft}
+use Rattle.l4_states.specs.Inner.Bytes.{put_by, put_number}
+use Rattle.l4_states.specs.Inner.Codes.{chained, each, length_code, number_code, sized}
+use Rattle.l4_codes.specs.Inner.Written.{Written, with_numbers, Writes, room, IsLeft}
 
 -- A value, and then another
 pub then : (f g : List ℕ → List ℕ) (a b c : Written) → Writes f a b → Writes g b c → Writes (λ rest. f (g rest)) a c

@@ -1,8 +1,8 @@
 //! Numbers in bytes.
 ghost use Rattle.std.specs.Prelude.{◌≡◌, ◌+◌, ◌^◌, ◌<◌, ◌++◌, [], List, ℕ, IfOk, OnOk};
-ghost use Rattle.l4_states.specs.Bytes.{put_number};
-ghost use Rattle.l4_states.specs.Codes.{each, flag_code, length_code, number_code};
-ghost use Rattle.l4_codes.specs.Written.{with_numbers, zeros_told, Writes};
+ghost use Rattle.l4_states.specs.Inner.Bytes.{put_number};
+ghost use Rattle.l4_states.specs.Inner.Codes.{each, flag_code, length_code, number_code};
+ghost use Rattle.l4_codes.specs.Inner.Written.{with_numbers, zeros_told, Writes};
 
 use std::alloc::{AllocError, Global};
 use std::marker::Model;
@@ -17,7 +17,7 @@ pub struct Code {
 }
 
 impl Model for Code {
-    ghost use Rattle.l4_codes.specs.Written.{Written};
+    ghost use Rattle.l4_codes.specs.Inner.Written.{Written};
 
     ghost Value = { Written };
 

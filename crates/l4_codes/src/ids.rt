@@ -1,7 +1,7 @@
 //! Ids and names.
 ghost use Rattle.std.specs.Prelude.{OnOk};
-ghost use Rattle.l4_states.specs.Codes.{global_code, id_code, name_code};
-ghost use Rattle.l4_codes.specs.Written.{Writes};
+ghost use Rattle.l4_states.specs.Inner.Codes.{global_code, id_code, name_code};
+ghost use Rattle.l4_codes.specs.Inner.Written.{Writes};
 
 use crate::code::Code;
 use l4_types::ids::{GlobalId, Kind, ThreadId};

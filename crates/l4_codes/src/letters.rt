@@ -1,11 +1,12 @@
 //! Letters.
 ghost use Rattle.std.specs.Prelude.{◌≡◌, OnOk, length};
-ghost use Rattle.l4_states.specs.Codes.{cause_code, content_code, owed_code, refusal_code};
-ghost use Rattle.l4_states.specs.Codes.{result_code};
-ghost use Rattle.l4_types.specs.LetterHeads.{content_with, word_count};
-ghost use Rattle.l4_types.specs.LetterView.{cause_of_withdrawal, decision_of, refusal_of_send};
-ghost use Rattle.l4_types.specs.OwedView.{owed_of};
-ghost use Rattle.l4_codes.specs.Written.{Writes};
+ghost use Rattle.l4_states.specs.Inner.Codes.{cause_code, content_code, owed_code, refusal_code};
+ghost use Rattle.l4_states.specs.Inner.Codes.{result_code};
+ghost use Rattle.l4_types.specs.Inner.LetterHeads.{content_with, word_count};
+ghost use Rattle.l4_types.specs.Inner.LetterView.{cause_of_withdrawal, decision_of};
+ghost use Rattle.l4_types.specs.Inner.LetterView.{refusal_of_send};
+ghost use Rattle.l4_types.specs.Inner.OwedView.{owed_of};
+ghost use Rattle.l4_codes.specs.Inner.Written.{Writes};
 
 use crate::code::Code;
 use crate::ids::{put_global, put_name};

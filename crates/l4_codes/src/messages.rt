@@ -1,9 +1,10 @@
 //! Messages and sends.
 ghost use Rattle.std.specs.Prelude.{OnOk};
-ghost use Rattle.l4_states.specs.Codes.{listed, message_code, number_code, optional, receive_code};
-ghost use Rattle.l4_states.specs.Codes.{send_code};
-ghost use Rattle.l4_types.specs.PeriodView.{period_of};
-ghost use Rattle.l4_codes.specs.Written.{Writes};
+ghost use Rattle.l4_states.specs.Inner.Codes.{listed, message_code, number_code, optional};
+ghost use Rattle.l4_states.specs.Inner.Codes.{receive_code};
+ghost use Rattle.l4_states.specs.Inner.Codes.{send_code};
+ghost use Rattle.l4_types.specs.Inner.PeriodView.{period_of};
+ghost use Rattle.l4_codes.specs.Inner.Written.{Writes};
 
 use crate::code::Code;
 use crate::ids::{put_global, put_id};

@@ -1,12 +1,12 @@
 //! Processors.
 ghost use Rattle.std.specs.Prelude.{◌<◌, OnOk, length};
 ghost use Rattle.l4_core_model.specs.Plain.{list_of};
-ghost use Rattle.l4_states.specs.Codes.{armed_code, chained, each, lists_code, local_code};
-ghost use Rattle.l4_states.specs.Codes.{number_code, optional, owed_code, sized, thread_code};
-ghost use Rattle.l4_states.specs.Codes.{waiting_code};
-ghost use Rattle.l4_types.specs.OwedView.{owed_of};
+ghost use Rattle.l4_states.specs.Inner.Codes.{armed_code, chained, each, lists_code, local_code};
+ghost use Rattle.l4_states.specs.Inner.Codes.{number_code, optional, owed_code, sized, thread_code};
+ghost use Rattle.l4_states.specs.Inner.Codes.{waiting_code};
+ghost use Rattle.l4_types.specs.Inner.OwedView.{owed_of};
 ghost use Rattle.std.specs.Option.{option_map};
-ghost use Rattle.l4_codes.specs.Written.{Writes};
+ghost use Rattle.l4_codes.specs.Inner.Written.{Writes};
 
 use crate::code::Code;
 use crate::ids::put_global;

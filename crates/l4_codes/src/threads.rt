@@ -1,12 +1,13 @@
 //! Threads.
 ghost use Rattle.std.specs.Prelude.{OnOk};
-ghost use Rattle.l4_states.specs.Codes.{asked_code, context_code, optional, phase_code, send_code};
-ghost use Rattle.l4_states.specs.Codes.{thread_code};
+ghost use Rattle.l4_states.specs.Inner.Codes.{asked_code, context_code, optional, phase_code};
+ghost use Rattle.l4_states.specs.Inner.Codes.{send_code};
+ghost use Rattle.l4_states.specs.Inner.Codes.{thread_code};
 ghost use Rattle.l4_types.specs.StepView.{order_kind_of};
 ghost use Rattle.l4_model.specs.Steps.{order_kind_code};
-ghost use Rattle.l4_states.specs.Codes.{number_code};
-ghost use Rattle.l4_codes.specs.States.{standing_code, state_number};
-ghost use Rattle.l4_codes.specs.Written.{Writes};
+ghost use Rattle.l4_states.specs.Inner.Codes.{number_code};
+ghost use Rattle.l4_codes.specs.Inner.States.{standing_code, state_number};
+ghost use Rattle.l4_codes.specs.Inner.Written.{Writes};
 
 use crate::code::Code;
 use crate::ids::{put_global, put_id};

@@ -33,9 +33,10 @@ use Rattle.l4_commands.specs.declared.job.ReplayJob.{ReplayJob}
 use Rattle.l4_commands.specs.declared.job.RunJob.{RunJob}
 use Rattle.l4_commands.specs.declared.job.Scheduler.{Scheduler}
 use Rattle.l4_commands.specs.declared.job.Scheduler.TheVariants.{Any, Placed}
+use Rattle.l4_commands.specs.declared.job.TextChart.{TextChart}
 use Rattle.l4_commands.specs.declared.job.Wanted.{Wanted}
 use Rattle.l4_commands.specs.declared.job.Wanted.TheVariants.{Whatever, NoEnding, AnEnding}
-use Rattle.l4_commands.specs.declared.texts.TheConstants.{INPUT_TWICE, SCHEDULE_OF_RUN, RECORD_AND_EXPECT, TURNS_ALONE, NEXT_BESIDE, OVER_ITS_FILE, TWO_FORMS, UNKNOWN_LINE, DELETED_LINE, NUMBER_LINE, NONE_AND_SOME, TRACE_BESIDE}
+use Rattle.l4_commands.specs.declared.texts.TheConstants.{INPUT_TWICE, SCHEDULE_OF_RUN, RECORD_AND_EXPECT, TURNS_ALONE, NEXT_BESIDE, OVER_ITS_FILE, TWO_FORMS, UNKNOWN_LINE, DELETED_LINE, NUMBER_LINE, NONE_AND_SOME, TRACE_BESIDE, CHART_AND_JSON}
 use Rattle.l4_commands.specs.declared.words.WordsFault.{WordsFault}
 use Rattle.l4_commands.specs.declared.words.WordsFault.TheVariants.{Help, Usage, NoMemory}
 
@@ -172,6 +173,11 @@ abbrev pub traced_in : List Row → Option (Option ℕ)
 traced_in rows =
     traced_by (first_of (codes "trace") rows) (number_in (codes "trace") rows)
 
+-- The chart that is drawn of an ending is for a terminal that shows lines, until the output is known.
+abbrev pub text_chart : (asked : Bool) → Option TextChart
+text_chart true = Some (record { shows_lines = true; width = 0 })
+text_chart false = None
+
 pub record IsSearchOf (rows : List Row) (search : EndingsJob) : Type 0 where
   pub file : Some search.file.now ≡ first_of (codes "file") rows
   pub scheduler : search.scheduler ≡ scheduler_by (has_flag (codes "placed") rows)
@@ -182,6 +188,7 @@ pub record IsSearchOf (rows : List Row) (search : EndingsJob) : Type 0 where
   pub never : option_copied search.never ≡ first_of (codes "never") rows
   pub wanted :
       Some search.wanted ≡ wanted_by (has_flag (codes "none") rows) (has_flag (codes "some") rows)
+  pub chart : search.chart ≡ text_chart (has_flag (codes "chart") rows)
   pub waits : search.waits ≡ has_flag (codes "waits") rows
   pub expected : option_copied search.expected ≡ first_of (codes "expect") rows
   pub trace : Some search.trace ≡ traced_in rows
@@ -290,15 +297,19 @@ abbrev pub is_trace_beside : List Row → Bool
 is_trace_beside rows =
     has_value (codes "trace") rows
     && (has_flag (codes "placed") rows || has_flag (codes "none") rows
-    || has_flag (codes "some") rows || has_flag (codes "waits") rows
-    || has_value (codes "expect") rows)
+    || has_flag (codes "some") rows || has_flag (codes "chart") rows
+    || has_flag (codes "waits") rows || has_value (codes "expect") rows)
+
+abbrev pub is_chart_and_json : List Row → Bool
+is_chart_and_json rows = has_flag (codes "chart") rows && has_flag (codes "json") rows
 
 -- A line that can't be searched for is told first.
 abbrev pub endings_told : List Row → Option Text
 endings_told rows =
     or_else (lines_told rows)
     (if is_none_and_some rows then Some NONE_AND_SOME.now
-    else (if is_trace_beside rows then Some TRACE_BESIDE.now else None))
+    else (if is_trace_beside rows then Some TRACE_BESIDE.now
+    else (if is_chart_and_json rows then Some CHART_AND_JSON.now else None)))
 
 -- Whether the standard input, which can be read only once, is named more than once. A job reads a
 -- machine text, a trace or a schedule, and expectations.

@@ -95,6 +95,7 @@ endings_rules =
     ∷ flag (codes "stuck")
     ∷ flag (codes "none")
     ∷ flag (codes "some")
+    ∷ flag (codes "chart")
     ∷ flag (codes "waits")
     ∷ value (codes "expect")
     ∷ number (codes "trace") []

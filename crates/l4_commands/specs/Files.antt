@@ -6,6 +6,7 @@ use Rattle.std.specs.Str.{bytes_eq}
 use Rattle.l4_commands.specs.declared.job.ChartForm.{ChartForm}
 use Rattle.l4_commands.specs.declared.job.ChartForm.TheVariants.{Lines, Ascii}
 use Rattle.l4_commands.specs.declared.job.Job.{Job}
+use Rattle.l4_commands.specs.declared.job.TextChart.{TextChart}
 use Rattle.l4_commands.specs.declared.job.Job.TheVariants.{Run, Replay, Next, Audit, Chart, Endings, Lint}
 
 -- The name that stands for the standard input: `-`. A file of that name is `./-`.
@@ -64,9 +65,17 @@ form_on false form = form
 abbrev pub width_on : (columns width : ℕ) → ℕ
 width_on columns width = if width == 0 then columns else width
 
+abbrev pub chart_on : (shows_lines : Bool) → (columns : ℕ) → Option TextChart → Option TextChart
+chart_on shows_lines columns None = None
+chart_on shows_lines columns (Some chart) =
+    Some (record { shows_lines = shows_lines; width = columns })
+
 abbrev pub on_output : (shows_lines : Bool) → (columns : ℕ) → Job → Job
 on_output shows_lines columns (Chart c) = Chart (record c {
   form = form_on shows_lines c.form;
   width = width_on columns c.width;
+})
+on_output shows_lines columns (Endings search) = Endings (record search {
+  chart = chart_on shows_lines columns search.chart;
 })
 on_output shows_lines columns job = job

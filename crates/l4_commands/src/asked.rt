@@ -7,20 +7,20 @@ ghost use Rattle.l4_commands.specs.Asked.{IsAuditOf, IsChartOf, IsJobIn, IsLintO
 ghost use Rattle.l4_commands.specs.Asked.{IsReplayOf, IsRunOf, IsSearchOf, are_two, chart_told};
 ghost use Rattle.l4_commands.specs.Asked.{endings_told, extras_in, flags_in, form_of, has_flag};
 ghost use Rattle.l4_commands.specs.Asked.{has_turns_alone, has_value, is_input_of, is_next_beside};
-ghost use Rattle.l4_commands.specs.Asked.{is_none_and_some, is_over_file, is_same};
+ghost use Rattle.l4_commands.specs.Asked.{is_chart_and_json, is_none_and_some, is_over_file, is_same};
 ghost use Rattle.l4_commands.specs.Asked.{is_trace_beside, judged_in, line_told, lines_told};
 ghost use Rattle.l4_commands.specs.Asked.{lists_input, names_input, names_input_twice, number_in};
 ghost use Rattle.l4_commands.specs.Asked.{printed_in, record_told, replay_told, rest_in, rows_in};
-ghost use Rattle.l4_commands.specs.Asked.{run_told, scheduler_by, told_in, traced_in, usage_text};
+ghost use Rattle.l4_commands.specs.Asked.{run_told, scheduler_by, text_chart, told_in, traced_in, usage_text};
 ghost use Rattle.l4_commands.specs.Asked.{wanted_by};
 
 use crate::job::{
     AuditJob, ChartForm, ChartJob, EndingsJob, Extras, INPUT, Job, Judged, LintJob, NextJob,
-    Printed, ReplayJob, RunJob, Scheduler, Wanted, list_name,
+    Printed, ReplayJob, RunJob, Scheduler, TextChart, Wanted, list_name,
 };
 use crate::texts::{
-    INPUT_TWICE, NEXT_BESIDE, NONE_AND_SOME, OVER_ITS_FILE, RECORD_AND_EXPECT, SCHEDULE_OF_RUN,
-    TRACE_BESIDE, TURNS_ALONE, TWO_FORMS,
+    CHART_AND_JSON, INPUT_TWICE, NEXT_BESIDE, NONE_AND_SOME, OVER_ITS_FILE, RECORD_AND_EXPECT,
+    SCHEDULE_OF_RUN, TRACE_BESIDE, TURNS_ALONE, TWO_FORMS,
 };
 use clap::ArgMatches;
 use l4_lines::lines::{LineFault, line_fault};
@@ -226,6 +226,16 @@ fn wanted_by(none: bool, some: bool) -> Option<Wanted>
     }
 }
 
+// The chart that is drawn of an ending, for a terminal that shows lines.
+fn text_chart(asked: bool) -> Option<TextChart>
+    ensures { result ≡ text_chart asked }
+{
+    asked.then_some(TextChart {
+        shows_lines: true,
+        width: 0,
+    })
+}
+
 // The number of the ending whose trace is asked for: `Some(None)` where none is.
 fn trace_number(matches: &ArgMatches<'_>) -> Option<Option<u64>>
     ensures { IfSome result (λ traced. Some traced ≡ traced_in (rows_in matches.now)) }
@@ -248,6 +258,7 @@ fn endings_job<'a>(matches: &ArgMatches<'a>) -> Option<EndingsJob<'a>>
         with_line: text(matches, "with"),
         never: text(matches, "never"),
         wanted: wanted_by(has_flag(matches, "none"), has_flag(matches, "some"))?,
+        chart: text_chart(has_flag(matches, "chart")),
         waits: has_flag(matches, "waits"),
         expected: text(matches, "expect"),
         trace: trace_number(matches)?,
@@ -410,8 +421,16 @@ fn is_trace_beside(matches: &ArgMatches<'_>) -> bool
         && (has_flag(matches, "placed")
             || has_flag(matches, "none")
             || has_flag(matches, "some")
+            || has_flag(matches, "chart")
             || has_flag(matches, "waits")
             || has_value(matches, "expect"))
+}
+
+// Whether `--chart` and `--json` are both given.
+fn is_chart_and_json(matches: &ArgMatches<'_>) -> bool
+    ensures { result ≡ is_chart_and_json (rows_in matches.now) }
+{
+    has_flag(matches, "chart") && has_flag(matches, "json")
 }
 
 // Which arguments of `endings` exclude each other, or the line that can't be searched for.
@@ -426,6 +445,9 @@ fn endings_conflict<'a>(matches: &ArgMatches<'a>) -> Option<Conflict<'a>>
     }
     if is_trace_beside(matches) {
         return Some(Conflict::Arguments(TRACE_BESIDE));
+    }
+    if is_chart_and_json(matches) {
+        return Some(Conflict::Arguments(CHART_AND_JSON));
     }
     None
 }

@@ -1,8 +1,8 @@
 //! The jobs that the words of a command line can ask for.
 ghost use Rattle.std.specs.Prelude.{◌≡◌, ◌||◌};
 ghost use Rattle.std.specs.Option.{option_copied};
-ghost use Rattle.l4_commands.specs.Files.{alone, expected_of, file_of, list_name, on_output};
-ghost use Rattle.l4_commands.specs.Files.{second_file_of};
+ghost use Rattle.l4_commands.specs.Files.{alone, chart_on, expected_of, file_of, list_name};
+ghost use Rattle.l4_commands.specs.Files.{on_output, second_file_of};
 
 /// The name that stands for the standard input. A file of that name is `./-`.
 pub const INPUT: &str = "-";
@@ -62,6 +62,15 @@ pub enum Wanted {
     AnEnding,
 }
 
+/// A chart as text, for a terminal.
+#[derive(Clone, Copy, Debug, PartialEq, Eq)]
+pub struct TextChart {
+    /// Whether the terminal shows lines. Else the chart has characters of ASCII alone.
+    pub shows_lines: bool,
+    /// The width of the terminal in columns, or 0 for 80 columns.
+    pub width: u64,
+}
+
 /// A search for all endings of the machine text in a file.
 #[derive(Clone, Copy, Debug, PartialEq, Eq)]
 pub struct EndingsJob<'a> {
@@ -83,6 +92,8 @@ pub struct EndingsJob<'a> {
     pub never: Option<&'a str>,
     /// How many such endings should exist.
     pub wanted: Wanted,
+    /// The chart that is drawn of how each ending is come to, if one is.
+    pub chart: Option<TextChart>,
     /// Whether to tell of each ending which thread waits for which.
     pub waits: bool,
     /// The name of the file with what is expected of each ending.
@@ -325,9 +336,24 @@ impl<'a> Job<'a> {
                 },
                 ..chart
             }),
+            Job::Endings(search) => Job::Endings(EndingsJob {
+                chart: chart_on(shows_lines, columns, search.chart),
+                ..search
+            }),
             other => other,
         }
     }
+}
+
+// A chart for an output that may show lines, and is so many columns wide, where one is drawn.
+fn chart_on(shows_lines: bool, columns: u64, chart: Option<TextChart>) -> Option<TextChart>
+    ensures { result ≡ chart_on shows_lines columns chart }
+{
+    chart?;
+    Some(TextChart {
+        shows_lines,
+        width: columns,
+    })
 }
 
 /// The name of the file that has the schedule: what follows a first `@`. None where there is no

@@ -326,6 +326,11 @@ come",
         help: "Ends with status 4 where there is no such ending, with 0 where one was found",
     },
     Argument {
+        name: "chart",
+        takes: Takes::Nothing,
+        help: "Prints above each report a chart of how it comes to that",
+    },
+    Argument {
         name: "waits",
         takes: Takes::Nothing,
         help: "Prints behind each who waits for whom there, as `replay` does",

@@ -2,7 +2,7 @@
 
 /// The version of the program and of the kit that proves it, and the profiles and formats that it
 /// reads.
-pub const VERSION: &str = "0.38
+pub const VERSION: &str = "0.39
 rattle-kit-13f logic dac8208d650f15bf
 profiles 1 and 2, words of 64 and 32 bits";
 
@@ -238,7 +238,13 @@ For more information, try '--help'.
 ";
 
 pub const TRACE_BESIDE: &str =
-    "error: '--trace' goes with none of '--placed', '--none', '--some', '--waits' and '--expect'
+    "error: '--trace' goes with none of '--placed', '--none', '--some', '--chart', '--waits' and \
+'--expect'
+
+For more information, try '--help'.
+";
+
+pub const CHART_AND_JSON: &str = "error: only one of '--chart' and '--json' can be given
 
 For more information, try '--help'.
 ";

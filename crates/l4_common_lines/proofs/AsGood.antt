@@ -9,7 +9,7 @@ use Rattle.l4_model.specs.History.{report_of}
 use Rattle.l4_worlds.specs.Timeless.{timeless_phase, timeless_send, timeless_thread}
 use Rattle.l4_worlds.specs.Numberless.{numberless_thread}
 use Rattle.l4_worlds.specs.Bare.{AreAsGood, bare_thread}
-use Rattle.l4_in_common.specs.InCommon.{AreDeleted, AreToldAlike, HaveInCommon, thread_at}
+use Rattle.l4_bisimilar.specs.InCommon.{AreDeleted, AreToldAlike, HaveInCommon, thread_at}
 
 -- What is left of a thread without time, numbers and, where it is deleted, registers.
 

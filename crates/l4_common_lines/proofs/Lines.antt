@@ -7,7 +7,7 @@ use Rattle.l4_model.specs.Machine.{Declaration, Machine}
 use Rattle.l4_model.specs.World.{Deleted, Name, Phase, Thread, World, opening_thread}
 use Rattle.l4_model.specs.History.{Report, report_of, state_of, view, waiting}
 use Rattle.l4_model.proofs.Worlds.{reached_facts}
-use Rattle.l4_in_common.specs.InCommon.{AreDeleted, AreToldAlike, HaveInCommon}
+use Rattle.l4_bisimilar.specs.InCommon.{AreDeleted, AreToldAlike, HaveInCommon}
 use Rattle.l4_words.specs.Names.{name_word}
 use Rattle.l4_words.specs.Numbers.{hexadecimal}
 use Rattle.l4_words.specs.Threads.{id_word, thread_word}

@@ -11,8 +11,8 @@ use Rattle.l4_model.specs.History.{reached, report_of, waiting}
 use Rattle.l4_model.proofs.Chains.{some_is}
 use Rattle.l4_model.proofs.Places.{known_send, eqb_same, place_id}
 use Rattle.l4_core_model.specs.Runs.{is_empty}
-use Rattle.l4_shifted.specs.Shifted.{timeless_send}
-use Rattle.l4_in_common.specs.InCommon.{AreDeleted, AreToldAlike, HaveInCommon, thread_at}
+use Rattle.l4_bisimilar.specs.Shifted.{timeless_send}
+use Rattle.l4_bisimilar.specs.InCommon.{AreDeleted, AreToldAlike, HaveInCommon, thread_at}
 use Rattle.l4_common_lines.proofs.Begun.{Has, is_listed, is_pending}
 
 at_some : {A : Type 0} (xs : List A) (i : ℕ) (d x : A) → slice_get xs i ≡ Some x →

@@ -18,7 +18,7 @@ ghost use Rattle.l4_model.specs.World.{World};
 ghost use Rattle.l4_expect.specs.Expected.{Expected, expectations_of};
 ghost use Rattle.l4_expect.specs.Unmet.{are_met};
 ghost use Rattle.l4_expect.specs.declared.judging.Scope.TheVariants.{Endings};
-ghost use Rattle.l4_in_common.specs.InCommon.{HaveInCommon};
+ghost use Rattle.l4_bisimilar.specs.InCommon.{HaveInCommon};
 ghost use Rattle.l4_worlds.specs.Bare.{AreAsGood};
 ghost use Rattle.l4_common_lines.specs.CommonLines.{may_be_asked, HaveLinesInCommon};
 ghost use Rattle.l4_common_lines.specs.CommonLines.{ReportsHaveLinesInCommon};

@@ -9,11 +9,11 @@ use Rattle.l4_core_model.specs.Local.{declared, undeclared}
 use Rattle.l4_model.specs.Words.{same_id}
 use Rattle.l4_model.specs.Machine.{Machine, place_of}
 use Rattle.l4_model.proofs.Places.{same_id_is}
-use Rattle.l4_core.specs.Covered.{IsCovered}
-use Rattle.l4_core.specs.Places.{has}
-use Rattle.l4_core.specs.Parts.{AreCore}
+use Rattle.l4_core.specs.Inner.Covered.{IsCovered}
+use Rattle.l4_core.specs.Inner.Places.{has}
+use Rattle.l4_core.specs.Inner.Parts.{AreCore}
 use Rattle.l4_core.specs.Processor.{Processor, with_local}
-use Rattle.l4_core.specs.Settled.{IsOwn}
+use Rattle.l4_core.specs.Inner.Settled.{IsOwn}
 use Rattle.l4_core.proofs.Covering.{covers-clocked, covers-filled}
 use Rattle.l4_core.proofs.Fitting.{no_send_unqueued}
 use Rattle.l4_core.proofs.Noting.{covered-changed}

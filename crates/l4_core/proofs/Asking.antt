@@ -9,9 +9,9 @@ use Rattle.l4_core_model.specs.Acts.{asks}
 use Rattle.l4_types.specs.declared.steps.OrderKind.{OrderKind}
 use Rattle.l4_types.specs.declared.steps.OrderKind.TheVariants.{CancelSend, CancelReceive, CancelBoth, Delete}
 use Rattle.l4_types.specs.StepView.{order_kind_of}
-use Rattle.l4_thread.specs.Parts.{Block}
-use Rattle.tcb_arena.specs.Blocks.{is_ready as is_ready_in}
-use Rattle.l4_core.specs.PhaseLists.{enters_lists}
+use Rattle.l4_thread.specs.Inner.Parts.{Block}
+use Rattle.tcb_arena.specs.Inner.Blocks.{is_ready as is_ready_in}
+use Rattle.l4_core.specs.Inner.PhaseLists.{enters_lists}
 use Rattle.l4_core.specs.Processor.{Processor, with_local}
 use Rattle.l4_core.specs.declared.known.ProcessorState.TheInside.{Inside}
 use Rattle.l4_core.proofs.Fitting.{fits-deleted}

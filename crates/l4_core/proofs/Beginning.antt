@@ -1,7 +1,7 @@
 -- An ipc begins.
 use Rattle.std.proofs.Common.{◌≡◌, ℕ, ◌<◌, Bool, true, false, cond, is_some, Option, Some, None, length, refl, ap, sym, ◌∙◌, subst, arith}
 use Rattle.l4_model.specs.Words.{GlobalId, Id, NilThread, AnyThread, AnyLocalThread, LocalThread, GlobalThread}
-use Rattle.l4_model.specs.Machine.{Machine, Instr, Set, Copy, Add, Tag, Vs, Ipc, Ask, Jump, OnErr, End}
+use Rattle.l4_model.specs.Machine.{Machine, Instr, Run, Ipc, Ask, End}
 use Rattle.l4_model.specs.World.{Context, Receive, Send, Thread, opening_thread}
 use Rattle.l4_model.specs.Rules.{Act, RunsAlone, Sends, Receives, Orders, act, ask_act, destination, ipc_act, is_admitted, receive_phase, request}
 use Rattle.l4_model.specs.Conditions.{act_of, instruction}
@@ -12,12 +12,12 @@ use Rattle.l4_core_model.specs.Local.{Local, comes_to, declared, destination_pla
 use Rattle.l4_core_model.specs.Acts.{acts, send_goes_to, tells}
 use Rattle.l4_core_model.proofs.Changed.{get-changed}
 use Rattle.l4_thread.specs.declared.phases.Began.TheVariants.{Send as BeganSend}
-use Rattle.l4_thread.specs.Ipcs.{began_of}
-use Rattle.l4_core.specs.FastPath.{partner_of}
-use Rattle.l4_core.specs.Parts.{AreCore}
+use Rattle.l4_thread.specs.Inner.Ipcs.{began_of}
+use Rattle.l4_core.specs.Inner.FastPath.{partner_of}
+use Rattle.l4_core.specs.Inner.Parts.{AreCore}
 use Rattle.l4_core.specs.Processor.{Processor, with_local}
 use Rattle.l4_core.specs.EventBuffers.{EventBuffer, with_step}
-use Rattle.l4_core.specs.Turning.{work, Does, IsAtHand, IsNewSender, begun_by}
+use Rattle.l4_core.specs.Inner.Turning.{work, Does, IsAtHand, IsNewSender, begun_by}
 use Rattle.l4_core.proofs.Fitting.{unqueued, ready_not_sends}
 
 sends_of : (a : Act) → BeganSend ≡ began_of a → (send : Send) × (a ≡ Sends send)
@@ -66,13 +66,7 @@ goes_to_partner m t now c (Ask target what) send e = by target e
     by AnyLocalThread e = cc
     by (LocalThread word) e = cc
     by (GlobalThread id) e = asks id (is_admitted m t id what) e
-goes_to_partner m t now c (Set a word) send e = cc
-goes_to_partner m t now c (Copy a b) send e = cc
-goes_to_partner m t now c (Add format a word) send e = cc
-goes_to_partner m t now c (Tag word) send e = cc
-goes_to_partner m t now c (Vs id) send e = cc
-goes_to_partner m t now c (Jump place) send e = cc
-goes_to_partner m t now c (OnErr place) send e = cc
+goes_to_partner m t now c (Run own) send e = cc
 goes_to_partner m t now c End send e = cc
 
 -- The thread that begins it has this send.

@@ -6,8 +6,8 @@ use Rattle.l4_core_model.specs.Plain.{due_block}
 use Rattle.l4_core_model.specs.Turns as turns
 use Rattle.l4_core_model.specs.Turns.{first_some, ByDue, ByReady}
 use Rattle.l4_core.specs.declared.known.duties.Duty.{Duty}
-use Rattle.l4_core.specs.Choosing.{duty_of, IsFound}
-use Rattle.l4_core.specs.Covered.{HasNoDuty}
+use Rattle.l4_core.specs.Inner.Choosing.{duty_of, IsFound}
+use Rattle.l4_core.specs.Inner.Covered.{HasNoDuty}
 use Rattle.l4_core.specs.Processor.{Processor}
 use Rattle.l4_core.proofs.Choosing.{chooses_duty, chooses_other}
 

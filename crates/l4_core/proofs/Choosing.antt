@@ -8,7 +8,7 @@ use Rattle.l4_model.specs.Machine.{Machine}
 use Rattle.l4_core_model.specs.Plain as plain
 use Rattle.l4_core_model.specs.Local.{Local, is_own}
 use Rattle.l4_core_model.specs.Turns.{Duty, Choice, ByDuty, ByDue, ByReady, first_some, first_duty, choice}
-use Rattle.l4_core.specs.Covered.{duty_at, IsFirstDuty, HasNoDuty}
+use Rattle.l4_core.specs.Inner.Covered.{duty_at, IsFirstDuty, HasNoDuty}
 
 -- The first duty
 

@@ -16,9 +16,9 @@ use Rattle.l4_core_model.specs.Local.{Local, is_own, thread, held, changes, come
 use Rattle.l4_core_model.specs.Acts.{zero_refusable}
 use Rattle.l4_core_model.specs.Turns.{Duty, CancelsOwn, clock_is, has_told}
 use Rattle.l4_core_model.proofs.Fit.{get_other, get_cases}
-use Rattle.l4_core.specs.Places.{has, count}
-use Rattle.l4_core.specs.Settled.{IsOwn}
-use Rattle.l4_core.specs.Covered.{after_retarget, duty_at, names_nobody, untold_of, or_tell, deleted_duty, or_close, or_refuse, receive_duty, living_duty, duty_of_thread, Covers, CoversBut, CoversOthers}
+use Rattle.l4_core.specs.Inner.Places.{has, count}
+use Rattle.l4_core.specs.Inner.Settled.{IsOwn}
+use Rattle.l4_core.specs.Inner.Covered.{after_retarget, duty_at, names_nobody, untold_of, or_tell, deleted_duty, or_close, or_refuse, receive_duty, living_duty, duty_of_thread, Covers, CoversBut, CoversOthers}
 use Rattle.l4_core.proofs.PlaceSets.{count_less}
 use Rattle.l4_core.proofs.Zeros.{apart_in, is_somewhere, find-filter, get-map, get_apart, send_same}
 use Rattle.l4_core.proofs.Settling.{or_cases}

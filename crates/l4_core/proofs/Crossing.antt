@@ -10,7 +10,7 @@ use Rattle.l4_model.specs.World.{Message}
 use Rattle.l4_model.specs.Rules.{is_cross}
 use Rattle.l4_core_model.specs.Local.{declared, undeclared, is_own}
 use Rattle.l4_core_model.specs.Runs.{IsMachine}
-use Rattle.l4_core.specs.Settled.{IsOwn}
+use Rattle.l4_core.specs.Inner.Settled.{IsOwn}
 
 get_some : (ds : List Declaration) (i : ℕ) → i < length ds → slice_get ds i ≡ Some (slice_index_or ds i undeclared)
 get_some [] i lt = absurd (omega arith)

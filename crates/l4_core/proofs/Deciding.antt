@@ -2,9 +2,9 @@
 use Rattle.std.proofs.Common.{◌≡◌, ℕ, true, false, ap, sym, ◌∙◌, subst}
 use Rattle.l4_core_model.specs.Plain as plain
 use Rattle.l4_core_model.specs.Local.{is_own, relists}
-use Rattle.l4_core.specs.Parts.{AreCore}
+use Rattle.l4_core.specs.Inner.Parts.{AreCore}
 use Rattle.l4_core.specs.Processor.{Processor, with_local}
-use Rattle.l4_core.specs.Turning.{IsFree, IsSender}
+use Rattle.l4_core.specs.Inner.Turning.{IsFree, IsSender}
 use Rattle.l4_core.proofs.Fitting.{unready, sends_not_ready}
 use Rattle.l4_core.proofs.Settling.{queued-none}
 

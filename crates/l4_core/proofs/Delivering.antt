@@ -12,12 +12,12 @@ use Rattle.l4_core_model.specs.Acts.{Work, decides_send}
 use Rattle.l4_core_model.proofs.Fit.{get_other}
 use Rattle.l4_types.specs.declared.step_ref.DeliveryRef.{DeliveryRef}
 use Rattle.l4_types.specs.StepView.{delivered}
-use Rattle.l4_thread.specs.Messages.{outgoing}
-use Rattle.l4_thread.specs.Requests.{message_if}
-use Rattle.l4_core.specs.Parts.{AreCore}
+use Rattle.l4_thread.specs.Inner.Messages.{outgoing}
+use Rattle.l4_thread.specs.Inner.Requests.{message_if}
+use Rattle.l4_core.specs.Inner.Parts.{AreCore}
 use Rattle.l4_core.specs.Processor.{Processor, with_local}
 use Rattle.l4_core.specs.EventBuffers.{EventBuffer, with_step}
-use Rattle.l4_core.specs.Turning.{hands_message, hands_over, hands_send, work, Does, IsSender, IsReceiver}
+use Rattle.l4_core.specs.Inner.Turning.{hands_message, hands_over, hands_send, work, Does, IsSender, IsReceiver}
 use Rattle.l4_core.proofs.Crossing.{crosses}
 use Rattle.l4_core.proofs.Fitting.{waits_not_sends}
 

@@ -10,10 +10,10 @@ use Rattle.l4_model.specs.Rules.{takes}
 use Rattle.l4_core_model.specs.Plain as plain
 use Rattle.l4_core_model.specs.Local.{thread, owed_beside}
 use Rattle.l4_core_model.specs.Turns.{Duty, Retargets, DropsOwn, RefusesFirst, TellsGone, CancelsOwn, CancelsReceive, DeliversFirst, ClosesReceive, RefusesZero}
-use Rattle.l4_core.specs.Covered.{after_retarget, duty_at, duty_of_thread, names_nobody, first_refusable, untold_of, or_tell, deleted_duty, or_close, receive_duty, or_refuse}
-use Rattle.l4_core.specs.Parts.{AreCore}
+use Rattle.l4_core.specs.Inner.Covered.{after_retarget, duty_at, duty_of_thread, names_nobody, first_refusable, untold_of, or_tell, deleted_duty, or_close, receive_duty, or_refuse}
+use Rattle.l4_core.specs.Inner.Parts.{AreCore}
 use Rattle.l4_core.specs.Processor.{Processor}
-use Rattle.l4_core.specs.Turning.{IsSender}
+use Rattle.l4_core.specs.Inner.Turning.{IsSender}
 use Rattle.l4_core.proofs.Parting.{duty_is}
 use Rattle.l4_core.proofs.Settling.{sooner, later}
 

@@ -23,15 +23,15 @@ use Rattle.l4_core_model.proofs.Changed.{get-changed, same_nat}
 use Rattle.l4_core_model.proofs.Fit.{get_other}
 use Rattle.l4_types.specs.declared.step_ref.DeliveryRef.{DeliveryRef}
 use Rattle.l4_types.specs.StepView as seen
-use Rattle.l4_thread.specs.Ipcs.{passes}
-use Rattle.l4_thread.specs.Messages.{outgoing}
-use Rattle.l4_thread.specs.Requests.{message_if, propagates}
-use Rattle.tcb_arena.specs.Blocks.{is_ready as is_ready_in}
-use Rattle.l4_core.specs.FastPath.{fast_receiver, next_name, passes_fast, takes_at_once}
-use Rattle.l4_core.specs.Parts.{AreCore}
+use Rattle.l4_thread.specs.Inner.Ipcs.{passes}
+use Rattle.l4_thread.specs.Inner.Messages.{outgoing}
+use Rattle.l4_thread.specs.Inner.Requests.{message_if, propagates}
+use Rattle.tcb_arena.specs.Inner.Blocks.{is_ready as is_ready_in}
+use Rattle.l4_core.specs.Inner.FastPath.{fast_receiver, next_name, passes_fast, takes_at_once}
+use Rattle.l4_core.specs.Inner.Parts.{AreCore}
 use Rattle.l4_core.specs.Processor.{Processor, with_local}
 use Rattle.l4_core.specs.EventBuffers.{EventBuffer, with_sent, with_step}
-use Rattle.l4_core.specs.Turning.{work, Does, IsAtHand, IsOwnOf, IsReceiver}
+use Rattle.l4_core.specs.Inner.Turning.{work, Does, IsAtHand, IsOwnOf, IsReceiver}
 use Rattle.l4_core.proofs.Crossing.{crosses}
 use Rattle.l4_core.proofs.Fitting.{unqueued, ready_not_sends, waits_not_ready}
 

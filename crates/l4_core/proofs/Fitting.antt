@@ -1,26 +1,25 @@
 -- What may happen to a thread, and what a change keeps of it.
 use Rattle.std.proofs.Common.{◌≡◌, ℕ, ◌+◌, ◌<◌, ◌≤◌, ◌^◌, Bool, true, false, cond, not, Option, Some, None, is_some, is_none, length, refl, ap, sym, ◌∙◌, subst, inl, inr, ◌⊎◌, arith}
-use Rattle.std.specs.Prelude.{◌==◌}
 use Rattle.l4_model.specs.Words.{GlobalId, Id, NilThread, AnyThread, AnyLocalThread, LocalThread, GlobalThread, Period}
 use Rattle.l4_model.specs.Machine as model
 use Rattle.l4_model.specs.Machine.{Machine, Instr, OrderKind, CancelSend, CancelReceive, CancelBoth, Delete}
 use Rattle.l4_model.specs.World.{Context, Receive, Message, Send, PendingOrder, Phase, Ready, Sending, Receiving, Ordering, Ended, Deleted, Thread, is_deleted, receive_now}
-use Rattle.l4_model.specs.Rules.{Sends, ipc_act, request, ran, advanced, failed}
+use Rattle.l4_model.specs.Rules.{Sends, ipc_act, request, failed}
 use Rattle.l4_model.specs.Effects.{runs, begins, waits, fails, decided, refused, receives, goes_on, delivered, asked, orders, obeyed}
-use Rattle.l4_types.specs.Codes.{code_of}
-use Rattle.l4_types.specs.LetterView.{decision_of}
+use Rattle.l4_types.specs.Inner.Codes.{code_of}
+use Rattle.l4_types.specs.Inner.LetterView.{decision_of}
 use Rattle.l4_core_model.specs.Plain as plain
 use Rattle.l4_core_model.specs.Acts.{split_receiver}
 use Rattle.l4_core_model.specs.Letters.{Result, Delivered, Refused, TimedOut, Nobody, Cancelled, Dropped}
 use Rattle.l4_core_model.specs.Local.{Local, declared, is_own, thread, after_decision, was_delivered, was_dropped, stand_in, stands_in, is_gone_now}
 use Rattle.l4_core_model.specs.Mail.{is_ordering}
-use Rattle.l4_thread.specs.Changes.{change_of}
-use Rattle.l4_thread.specs.Ipcs.{passes}
+use Rattle.l4_thread.specs.Inner.Changes.{change_of}
+use Rattle.l4_thread.specs.Inner.Ipcs.{passes}
 use Rattle.l4_thread.specs.declared.changes.Change.{Change}
 use Rattle.l4_thread.specs.declared.changes.Change.TheVariants.{Fail, EndSend, GiveOrder, Obey}
-use Rattle.tcb_arena.specs.Blocks.{is_ready as is_ready_in}
-use Rattle.l4_core.specs.Changing.{forgets_order, IsFitting}
-use Rattle.l4_core.specs.Settled.{IsSent, MaySend, IsOwn, IsSettled}
+use Rattle.tcb_arena.specs.Inner.Blocks.{is_ready as is_ready_in}
+use Rattle.l4_core.specs.Inner.Changing.{forgets_order, IsFitting}
+use Rattle.l4_core.specs.Inner.Settled.{IsSent, MaySend, IsOwn, IsSettled}
 use Rattle.l4_core.proofs.Settling.{Fits}
 
 -- What stands in no list
@@ -117,23 +116,10 @@ fits-keeps m cpu l i u s own unready unqueued calm next k = record {
     by (inl e) = subst (λ o. IsSent (declared m i).id o u.context.begun) (sym e) (subst (λ n. IsSent (declared m i).id (thread l i).send n) (sym k.begun) (s.sent i))
     by (inr e) = subst (λ o. IsSent (declared m i).id o u.context.begun) (sym e) tt
 
-begun_on : (place : ℕ) (c : Context) → (ran (model.OnErr place) c).begun ≡ c.begun
-begun_on place c = either (c.error == 0)
-  where
-    either : (b : Bool) → (cond b (advanced c) (record c { place = place })).begun ≡ c.begun
-    either true = refl
-    either false = refl
-
 pub keeps-runs : (i : Instr) (t : Thread) → is_deleted t.phase ≡ false → Keeps t (runs i t)
-keeps-runs (model.Set a word) t e = record { sends = inl refl; begun = refl; dead = sym e }
-keeps-runs (model.Copy a b) t e = record { sends = inl refl; begun = refl; dead = sym e }
-keeps-runs (model.Add format a word) t e = record { sends = inl refl; begun = refl; dead = sym e }
-keeps-runs (model.Tag word) t e = record { sends = inl refl; begun = refl; dead = sym e }
-keeps-runs (model.Vs id) t e = record { sends = inl refl; begun = refl; dead = sym e }
+keeps-runs (model.Run own) t e = record { sends = inl refl; begun = refl; dead = sym e }
 keeps-runs (model.Ipc to from send receive) t e = record { sends = inl refl; begun = refl; dead = sym e }
 keeps-runs (model.Ask target what) t e = record { sends = inl refl; begun = refl; dead = sym e }
-keeps-runs (model.Jump place) t e = record { sends = inl refl; begun = refl; dead = sym e }
-keeps-runs (model.OnErr place) t e = record { sends = inl refl; begun = begun_on place t.context; dead = sym e }
 keeps-runs model.End t e = record { sends = inl refl; begun = refl; dead = sym e }
 
 pub keeps-waits : (receive : Receive) (now : ℕ) (t : Thread) → is_deleted t.phase ≡ false → Keeps t (waits receive now t)
@@ -271,15 +257,9 @@ dead_orders_nothing Ended e f = cc
 dead_orders_nothing Deleted e f = cc
 
 next-runs : (i : Instr) (t : Thread) → is_ordering (runs i t).phase ≡ true → ⊥
-next-runs (model.Set a word) t e = cc
-next-runs (model.Copy a b) t e = cc
-next-runs (model.Add format a word) t e = cc
-next-runs (model.Tag word) t e = cc
-next-runs (model.Vs id) t e = cc
+next-runs (model.Run own) t e = cc
 next-runs (model.Ipc to from send receive) t e = cc
 next-runs (model.Ask target what) t e = cc
-next-runs (model.Jump place) t e = cc
-next-runs (model.OnErr place) t e = cc
 next-runs model.End t e = cc
 
 next-fails : (code : ℕ) (t : Thread) → is_ordering (fails code t).phase ≡ true → ⊥

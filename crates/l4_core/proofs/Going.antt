@@ -6,7 +6,7 @@ use Rattle.l4_core_model.specs.Local.{destination_place, is_own}
 use Rattle.l4_core_model.specs.Acts.{arrives, send_goes_to, split_receiver, posts_send}
 use Rattle.l4_core.specs.Processor.{Processor}
 use Rattle.l4_core.specs.EventBuffers.{EventBuffer}
-use Rattle.l4_core.specs.Turning.{work, Does}
+use Rattle.l4_core.specs.Inner.Turning.{work, Does}
 
 pub goes_away : (p u : Processor) (r i : ℕ) (send : Send) (before after : EventBuffer) (o : Option ℕ) → o ≡ Some r → is_own p.machine p.cpu r ≡ false → Does (posts_send p.machine r i send) p u before after → Does (send_goes_to p.machine p.cpu i send o) p u before after
 goes_away p u r i send before after o e away doing = record {

@@ -17,23 +17,23 @@ use Rattle.l4_types.specs.declared.letters.Cause.TheVariants.{ByTimeout, ByCance
 use Rattle.l4_types.specs.declared.letters.Content.{Content}
 use Rattle.l4_types.specs.declared.letters.Content.TheVariants.{Send, Done, Withdraw, Gone, Order, OrderDone, Retarget}
 use Rattle.l4_types.specs.declared.letters.LetterHead.{LetterHead}
-use Rattle.l4_types.specs.LetterHeads.{content_with, letter_with, message_with}
-use Rattle.l4_types.specs.LetterView.{cause_of_withdrawal, refusal_of_send}
+use Rattle.l4_types.specs.Inner.LetterHeads.{content_with, letter_with, message_with}
+use Rattle.l4_types.specs.Inner.LetterView.{cause_of_withdrawal, refusal_of_send}
 use Rattle.l4_core_model.specs.Letters.{refusal_of}
 use Rattle.l4_core.specs.declared.known.tasks.Task.{Task}
 use Rattle.l4_core.specs.declared.known.tasks.Task.TheVariants.{Arrive, End, NoteGone, Obey, FinishOrder}
 use Rattle.l4_core.specs.declared.known.tasks.Task.TheVariants as tasks
 use Rattle.l4_core.specs.Processor.{Processor, with_local}
-use Rattle.l4_core.specs.Tasks.{does_task, refusal_for, refused_if, task_of, IsArrival, IsCaller, IsSplit}
+use Rattle.l4_core.specs.Inner.Tasks.{does_task, refusal_for, refused_if, task_of, IsArrival, IsCaller, IsSplit}
 use Rattle.l4_core.specs.EventBuffers.{EventBuffer, IsOpen}
-use Rattle.l4_core.specs.Turning.{Does, IsEvent, IsFree, IsNewSender, work}
+use Rattle.l4_core.specs.Inner.Turning.{Does, IsEvent, IsFree, IsNewSender, work}
 use Rattle.l4_core_model.proofs.Changed.{get-changed}
 use Rattle.l4_core.proofs.Turning.{opened_work}
 use Rattle.l4_thread.specs.declared.changes.Change.TheVariants as change
-use Rattle.tcb_arena.specs.Blocks.{is_ready as is_ready_in}
-use Rattle.l4_core.specs.Changing.{forgets_order, IsFitting}
-use Rattle.l4_core.specs.Parts.{AreCore}
-use Rattle.l4_core.specs.Settled.{MaySend}
+use Rattle.tcb_arena.specs.Inner.Blocks.{is_ready as is_ready_in}
+use Rattle.l4_core.specs.Inner.Changing.{forgets_order, IsFitting}
+use Rattle.l4_core.specs.Inner.Parts.{AreCore}
+use Rattle.l4_core.specs.Inner.Settled.{MaySend}
 use Rattle.l4_core.proofs.Fitting.{no_send_unqueued, sends_not_ready, unqueued, unready}
 
 -- Letters

@@ -7,11 +7,11 @@ use Rattle.l4_model.specs.World as world
 use Rattle.l4_model.specs.World.{changed}
 use Rattle.l4_model.proofs.Chains.{set_changed}
 use Rattle.l4_types.specs.declared.owed.Owed.{Owed}
-use Rattle.l4_types.specs.OwedView.{owed_of}
+use Rattle.l4_types.specs.Inner.OwedView.{owed_of}
 use Rattle.l4_core_model.specs.Local.{Local, keeps_beside}
-use Rattle.l4_core.specs.Parts.{kept_of, local_of, IsKept}
+use Rattle.l4_core.specs.Inner.Parts.{kept_of, local_of, IsKept}
 use Rattle.l4_core.specs.Processor.{Processor, with_local}
-use Rattle.l4_core.specs.Settled.{IsSettled}
+use Rattle.l4_core.specs.Inner.Settled.{IsSettled}
 use Rattle.l4_core.specs.declared.known.ProcessorState.TheInside.{Inside}
 use Rattle.l4_core.proofs.Opening.{get-map, length-map, replicate-map}
 use Rattle.l4_core.proofs.Settling.{settled-kept}

@@ -11,14 +11,14 @@ use Rattle.l4_model.specs.Effects.{asked, begins, turns, waits}
 use Rattle.l4_core_model.specs.Local.{opening_local}
 use Rattle.l4_core_model.specs.Acts.{asks}
 use Rattle.l4_core_model.specs.Turns.{has_told}
-use Rattle.l4_core.specs.Parts.{AreCore}
-use Rattle.l4_core.specs.Turning.{IsAtHand, begun_by}
+use Rattle.l4_core.specs.Inner.Parts.{AreCore}
+use Rattle.l4_core.specs.Inner.Turning.{IsAtHand, begun_by}
 use Rattle.l4_core.proofs.Fitting.{unqueued, ready_not_sends}
 use Rattle.l4_core.proofs.Opening.{get-map, none_queued}
-use Rattle.l4_core.specs.Places.{has}
+use Rattle.l4_core.specs.Inner.Places.{has}
 use Rattle.l4_core.specs.Processor.{Processor, with_local}
-use Rattle.l4_core.specs.Covered.{CoversBut, CoversZeros, IsCovered, IsCoveredBut, duty_at, first_zero, is_zero_send}
-use Rattle.l4_core.specs.Settled.{IsOwn}
+use Rattle.l4_core.specs.Inner.Covered.{CoversBut, CoversZeros, IsCovered, IsCoveredBut, duty_at, first_zero, is_zero_send}
+use Rattle.l4_core.specs.Inner.Settled.{IsOwn}
 use Rattle.l4_core.proofs.Covering.{others-comes, covers-filled, covers-put, covers-relisted, covers-changed, covers-kept, but-queued, covers-stamped, covers-told, covers-turned, covers-unqueued}
 use Rattle.l4_core.proofs.Zeros.{zeros-relisted, zeros-changed, zeros-comes, zeros-kept, zeros-queued, zeros-stamped, zeros-told, zeros-turned, zeros-unqueued}
 

@@ -9,12 +9,12 @@ use Rattle.l4_model.specs.World.{Thread, Owed, opening_thread}
 use Rattle.l4_core_model.specs.Plain as plain
 use Rattle.l4_core_model.specs.Local.{Local, declared, undeclared, is_own, opening_local}
 use Rattle.l4_core_model.specs.Runs.{IsMachine}
-use Rattle.l4_thread.specs.Parts.{Block}
-use Rattle.tcb_arena.specs.Blocks.{empty_lists}
-use Rattle.l4_core.specs.Opening.{lists_below, opening_lists}
+use Rattle.l4_thread.specs.Inner.Parts.{Block}
+use Rattle.tcb_arena.specs.Inner.Blocks.{empty_lists}
+use Rattle.l4_core.specs.Inner.Opening.{lists_below, opening_lists}
 use Rattle.l4_core_model.specs.Mail.{is_ordering}
-use Rattle.l4_core.specs.Settled.{IsSettled, IsSent}
-use Rattle.l4_core.specs.Parts.{threads_of, ids_of, local_of, IsKept}
+use Rattle.l4_core.specs.Inner.Settled.{IsSettled, IsSent}
+use Rattle.l4_core.specs.Inner.Parts.{threads_of, ids_of, local_of, IsKept}
 use Rattle.l4_core.proofs.Settling.{any-filter}
 
 pub replicate-push : {A : Type 0} (n : ℕ) (x : A) → replicate n x ++ x ∷ [] ≡ replicate (n + 1) x

@@ -11,12 +11,12 @@ use Rattle.l4_core_model.specs.Letters.{Cause, Letter, OrderLetter, cause_of}
 use Rattle.l4_core_model.specs.Local.{Local, declared, is_own, thread, comes_to}
 use Rattle.l4_core_model.specs.Acts.{Work, ◌▷◌, tells, does, posts, asks, obeys, gives_order, order_goes_to, split_place, withdraws, withdraws_for}
 use Rattle.l4_thread.specs.declared.changes.Change.TheVariants.{Obey}
-use Rattle.tcb_arena.specs.Blocks.{is_ready as is_ready_in}
-use Rattle.l4_core.specs.Changing.{IsFitting}
-use Rattle.l4_core.specs.Parts.{AreCore}
+use Rattle.tcb_arena.specs.Inner.Blocks.{is_ready as is_ready_in}
+use Rattle.l4_core.specs.Inner.Changing.{IsFitting}
+use Rattle.l4_core.specs.Inner.Parts.{AreCore}
 use Rattle.l4_core.specs.Processor.{Processor, with_local}
 use Rattle.l4_core.specs.EventBuffers.{EventBuffer, with_letter, with_step}
-use Rattle.l4_core.specs.Turning.{work, Does, IsAtHand, IsFree}
+use Rattle.l4_core.specs.Inner.Turning.{work, Does, IsAtHand, IsFree}
 use Rattle.l4_core.proofs.Covering.{any-filtered}
 use Rattle.l4_core.proofs.Fitting.{ready_not_sends, unqueued}
 

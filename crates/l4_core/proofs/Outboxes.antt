@@ -5,9 +5,9 @@ use Rattle.std.proofs.lemmas.Option.{slice_get-get_or}
 use Rattle.std.proofs.lemmas.List.{append-nil, drop-append-le, get_or-take, length-append, length-drop, length-take-le, length_push, take_more_set}
 use Rattle.l4_core_model.specs.Letters.{Letter}
 use Rattle.l4_types.specs.declared.letters.LetterHead.{LetterHead}
-use Rattle.l4_types.specs.LetterHeads.{letter_with, posted_in, word_count, words_by}
+use Rattle.l4_types.specs.Inner.LetterHeads.{letter_with, posted_in, word_count, words_by}
 use Rattle.l4_types.proofs.LetterRows.{as-many, by-first, by-push, by-rest, words-first, words-push}
-use Rattle.l4_core.specs.Outboxes.{IsOutbox}
+use Rattle.l4_core.specs.Inner.Outboxes.{IsOutbox}
 
 abbrev pub Posted : Type 0
 Posted = ℕ × LetterHead

@@ -6,7 +6,7 @@ use Rattle.l4_core_model.specs.Local.{declared, last_name, thread}
 use Rattle.l4_core_model.specs.Acts.{Work, owes_for, delivers, delivers_message, delivers_send}
 use Rattle.l4_core.specs.Processor.{Processor}
 use Rattle.l4_core.specs.EventBuffers.{EventBuffer}
-use Rattle.l4_core.specs.Turning.{hands_message, hands_over, hands_send, work, Does}
+use Rattle.l4_core.specs.Inner.Turning.{hands_message, hands_over, hands_send, work, Does}
 
 pub owes_nothing : (p : Processor) (r : ℕ) (told : EventBuffer) → Does (owes_for p.machine p.cpu r None) p p told told
 owes_nothing p r told = record { machine = refl; cpu = refl; stamp = refl; kept = refl; work = refl }

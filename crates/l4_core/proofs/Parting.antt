@@ -11,7 +11,7 @@ use Rattle.l4_core_model.specs.Plain as plain
 use Rattle.l4_core_model.specs.Local.{Local, thread, held, held_by, declared, owed_beside}
 use Rattle.l4_core_model.specs.Acts.{first_of_list, zero_refusable}
 use Rattle.l4_core_model.specs.Turns.{Duty, Retargets, DropsOwn, RefusesFirst, TellsGone, CancelsOwn, CancelsReceive, DeliversFirst, ClosesReceive, RefusesZero, next_untold, first_some}
-use Rattle.l4_core.specs.Covered.{after_retarget, duty_at, is_zero_send, first_zero, names_nobody, first_refusable, untold_of, deleted_duty, or_close, or_refuse, receive_duty, living_duty, duty_of_thread, runs_or_sends}
+use Rattle.l4_core.specs.Inner.Covered.{after_retarget, duty_at, is_zero_send, first_zero, names_nobody, first_refusable, untold_of, deleted_duty, or_close, or_refuse, receive_duty, living_duty, duty_of_thread, runs_or_sends}
 use Rattle.l4_core.proofs.Zeros.{find_same}
 
 -- A deleted thread's sends of timeout zero are not refused as such.

@@ -5,12 +5,12 @@ use Rattle.std.proofs.Math.Seq.{set-append_left}
 use Rattle.l4_model.specs.World.{Message, Thread, opening_thread}
 use Rattle.l4_model.specs.Effects.{receives}
 use Rattle.l4_core_model.specs.Local.{comes_to, declared, thread}
-use Rattle.l4_thread.specs.Messages.{outgoing}
-use Rattle.l4_thread.specs.Parts.{Block}
-use Rattle.l4_core.specs.Parts.{passed}
-use Rattle.l4_core.specs.PhaseLists.{enters_lists}
+use Rattle.l4_thread.specs.Inner.Messages.{outgoing}
+use Rattle.l4_thread.specs.Inner.Parts.{Block}
+use Rattle.l4_core.specs.Inner.Parts.{passed}
+use Rattle.l4_core.specs.Inner.PhaseLists.{enters_lists}
 use Rattle.l4_core.specs.Processor.{Processor, with_local}
-use Rattle.l4_core.specs.Turning.{IsReceiver}
+use Rattle.l4_core.specs.Inner.Turning.{IsReceiver}
 use Rattle.l4_core.specs.declared.known.ProcessorState.TheInside.{Inside}
 use Rattle.l4_core.proofs.Fitting.{fits-keeps, keeps-receives, unqueued, unready, waits_alive, waits_not_ready, waits_not_sends}
 use Rattle.l4_core.proofs.Starting.{block_id}

@@ -6,7 +6,7 @@ use Rattle.std.specs.Int.Count.{count_trailing_zeros}
 use Rattle.std.proofs.lemmas.Bool.{cases_eq, cases_lt, eq-eqb, ne_eqb}
 use Rattle.std.proofs.lemmas.List.{get_or-set_same, get_or-set_other, get_or_past}
 use Rattle.std.proofs.lemmas.Nat.Bits.{bit_at_set_same, bit_at_set_other, bit_at_clear_same, bit_at_clear_other, bit_at-zero, bit_at-trailing_zeros}
-use Rattle.l4_core.specs.Places.{has, is_filled, IsLowest, IsFirst, MarksFilled, count}
+use Rattle.l4_core.specs.Inner.Places.{has, is_filled, IsLowest, IsFirst, MarksFilled, count}
 
 same_place : (a b : ℕ) → a / 64 ≡ b / 64 → a % 64 ≡ b % 64 → a ≡ b
 same_place a b e f = omega (arith, e, f)

@@ -8,7 +8,7 @@ use Rattle.l4_model.specs.Machine.{is_place}
 use Rattle.l4_core_model.specs.Acts.{Work, delivers, delivers_if_first, entry, first_acceptable, queues_send}
 use Rattle.l4_core.specs.Processor.{Processor, with_local}
 use Rattle.l4_core.specs.EventBuffers.{EventBuffer, with_step}
-use Rattle.l4_core.specs.Turning.{work, Does}
+use Rattle.l4_core.specs.Inner.Turning.{work, Does}
 
 if_first : (p : Processor) (r i : ℕ) (x y : Work) → x ≡ y → is_place (first_acceptable x.local r) i ≡ true → delivers_if_first p.machine p.cpu r i y ≡ delivers p.machine p.cpu r i x
 if_first p r i x y e h = ap (delivers_if_first p.machine p.cpu r i) (sym e) ∙ rw h

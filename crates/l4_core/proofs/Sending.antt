@@ -3,7 +3,7 @@ use Rattle.std.proofs.Common.{◌≡◌, ℕ, ◌<◌, true, Option, Some, None,
 use Rattle.std.specs.Option.{option_map}
 use Rattle.l4_model.specs.Words.{GlobalId}
 use Rattle.l4_model.specs.World.{Message, Send}
-use Rattle.l4_core.specs.Settled.{IsSent}
+use Rattle.l4_core.specs.Inner.Settled.{IsSent}
 
 pub counted : (id : GlobalId) (o : Option Send) (begun : ℕ) → IsSent id o begun → is_some o ≡ true → 0 < begun
 counted id None begun h e = cc

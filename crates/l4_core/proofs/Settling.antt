@@ -7,16 +7,16 @@ use Rattle.std.proofs.lemmas.Bool.{eqb-true}
 use Rattle.l4_model.specs.Machine.{Machine}
 use Rattle.l4_model.specs.World.{Phase, Ready, Sending, Receiving, Ordering, Ended, Deleted, Thread, Owed, changed, opening_thread, is_ready}
 use Rattle.l4_core_model.specs.Plain as plain
-use Rattle.l4_core.specs.PhaseLists.{enters_lists}
+use Rattle.l4_core.specs.Inner.PhaseLists.{enters_lists}
 use Rattle.l4_core_model.specs.Local.{Local, declared, is_own, thread, changes, comes_to, keeps_beside, relists}
 use Rattle.l4_core_model.specs.Acts.{split_receiver}
 use Rattle.l4_core_model.specs.Mail.{is_ordering}
 use Rattle.l4_core_model.specs.Turns.{has_told, clock_is}
-use Rattle.tcb_arena.specs.Blocks.{without_due, is_ready as is_ready_in}
+use Rattle.tcb_arena.specs.Inner.Blocks.{without_due, is_ready as is_ready_in}
 use Rattle.l4_core_model.proofs.Fit.{get_cases}
 use Rattle.l4_core_model.proofs.Changed.{length-changed, get-changed}
 use Rattle.l4_core_model.proofs.Lists.{all-map, all-filter, all-drop}
-use Rattle.l4_core.specs.Settled.{IsSent, MaySend, IsOwn, IsWaiting, IsReadied, AreNear, IsSettled}
+use Rattle.l4_core.specs.Inner.Settled.{IsSent, MaySend, IsOwn, IsWaiting, IsReadied, AreNear, IsSettled}
 
 -- Lists
 

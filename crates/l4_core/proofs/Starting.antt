@@ -10,18 +10,18 @@ use Rattle.l4_model.specs.Conditions.{act_of, instruction}
 use Rattle.l4_model.specs.Effects.{begins, waits}
 use Rattle.l4_types.specs.Ids.{global_of}
 use Rattle.l4_core_model.specs.Mail.{is_ordering}
-use Rattle.l4_core.specs.PhaseLists.{enters_lists}
+use Rattle.l4_core.specs.Inner.PhaseLists.{enters_lists}
 use Rattle.l4_core_model.specs.Local.{Local, declared, undeclared, thread, held, changes, comes_to}
-use Rattle.l4_thread.specs.Parts.{Block}
+use Rattle.l4_thread.specs.Inner.Parts.{Block}
 use Rattle.l4_thread.specs.declared.phases.Began.{Began}
 use Rattle.l4_thread.specs.declared.phases.Began.TheVariants.{Nothing}
-use Rattle.l4_thread.specs.Ipcs.{IsPermission, starts, began_of}
+use Rattle.l4_thread.specs.Inner.Ipcs.{IsPermission, starts, began_of}
 use Rattle.l4_thread.proofs.Asking.{shows_if, shown_originator}
 use Rattle.l4_core.specs.Processor.{Processor, with_local}
-use Rattle.l4_core.specs.Parts.{ids_of}
+use Rattle.l4_core.specs.Inner.Parts.{ids_of}
 use Rattle.l4_core.specs.declared.known.ProcessorState.TheInside.{Inside}
-use Rattle.l4_core.specs.Settled.{MaySend}
-use Rattle.l4_core.specs.Turning.{IsAtHand, begun_by}
+use Rattle.l4_core.specs.Inner.Settled.{MaySend}
+use Rattle.l4_core.specs.Inner.Turning.{IsAtHand, begun_by}
 use Rattle.l4_core.proofs.Fitting.{unqueued, ready_not_sends, keeps-waits, fits-keeps, fits-begins, own_message}
 use Rattle.l4_core.proofs.Settling.{Fits, comes}
 use Rattle.l4_core.proofs.Writing.{Kept, KeptWith, block_thread, change-written, kept-changed, of_parts, state, with_blocks}
@@ -53,13 +53,7 @@ own_act m id now c (model.Ask target what) send e = no_send target e
     no_send AnyLocalThread e = cc
     no_send (LocalThread word) e = cc
     no_send (GlobalThread t) e = by (is_admitted m id t what) _ e
-own_act m id now c (model.Set a word) send e = cc
-own_act m id now c (model.Copy a b) send e = cc
-own_act m id now c (model.Add format a word) send e = cc
-own_act m id now c (model.Tag word) send e = cc
-own_act m id now c (model.Vs other) send e = cc
-own_act m id now c (model.Jump place) send e = cc
-own_act m id now c (model.OnErr place) send e = cc
+own_act m id now c (model.Run own) send e = cc
 own_act m id now c model.End send e = cc
 
 fits-starts : (m : Machine) (cpu : ℕ) (l : Local) (i : ℕ) (a : Act) (now : ℕ) → ((send : Send) → a ≡ Sends send → Fits m cpu l i (begins send (thread l i))) → ((receive : Receive) → Fits m cpu l i (waits receive now (thread l i))) → Fits m cpu l i (thread l i) → Fits m cpu l i (starts a now (thread l i))

@@ -3,9 +3,9 @@ use Rattle.std.proofs.Common.{ℕ, ◌+◌, ◌<◌, ◌≡◌, List, length, se
 use Rattle.l4_model.proofs.Chains.{set_changed}
 use Rattle.l4_core_model.specs.Local.{Local}
 use Rattle.l4_core_model.specs.Turns.{has_told}
-use Rattle.l4_core.specs.Parts.{kept_of, local_of, IsKept}
+use Rattle.l4_core.specs.Inner.Parts.{kept_of, local_of, IsKept}
 use Rattle.l4_core.specs.Processor.{Processor, with_local}
-use Rattle.l4_core.specs.Settled.{IsSettled}
+use Rattle.l4_core.specs.Inner.Settled.{IsSettled}
 use Rattle.l4_core.specs.declared.known.ProcessorState.TheInside.{Inside}
 use Rattle.l4_core.proofs.Settling.{settled-told}
 use Rattle.l4_core.proofs.Writing.{Kept, kept-settled, of_parts, state}

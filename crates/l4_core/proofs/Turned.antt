@@ -7,8 +7,8 @@ use Rattle.l4_model.specs.World.{Send, Owed, Phase, Ready, Sending, Receiving, O
 use Rattle.l4_model.specs.Effects.{turned_send, turns, turns_in}
 use Rattle.l4_core_model.specs.Acts.{split_receiver}
 use Rattle.l4_core_model.specs.Local.{Local, declared, thread}
-use Rattle.l4_core.specs.Covered.{is_zero_send}
-use Rattle.l4_core.specs.Settled.{IsSent, MaySend, IsSettled}
+use Rattle.l4_core.specs.Inner.Covered.{is_zero_send}
+use Rattle.l4_core.specs.Inner.Settled.{IsSent, MaySend, IsSettled}
 use Rattle.l4_core.proofs.Settling.{Fits}
 
 pub turned_deleted : (owed : Owed) (t : Thread) → is_deleted (turns owed t).phase ≡ is_deleted t.phase

@@ -4,14 +4,14 @@ use Rattle.std.specs.Prelude.{slice_get}
 use Rattle.l4_core_model.specs.Plain as plain
 use Rattle.l4_core_model.specs.Local.{Local, relists}
 use Rattle.l4_core_model.specs.Turns.{choice}
-use Rattle.tcb_arena.specs.Blocks.{is_ready as is_ready_in}
+use Rattle.tcb_arena.specs.Inner.Blocks.{is_ready as is_ready_in}
 use Rattle.l4_core.specs.declared.processor.Choice.{Choice}
 use Rattle.l4_core.specs.declared.processor.Choice.TheVariants.{ByDuty, ByDue, ByReady}
-use Rattle.l4_core.specs.Choosing.{IsPossible}
-use Rattle.l4_core.specs.Parts.{AreCore}
+use Rattle.l4_core.specs.Inner.Choosing.{IsPossible}
+use Rattle.l4_core.specs.Inner.Parts.{AreCore}
 use Rattle.l4_core.specs.Processor.{Processor, with_local}
 use Rattle.l4_core.specs.EventBuffers.{EventBuffer, IsOpen}
-use Rattle.l4_core.specs.Turning.{work, IsAtHand}
+use Rattle.l4_core.specs.Inner.Turning.{work, IsAtHand}
 use Rattle.l4_core.proofs.Dues.{ready_there}
 
 -- An event that has told nothing yet.

@@ -4,12 +4,12 @@ use Rattle.l4_model.specs.Machine.{Machine}
 use Rattle.l4_model.specs.World.{Thread, Owed, changed, opening_thread}
 use Rattle.l4_model.proofs.Chains.{set_changed}
 use Rattle.l4_core_model.specs.Plain.{Plain}
-use Rattle.l4_core.specs.PhaseLists.{enters_lists}
+use Rattle.l4_core.specs.Inner.PhaseLists.{enters_lists}
 use Rattle.l4_core_model.specs.Local.{Local, thread, changes, comes_to, relists}
-use Rattle.l4_thread.specs.Parts.{Block}
+use Rattle.l4_thread.specs.Inner.Parts.{Block}
 use Rattle.l4_core.specs.Processor.{Processor, with_local}
-use Rattle.l4_core.specs.Settled.{IsSettled}
-use Rattle.l4_core.specs.Parts.{kept_of, threads_of, local_of, IsCore, IsKept}
+use Rattle.l4_core.specs.Inner.Settled.{IsSettled}
+use Rattle.l4_core.specs.Inner.Parts.{kept_of, threads_of, local_of, IsCore, IsKept}
 use Rattle.l4_core.specs.declared.known.ProcessorState.TheInside.{Inside}
 use Rattle.l4_core.proofs.Settling.{Fits, comes, settled-changed}
 

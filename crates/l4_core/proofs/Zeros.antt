@@ -12,8 +12,8 @@ use Rattle.l4_core_model.specs.Local.{Local, thread, changes, comes_to, keeps_be
 use Rattle.l4_core_model.specs.Turns.{has_told}
 use Rattle.l4_core_model.proofs.Fit.{get_cases}
 use Rattle.l4_core_model.proofs.Changed.{same_nat}
-use Rattle.l4_core.specs.Places.{has}
-use Rattle.l4_core.specs.Covered.{is_zero_send, first_zero, CoversZeros}
+use Rattle.l4_core.specs.Inner.Places.{has}
+use Rattle.l4_core.specs.Inner.Covered.{is_zero_send, first_zero, CoversZeros}
 use Rattle.l4_core.proofs.Settling.{sooner, later}
 use Rattle.l4_core.proofs.Turned.{turned_zero}
 

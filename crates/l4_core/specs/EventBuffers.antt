@@ -3,7 +3,7 @@ use Rattle.std.specs.Prelude.{◌≡◌, ℕ, ◌≤◌, List, [], ◌∷◌, �
 use Rattle.l4_model.specs.Steps.{Step}
 use Rattle.l4_core_model.specs.Letters as letters
 use Rattle.l4_types.specs.declared.step_ref.DeliveryRef.{DeliveryRef}
-use Rattle.l4_history.specs.Sent.{sent}
+use Rattle.l4_history.specs.Inner.Sent.{sent}
 
 -- The steps told before the event under way; the steps of this event, and the letters that it
 -- posted, each with the processor that it goes to; how many more of both have room.

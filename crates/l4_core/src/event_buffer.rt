@@ -3,7 +3,7 @@ ghost use Rattle.std.specs.Prelude.{◌≡◌, ◌<◌, ◌≤◌, ◌↔◌, []
 ghost use Rattle.std.specs.Prelude.{length, map, slice_get};
 ghost use Rattle.std.specs.Option.{option_to_list};
 ghost use Rattle.l4_core_model.specs.Letters.{SendLetter};
-ghost use Rattle.l4_types.specs.LetterHeads.{letter_with, word_count};
+ghost use Rattle.l4_types.specs.Inner.LetterHeads.{letter_with, word_count};
 ghost use Rattle.l4_types.specs.StepView.{seen, step_of};
 ghost use Rattle.l4_core.specs.EventBuffers.{IsBegun, with_sent, with_step, with_letter};
 

@@ -10,17 +10,17 @@ ghost use Rattle.l4_model.specs.Conditions.{instruction};
 ghost use Rattle.l4_model.specs.Rules.{accepts, ask_act, originator};
 ghost use Rattle.l4_model.specs.Words.{period_limit};
 ghost use Rattle.l4_types.specs.StepView.{order_kind_of};
-ghost use Rattle.l4_script.specs.Scripts.{instr_of};
-ghost use Rattle.l4_core.specs.Asking.{admitted_act};
+ghost use Rattle.l4_script.specs.Inner.Scripts.{instr_of};
+ghost use Rattle.l4_core.specs.Inner.Asking.{admitted_act};
 ghost use Rattle.l4_core_model.specs.Plain.{due_block, is_queued};
 ghost use Rattle.l4_core_model.specs.Local.{declared, held, is_own, last_name, opening_local};
 ghost use Rattle.l4_core_model.specs.Local.{thread};
 ghost use Rattle.l4_core_model.specs.Acts.{entry, first_acceptable, split_place};
 ghost use Rattle.l4_core_model.specs.Runs.{IsMachine};
-ghost use Rattle.l4_core.specs.Covered.{is_zero_send};
-ghost use Rattle.l4_core.specs.Opening.{lists_below, opening_lists};
-ghost use Rattle.l4_core.specs.Parts.{kept_of, threads_of, ids_of, AreCore};
-ghost use Rattle.l4_core.specs.Turning.{IsSender};
+ghost use Rattle.l4_core.specs.Inner.Covered.{is_zero_send};
+ghost use Rattle.l4_core.specs.Inner.Opening.{lists_below, opening_lists};
+ghost use Rattle.l4_core.specs.Inner.Parts.{kept_of, threads_of, ids_of, AreCore};
+ghost use Rattle.l4_core.specs.Inner.Turning.{IsSender};
 
 use l4_script::instructions::Instr;
 use l4_script::machine::{Declaration, Machine};
@@ -61,7 +61,7 @@ pub(crate) struct ProcessorState<'m> {
 
 impl<'m> Model for ProcessorState<'m> {
     ghost use Rattle.l4_core.specs.Processor.{Processor};
-    ghost use Rattle.l4_core.specs.Parts.{kept_of, local_of, IsKept};
+    ghost use Rattle.l4_core.specs.Inner.Parts.{kept_of, local_of, IsKept};
 
     ghost Value = { Processor };
 

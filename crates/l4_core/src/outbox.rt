@@ -1,6 +1,7 @@
 //! The letters that an event posts.
-ghost use Rattle.std.specs.Prelude.{◌≡◌, ◌∷◌, ◌++◌, ◌-◌, ◌<◌, ◌≤◌, ◌↔◌, [], IsTrue, drop, length, slice_get};
-ghost use Rattle.l4_types.specs.LetterHeads.{letter_with, word_count};
+ghost use Rattle.std.specs.Prelude.{◌≡◌, ◌∷◌, ◌++◌, ◌-◌, ◌<◌, ◌≤◌, ◌↔◌, [], IsTrue, drop, length};
+ghost use Rattle.std.specs.Prelude.{slice_get};
+ghost use Rattle.l4_types.specs.Inner.LetterHeads.{letter_with, word_count};
 
 use crate::event_buffer::{Letters, MOST_LETTERS};
 use crate::posted_words::PostedWords;
@@ -24,8 +25,8 @@ pub(crate) struct Outbox {
 
 impl Model for Outbox {
     ghost use Rattle.std.specs.Prelude.{◌≡◌, ◌≤◌, ◌-◌, drop, length, take};
-    ghost use Rattle.l4_types.specs.LetterHeads.{posted_in};
-    ghost use Rattle.l4_core.specs.Outboxes.{IsOutbox, Outbox as Letters};
+    ghost use Rattle.l4_types.specs.Inner.LetterHeads.{posted_in};
+    ghost use Rattle.l4_core.specs.Inner.Outboxes.{IsOutbox, Outbox as Letters};
 
     ghost Value = { Letters };
 

@@ -1,7 +1,7 @@
 //! Sets of places of threads.
 ghost use Rattle.std.specs.Prelude.{◌≡◌, ◌<◌, ℕ, false, ◌&&◌, ◌||◌, ◌==◌, not, MatchOption};
 ghost use Rattle.l4_model.specs.Machine.{most_threads};
-ghost use Rattle.l4_core.specs.Places.{has, IsFirst, IsLowest};
+ghost use Rattle.l4_core.specs.Inner.Places.{has, IsFirst, IsLowest};
 
 use l4_script::machine::MOST_THREADS;
 use std::marker::Model;
@@ -22,7 +22,7 @@ pub struct Places {
 
 impl Model for Places {
     ghost use Rattle.std.specs.Prelude.{ℕ, List};
-    ghost use Rattle.l4_core.specs.Places.{MarksFilled};
+    ghost use Rattle.l4_core.specs.Inner.Places.{MarksFilled};
 
     ghost Value = { List ℕ };
 

@@ -6,19 +6,20 @@ ghost use Rattle.l4_model.specs.Words.{clock_limit, period_limit};
 ghost use Rattle.l4_model.specs.Machine.{most_threads};
 ghost use Rattle.l4_model.specs.History.{report_of};
 ghost use Rattle.l4_core_model.specs.Local.{declared, is_own, opening_local, owed_beside, thread};
-ghost use Rattle.l4_types.specs.OwedView.{owed_of};
+ghost use Rattle.l4_types.specs.Inner.OwedView.{owed_of};
 ghost use Rattle.l4_core_model.specs.Plain.{due_block};
 ghost use Rattle.l4_core_model.specs.Runs.{IsMachine};
 ghost use Rattle.l4_core_model.specs.Turns.{advance, can_stamp, choice, is_busy, next_stamp};
 ghost use Rattle.l4_types.specs.ReportView.{report_of_view};
-ghost use Rattle.l4_core.specs.Choosing.{choice_of, IsFound, IsPossible};
+ghost use Rattle.l4_core.specs.Inner.Choosing.{choice_of, IsFound, IsPossible};
 ghost use Rattle.l4_core.specs.Processor.{with_local};
 ghost use Rattle.l4_core.specs.EventBuffers.{IsOpen};
-ghost use Rattle.l4_core.specs.Covered.{Covers, CoversBut, CoversOthers, CoversZeros, IsCovered};
-ghost use Rattle.l4_core.specs.Covered.{IsCoveredBut, is_zero_send};
-ghost use Rattle.l4_core.specs.Parts.{AreCore};
-ghost use Rattle.l4_core.specs.Places.{has};
-ghost use Rattle.l4_core.specs.Turning.{IsOwnOf, IsTurn};
+ghost use Rattle.l4_core.specs.Inner.Covered.{Covers, CoversBut, CoversOthers, CoversZeros};
+ghost use Rattle.l4_core.specs.Inner.Covered.{IsCovered};
+ghost use Rattle.l4_core.specs.Inner.Covered.{IsCoveredBut, is_zero_send};
+ghost use Rattle.l4_core.specs.Inner.Parts.{AreCore};
+ghost use Rattle.l4_core.specs.Inner.Places.{has};
+ghost use Rattle.l4_core.specs.Inner.Turning.{IsOwnOf, IsTurn};
 
 use crate::event_buffer::EventBuffer;
 use crate::known::ProcessorState;
@@ -59,7 +60,7 @@ pub struct Core<'m> {
 
 impl<'m> Model for Core<'m> {
     ghost use Rattle.l4_core.specs.Processor.{Processor};
-    ghost use Rattle.l4_core.specs.Covered.{IsCovered};
+    ghost use Rattle.l4_core.specs.Inner.Covered.{IsCovered};
 
     ghost Value = { Processor };
 

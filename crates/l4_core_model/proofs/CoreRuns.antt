@@ -5,7 +5,7 @@ use Rattle.l4_model.specs.Machine.{Machine}
 use Rattle.l4_model.specs.Conditions.{◌>>=◌}
 use Rattle.l4_model.proofs.Chains.{some_is, cond_keeps}
 use Rattle.l4_core_model.specs.Runs.{Action, Ticks, Happened, happens, processors, Run, then_event, core_run, opening_run}
-use Rattle.l4_core_model.specs.Schedules.{next_turn, or_stays, attempts, attempts_all, Entry, entry_of, entry_event, replays, replay, turns_in_order, round, earliest_deadline, ticks_to, ticks, turns_of, has_gone_on, round_or_ticks, rounds, run}
+use Rattle.l4_core_model.specs.Schedules.{next_turn, or_stays, attempts, attempts_all, Entry, numbered, entry_event, replays, replay, turns_in_order, round, earliest_deadline, ticks_to, ticks, turns_of, has_gone_on, round_or_ticks, rounds, run}
 use Rattle.l4_core_model.specs.Laws.{IsCoreRun}
 
 core_run-last : (m : Machine) (es : List Action) (r last : Run) (e : Action) (h : Happened) → core_run m r es ≡ Some last → happens m last.system e ≡ Some h → core_run m r (es ++ e ∷ []) ≡ Some (then_event last h)
@@ -45,7 +45,7 @@ replays_is_run m (entry ∷ entries) r s =
     replays_is_run m entries (or_stays r (o >>= happens m r.system)) (goes_on m r o s)
 
 pub replay_is_core_run : (m : Machine) (schedule : List ℕ) → IsCoreRun m (replay m schedule)
-replay_is_core_run m schedule = let s = replays_is_run m (map entry_of schedule) (opening_run m) (opening_is_run m) in (s.actions, s.is)
+replay_is_core_run m schedule = let s = replays_is_run m (map numbered schedule) (opening_run m) (opening_is_run m) in (s.actions, s.is)
 
 -- in rounds
 

@@ -4,8 +4,8 @@ use Rattle.l4_model.specs.Options.{if_some}
 use Rattle.l4_model.specs.Words.{GlobalId}
 use Rattle.l4_model.specs.Machine.{Machine, OrderKind, Delete, same_space, place_of, is_place}
 use Rattle.l4_model.specs.World.{Receive, Message, Send, PendingOrder, Owed, Phase, Receiving, is_deleted, Name}
-use Rattle.l4_model.specs.Rules.{RunsAlone, Sends, Receives, Orders, Act, received_tag, is_cross, owed_by}
-use Rattle.l4_model.specs.Steps.{Step, Local as RanLocal, Begin, Queue, Deliver, Wait, Order, Obey, Retarget}
+use Rattle.l4_model.specs.Rules.{Failure, receive_code, RunsAlone, Sends, Receives, Orders, Act, received_tag, is_cross, owed_by}
+use Rattle.l4_model.specs.Steps.{Step, OfThread, Fails, Local as RanLocal, Begin, Queue, Deliver, Wait, Order, Obey, Retarget}
 use Rattle.l4_model.specs.Conditions.{Found, instruction, is_zero, is_refusable}
 use Rattle.l4_model.specs.Effects.{runs, begins, waits, fails, decided, receives, asked, orders, obeyed, turns}
 use Rattle.l4_core_model.specs.Plain as plain
@@ -163,6 +163,9 @@ withdraws m cause i = if_some (λ r x. posts (declared m r).cpu
 
 abbrev pub fails_receive : Machine → (GlobalId → Step) → (code i : ℕ) → Work → Work
 fails_receive m step code i x = x ▷ tells (step (declared m i).id) ▷ does (comes_to i (fails code))
+
+abbrev pub fails_for : Machine → Failure → ℕ → Work → Work
+fails_for m why i x = fails_receive m (OfThread (Fails why)) (receive_code why) i x
 
 -- Orders
 

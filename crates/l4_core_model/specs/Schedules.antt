@@ -35,16 +35,21 @@ abbrev pub least_deadline : System → (cpu : ℕ) → Option ℕ
 least_deadline g cpu = slice_get g.locals cpu >>= λ l.
     option_map (λ e. e.0) (slice_get l.lists.armed 0)
 
--- An entry of a schedule: a turn of a processor, or a tick of its clock to its least deadline.
--- `l4_choices` has entries for each choice.
+-- An entry of a schedule. `TurnOf`: a turn of a processor, where mail comes first, and of it that
+-- of the lowest poster. `TickOf`: a tick of its clock to its least deadline. `LetterOf`: the first
+-- letter under way from one poster. `CoreOf`: the turn of its core, though mail may be there.
+-- `TickTo`: a tick of its clock to a value.
 pub data Entry : Type 0 where
   TurnOf : (cpu : ℕ) → Entry
   TickOf : (cpu : ℕ) → Entry
+  LetterOf : (cpu from : ℕ) → Entry
+  CoreOf : (cpu : ℕ) → Entry
+  TickTo : (cpu clock : ℕ) → Entry
 
 -- A number below 16 is a turn of that processor, another one a tick of the processor of that number
 -- less 16.
-abbrev pub entry_of : (number : ℕ) → Entry
-entry_of number = if nat_lt number most_processors then TurnOf number
+abbrev pub numbered : (number : ℕ) → Entry
+numbered number = if nat_lt number most_processors then TurnOf number
     else TickOf (number - most_processors)
 
 -- Replay: where there is nothing to do, an entry leaves the run as it is.
@@ -52,6 +57,9 @@ entry_of number = if nat_lt number most_processors then TurnOf number
 abbrev pub entry_event : Machine → System → Entry → Option Action
 entry_event m g (TurnOf cpu) = Some (next_turn m g cpu)
 entry_event m g (TickOf cpu) = option_map (Ticks cpu) (least_deadline g cpu)
+entry_event m g (LetterOf cpu from) = Some (Handles cpu from)
+entry_event m g (CoreOf cpu) = Some (Turns cpu)
+entry_event m g (TickTo cpu clock) = Some (Ticks cpu clock)
 
 abbrev pub replays : Machine → Run → List Entry → Run
 replays m r [] = r
@@ -62,7 +70,7 @@ abbrev pub replay_entries : Machine → List Entry → Run
 replay_entries m entries = replays m (opening_run m) entries
 
 abbrev pub replay : Machine → (schedule : List ℕ) → Run
-replay m schedule = replay_entries m (map entry_of schedule)
+replay m schedule = replay_entries m (map numbered schedule)
 
 -- Rounds: one turn of each processor, rising. Where a round has no event, all clocks below the
 -- least deadline of all are advanced to it.

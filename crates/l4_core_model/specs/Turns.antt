@@ -1,18 +1,18 @@
 -- The core's turn: the first duty, else the first due timeout, else one instruction of the first
 -- ready thread.
-use Rattle.l4_model.specs.Rules.{receive_timeout_code, receive_nobody_code, receive_cancelled_code}
+use Rattle.l4_model.specs.Rules.{TimeOver, NobodyThere, CancelAsked}
 use Rattle.l4_model.specs.Options.{if_some}
 use Rattle.std.specs.Prelude.{ℕ, ◌+◌, ◌==◌, max, nat_lt, Bool, if◌then◌else◌, Option, Some, None, is_some, List, [], ◌∷◌, find, slice_index_or, slice_get}
 use Rattle.std.specs.Option.{option_map}
 use Rattle.l4_model.specs.Words.{clock_limit}
 use Rattle.l4_model.specs.Machine.{Machine, place_of}
 use Rattle.l4_model.specs.World.{Owed, is_deleted, receive_now, changed}
-use Rattle.l4_model.specs.Steps.{ReceiveTimeout, ReceiveNobody, ReceiveCancel, Tick}
+use Rattle.l4_model.specs.Steps.{Tick}
 use Rattle.l4_model.specs.Conditions.{Found, is_nobody, act_of, ◌>>=◌, ◌>>◌}
 use Rattle.l4_core_model.specs.Plain as plain
 use Rattle.l4_core_model.specs.Letters.{TimedOut, Nobody, Cancelled, Dropped, GoneLetter, ByTimeout}
 use Rattle.l4_core_model.specs.Local.{Local, declared, own_places, owed_beside, keeps_beside, thread, held, held_by, relists}
-use Rattle.l4_core_model.specs.Acts.{Work, ◌▷◌, does, tells, posts, retargets, refuses, delivers, fails_receive, first_acceptable, zero_refusable, withdraws, split_place, acts}
+use Rattle.l4_core_model.specs.Acts.{Work, ◌▷◌, does, tells, posts, retargets, refuses, delivers, fails_for, first_acceptable, zero_refusable, withdraws, split_place, acts}
 
 -- Stamps
 
@@ -151,9 +151,9 @@ does_duty m cpu i (RefusesFirst sender) x = refuses m cpu Nobody sender x
 does_duty m cpu i (TellsGone to) x = x ▷ does (has_told to i)
     ▷ posts to (GoneLetter (declared m i).id)
 does_duty m cpu i CancelsOwn x = refuses m cpu Cancelled i x
-does_duty m cpu i CancelsReceive x = fails_receive m ReceiveCancel receive_cancelled_code i x
+does_duty m cpu i CancelsReceive x = fails_for m CancelAsked i x
 does_duty m cpu i (DeliversFirst sender) x = delivers m cpu i sender x
-does_duty m cpu i ClosesReceive x = fails_receive m ReceiveNobody receive_nobody_code i x
+does_duty m cpu i ClosesReceive x = fails_for m NobodyThere i x
 does_duty m cpu i (RefusesZero sender) x = refuses m cpu TimedOut sender x
 
 -- A deadline is past: a receive phase or a send that waits here times out. For a split send a
@@ -161,7 +161,7 @@ does_duty m cpu i (RefusesZero sender) x = refuses m cpu TimedOut sender x
 abbrev pub times_out : Machine → (cpu i : ℕ) → Work → Work
 times_out m cpu i x =
     if is_some (receive_now (thread x.local i).phase)
-    then fails_receive m ReceiveTimeout receive_timeout_code i x
+    then fails_for m TimeOver i x
     else if plain.is_queued x.local.lists i then refuses m cpu TimedOut i x
     else withdraws m ByTimeout i (split_place m cpu x.local i) x
 

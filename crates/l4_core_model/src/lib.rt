@@ -6,7 +6,7 @@
 //! The merge orders the events of all by stamp.
 //!
 //! The code is two laws with an empty body: both ways are core runs. That a core run is a history
-//! of the model stands in `l4_split`, that logs make one in `l4_merge`. `proofs/` has worked
+//! of the model stands in `l4_refines`, that logs make one in `l4_merge`. `proofs/` has worked
 //! examples of turns, letters and runs.
 //!
 //! ```rust

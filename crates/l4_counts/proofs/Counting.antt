@@ -7,7 +7,7 @@ use Rattle.l4_model.specs.Steps.{Step}
 use Rattle.l4_model.proofs.Chains.{some_is}
 use Rattle.l4_counts.specs.declared.counts.Counts.{Counts}
 use Rattle.l4_counts.specs.Counts.{how_many, counts_of, with_step, is_turn, is_begun, is_delivered, is_received, is_send_timeout, is_receive_timeout, is_send_nobody, is_receive_nobody, is_send_cancel, is_receive_cancel}
-use Rattle.l4_counts.specs.Few.{AreFew}
+use Rattle.l4_counts.specs.Inner.Few.{AreFew}
 
 bit_least : (b : Bool) → bit b ≤ 1
 bit_least true = omega arith

@@ -17,9 +17,9 @@ use Rattle.l4_core_model.specs.Runs.{IsMachine}
 use Rattle.l4_core_model.proofs.Changed.{get-changed, same_ids}
 use Rattle.l4_counts.specs.declared.counts.Counts.{Counts}
 use Rattle.l4_counts.specs.Counts.{counts_of, with_step}
-use Rattle.l4_counts.specs.Few.{AreFew}
+use Rattle.l4_counts.specs.Inner.Few.{AreFew}
 use Rattle.l4_counts.specs.Lines.{counts_line}
-use Rattle.l4_counts.specs.Threads.{counts_of_each, each_with_step, with_step_at, with_step_of, counts_lines}
+use Rattle.l4_counts.specs.Inner.Threads.{counts_of_each, each_with_step, with_step_at, with_step_of, counts_lines}
 use Rattle.l4_counts.proofs.Counting.{counts_more, few}
 
 -- All threads

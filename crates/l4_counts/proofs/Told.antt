@@ -8,7 +8,7 @@ use Rattle.l4_model.specs.Words.{GlobalId}
 use Rattle.l4_model.specs.Machine.{Declaration}
 use Rattle.l4_counts.specs.declared.counts.Counts.{Counts}
 use Rattle.l4_counts.specs.Lines.{counts_line}
-use Rattle.l4_counts.specs.Threads.{line_of, counts_lines}
+use Rattle.l4_counts.specs.Inner.Threads.{line_of, counts_lines}
 
 pub line_more : (ds : List Declaration) (cs : List Counts) (before so_far now : List ℕ) (n k : ℕ) (d : Declaration) (c : Counts) (id : GlobalId) →
     n < length ds → n < length cs → d ≡ get_or ds n d → c ≡ get_or cs n c → id ≡ d.id → k ≡ n + 1 →

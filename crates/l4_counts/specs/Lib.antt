@@ -1,4 +1,3 @@
 pub mod Counts
-pub mod Few
+pub mod Inner
 pub mod Lines
-pub mod Threads

@@ -4,7 +4,7 @@ ghost use Rattle.l4_model.specs.Rules.{bit};
 ghost use Rattle.l4_model.specs.Words.{GlobalId as ModelId};
 ghost use Rattle.l4_types.specs.StepView.{delivered, seen};
 ghost use Rattle.l4_counts.specs.Counts.{counts_of, with_step};
-ghost use Rattle.l4_counts.specs.Few.{AreFew};
+ghost use Rattle.l4_counts.specs.Inner.Few.{AreFew};
 
 use l4_history::history::History;
 use l4_types::ids::GlobalId;

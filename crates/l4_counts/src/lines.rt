@@ -3,7 +3,7 @@ ghost use Rattle.std.specs.Prelude.{◌≡◌, ◌++◌, OnOk, OnErr};
 ghost use Rattle.std.specs.String.{string_bytes};
 ghost use Rattle.l4_counts.specs.Lines.{counts_line, counts_text, done_text, first_codes};
 ghost use Rattle.l4_counts.specs.Lines.{last_codes, refused_text};
-ghost use Rattle.l4_counts.specs.Threads.{counts_lines};
+ghost use Rattle.l4_counts.specs.Inner.Threads.{counts_lines};
 
 use crate::counts::Counts;
 use crate::threads::counts_of_each;

@@ -3,8 +3,8 @@ ghost use Rattle.std.specs.Prelude.{◌≡◌, All, IfOk, IfSome, length, slice_
 ghost use Rattle.l4_model.specs.Machine.{place_of};
 ghost use Rattle.l4_core_model.specs.Runs.{IsMachine};
 ghost use Rattle.l4_types.specs.StepView.{seen};
-ghost use Rattle.l4_counts.specs.Few.{AreFew};
-ghost use Rattle.l4_counts.specs.Threads.{counts_of_each, each_with_step, with_step_at};
+ghost use Rattle.l4_counts.specs.Inner.Few.{AreFew};
+ghost use Rattle.l4_counts.specs.Inner.Threads.{counts_of_each, each_with_step, with_step_at};
 
 use crate::counts::Counts;
 use l4_history::history::History;

@@ -6,15 +6,15 @@ use Rattle.l4_model.specs.Machine.{Machine}
 use Rattle.l4_core_model.specs.Letters.{Letter}
 use Rattle.l4_core_model.specs.Local.{Local}
 use Rattle.l4_core_model.specs.Runs.{Run, at_rest, letters, processors}
-use Rattle.l4_choices.specs.Alike.{contents}
+use Rattle.l4_bisimilar.specs.Alike.{contents}
 use Rattle.l4_core.specs.Processor.{Processor}
 use Rattle.l4_machine.specs.UnderWay.{UnderWay, IsProcessorOf, IsRun}
-use Rattle.l4_states.specs.Codes.{chained, code_of, content_code, each, local_code, mail_code, mail_from_code, mail_to_code, number_code, sized}
+use Rattle.l4_states.specs.Inner.Codes.{chained, code_of, content_code, each, local_code, mail_code, mail_from_code, mail_to_code, number_code, sized}
 use Rattle.l4_states.specs.Choices.{state_in}
 use Rattle.l4_explore.specs.Tries.{State}
-use Rattle.l4_codes.specs.Written.{with_numbers, Written, Writes}
+use Rattle.l4_codes.specs.Inner.Written.{with_numbers, Written, Writes}
 use Rattle.l4_codes.proofs.Writing.{each_on}
-use Rattle.l4_endings.proofs.Walking.{locals_of_run}
+use Rattle.l4_rounds.proofs.Locals.{locals_of_run}
 
 -- One more processor was written.
 pub core_told : (m : Machine) (r : Run) (w : UnderWay) (cpu : ℕ) (p : Processor)

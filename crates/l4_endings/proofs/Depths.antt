@@ -4,7 +4,7 @@ use Rattle.std.proofs.lemmas.Bool.{cases_lt}
 use Rattle.l4_model.specs.Machine.{Machine}
 use Rattle.l4_core_model.specs.Runs.{System, IsMachine}
 use Rattle.l4_explore.specs.Search.{Seen, seen_at, depth_of}
-use Rattle.l4_explore.specs.States.{AreAllStates}
+use Rattle.l4_explore.specs.Inner.States.{AreAllStates}
 use Rattle.l4_explore.proofs.Orders.{not_after_length}
 use Rattle.l4_states.specs.Choices.{state_after, IsLeastRun}
 use Rattle.l4_states.specs.Listed.{AreAllListed}

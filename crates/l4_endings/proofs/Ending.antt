@@ -5,10 +5,10 @@ use Rattle.std.specs.Prelude.{filter, IsSome, Vec}
 use Rattle.std.proofs.lemmas.List.Elements.{filter-append}
 use Rattle.std.proofs.lemmas.List.{append-nil, map-append, take_more}
 use Rattle.l4_model.specs.Machine.{Machine}
-use Rattle.l4_choices.specs.Entries.{Entry}
 use Rattle.l4_core_model.specs.Runs.{IsMachine}
+use Rattle.l4_core_model.specs.Schedules.{Entry}
 use Rattle.l4_explore.specs.Search.{Seen, seen_at, unseen}
-use Rattle.l4_explore.specs.States.{AreAllStates, AreCut}
+use Rattle.l4_explore.specs.Inner.States.{AreAllStates, AreCut}
 use Rattle.l4_explore.specs.Tries.{State}
 use Rattle.l4_machine.specs.Entries.{entry_from}
 use Rattle.l4_machine.specs.declared.entries.Entry as code
@@ -17,8 +17,8 @@ use Rattle.l4_states.specs.Endings.{ends_of, entries_of, AreEndings}
 use Rattle.l4_states.specs.Listed.{IsCutOff}
 use Rattle.l4_states.proofs.Found.{all_listed, cut_off}
 use Rattle.l4_states.proofs.Following.{state_led}
-use Rattle.l4_endings.specs.Tried.{entries_from, told}
-use Rattle.l4_endings.specs.Walked.{AreChoices}
+use Rattle.l4_endings.specs.Inner.Tried.{entries_from, told}
+use Rattle.l4_endings.specs.Inner.Walked.{AreChoices}
 
 -- Of one state
 pub no_end : (m : Machine) (x : Seen) (es : List (List Entry)) → x.state.is_end ≡ false →

@@ -1,4 +1,3 @@
-pub mod Possible
 pub mod Walking
 pub mod Nexts
 pub mod Ending

@@ -8,16 +8,16 @@ use Rattle.std.proofs.lemmas.List.{map-append}
 use Rattle.l4_model.specs.Machine.{Machine}
 use Rattle.l4_explore.specs.Tries.{State, AreNexts, LeadOn, StandsForAll}
 use Rattle.l4_explore.specs.Search.{Seen}
-use Rattle.l4_explore.specs.States.{AreAllEntries}
-use Rattle.l4_explore.specs.Views.{next_from, state_from}
+use Rattle.l4_explore.specs.Inner.States.{AreAllEntries}
+use Rattle.l4_explore.specs.Inner.Views.{next_from, state_from}
 use Rattle.l4_explore.specs.declared.tries.Choice.{Choice}
 use Rattle.l4_explore.specs.declared.tries.Reached.{Reached}
 use Rattle.l4_explore.proofs.Covering.{nexts_lead_on}
 use Rattle.l4_core_model.specs.Runs.{System, opening_system}
 use Rattle.l4_machine.specs.UnderWay.{UnderWay}
 use Rattle.l4_states.specs.Choices.{after_choices, state_after, state_in}
-use Rattle.l4_endings.specs.Tried.{AreUpTo}
-use Rattle.l4_endings.specs.Walked.{AreChoices, IsWalked}
+use Rattle.l4_endings.specs.Inner.Tried.{AreUpTo}
+use Rattle.l4_endings.specs.Inner.Walked.{AreChoices, IsWalked}
 use Rattle.l4_endings.proofs.Nexts.{listed}
 
 pub one_listed : (f : List ℕ → Option State) (s : List ℕ) (n : ℕ) (old new : List Choice)

@@ -2,7 +2,7 @@
 use Rattle.std.proofs.Common.{◌≡◌, ℕ, ◌+◌, ◌<◌, ◌≤◌, ◌⊎◌, inl, inr, Option, None, Some, List, [], ◌∷◌, ◌++◌, ap, ◌∙◌, arith}
 use Rattle.std.proofs.lemmas.Bool.{cases_lt}
 use Rattle.l4_explore.specs.Tries.{State, Next, AreNexts}
-use Rattle.l4_endings.specs.Tried.{AreUpTo}
+use Rattle.l4_endings.specs.Inner.Tried.{AreUpTo}
 
 module _ (f : List ℕ → Option State) (s : List ℕ) where
   pub none_yet : AreUpTo f s 0 0 []

@@ -1,6 +1,6 @@
 -- Core runs that choices lead to.
 use Rattle.std.proofs.Common.{◌≡◌, ℕ, ◌+◌, ◌*◌, ◌/◌, ◌%◌, ◌<◌, ◌≤◌, true, false, Option, None, Some, List, [], ◌∷◌, ◌++◌, length, get_or, take, drop, refl, ap, sym, subst, ◌∙◌, arith, length-append}
-use Rattle.std.specs.Prelude.{IsSome, is_some, slice_get}
+use Rattle.std.specs.Prelude.{IsSome, is_some}
 use Rattle.std.specs.Option.{option_map}
 use Rattle.std.proofs.lemmas.List.{length-map, take-append-drop, take_more}
 use Rattle.std.proofs.lemmas.Nat.{div-mul-add, mod-mul-add, mul-add-lt}
@@ -8,12 +8,9 @@ use Rattle.std.proofs.Math.Nat.{mul_comm}
 use Rattle.l4_model.specs.Machine.{Machine}
 use Rattle.l4_model.specs.Conditions.{◌>>=◌}
 use Rattle.l4_model.proofs.Chains.{some_is}
-use Rattle.std.proofs.lemmas.Option.{slice_get-get_or}
-use Rattle.l4_core_model.specs.Local.{opening_local}
 use Rattle.l4_core_model.specs.Runs.{Event, IsMachine, System, Run, opening_run, opening_system}
-use Rattle.l4_choices.specs.Entries.{Entry}
+use Rattle.l4_core_model.specs.Schedules.{Entry}
 use Rattle.l4_machine.specs.Entries.{after_entry as after_entry_of_run}
-use Rattle.l4_machine.specs.Stations.{Station}
 use Rattle.l4_machine.specs.UnderWay.{UnderWay, GoesOn, HasRun, IsRun}
 use Rattle.l4_states.specs.Choices.{after_choices, after_entry, choice, choice_of, state_after, state_in, IsEarly, IsNear, LeadsEarly}
 use Rattle.l4_states.proofs.Early.{AreLow, is_early, low_next, low_opening}
@@ -21,9 +18,10 @@ use Rattle.l4_states.proofs.Endings.{replayed}
 use Rattle.l4_states.proofs.Following.{after-append, has_reached}
 use Rattle.l4_states.proofs.Reached.{reached_within}
 use Rattle.l4_explore.specs.Tries.{deepest}
-use Rattle.l4_endings.specs.Tried.{IsTickOf}
-use Rattle.l4_endings.specs.Walked.{AreChoices, IsWalked}
-use Rattle.l4_endings.proofs.Possible.{entry_same, number_below}
+use Rattle.l4_endings.specs.Inner.Walked.{AreChoices, IsWalked}
+use Rattle.l4_rounds.specs.Inner.Choices.{IsTickOf}
+use Rattle.l4_rounds.proofs.Locals.{locals_of_run}
+use Rattle.l4_rounds.proofs.Possible.{entry_same, number_below}
 
 -- Where a list of choices leads to a state, so does each beginning of it.
 pub choices_before : (m : Machine) (g : System) (s t : List ℕ) →
@@ -73,12 +71,6 @@ on m s w e walked some =
         IsOn m s w e walked
     by None is some = absurd cc
     by (Some h) is some = record { next = h; leads = is }
-
-pub locals_of_run : (m : Machine) (r : Run) (w : UnderWay) → IsRun m r w →
-    length r.system.locals ≡ m.cpus
-locals_of_run m r w is =
-    ap length is.system.locals ∙ length-map w.stations (λ (s : Station). s.core.local)
-    ∙ is.system.for_each
 
 pub next_below : (m : Machine) (s : List ℕ) (w : UnderWay) (e : ℕ) → IsWalked m s w →
     AreChoices m (s ++ e ∷ []) → e < m.cpus * (m.cpus + 2)
@@ -213,13 +205,6 @@ none_above m s w e walked above =
     by (Some h) is =
         let b = number_below m walked.run.system h e (locals_of_run m walked.run w walked.is) is in
         absurd (omega (arith, b, above))
-
--- A processor of a run has a local state.
-pub local_here : (m : Machine) (r : Run) (w : UnderWay) (cpu : ℕ) → IsRun m r w → cpu < m.cpus →
-    slice_get r.system.locals cpu ≡ Some (get_or r.system.locals cpu (opening_local m 0))
-local_here m r w cpu is own =
-    slice_get-get_or r.system.locals cpu (opening_local m 0)
-    (omega (arith, own, locals_of_run m r w is))
 
 -- A walk of few choices is early.
 

@@ -2,7 +2,7 @@
 use Rattle.std.specs.Prelude.{ℕ, ◌≤◌}
 use Rattle.l4_model.specs.Machine.{Machine}
 use Rattle.l4_core_model.specs.Runs.{System}
-use Rattle.l4_shifted.specs.Shifted.{IsShifted}
+use Rattle.l4_bisimilar.specs.Shifted.{IsShifted}
 use Rattle.l4_states.specs.Choices.{IsLeastRun}
 use Rattle.l4_states.specs.Listed.{GoesFar}
 

@@ -1,3 +1,2 @@
-pub mod Walked
-pub mod Tried
 pub mod Deepest
+pub mod Inner

@@ -1,18 +1,19 @@
 //! The endings of a machine.
-ghost use Rattle.std.specs.Prelude.{ℕ, ◌≡◌, ◌<◌, ◌≤◌, ◌++◌, ◌∷◌, [], min, IfOk, OnOk, length, map, true};
+ghost use Rattle.std.specs.Prelude.{ℕ, ◌≡◌, ◌<◌, ◌≤◌, ◌++◌, ◌∷◌, [], min, IfOk, OnOk, length, map};
+ghost use Rattle.std.specs.Prelude.{true};
 ghost use Rattle.l4_explore.specs.Search.{seen_at};
 ghost use Rattle.l4_explore.specs.Tries.{deepest};
 ghost use Rattle.l4_states.specs.Endings.{ends_of, entries_of, AreAllEndings, AreEndings};
 ghost use Rattle.l4_endings.specs.Deepest.{IsDeepest};
-ghost use Rattle.l4_endings.specs.Tried.{entries_from, told};
-ghost use Rattle.l4_endings.specs.Walked.{AreChoices};
+ghost use Rattle.l4_endings.specs.Inner.Tried.{entries_from, told};
+ghost use Rattle.l4_endings.specs.Inner.Walked.{AreChoices};
 
-use crate::choices::choice;
 use crate::tried::Choices;
 use l4_explore::found::Found;
 use l4_explore::progress::Progress;
 use l4_explore::search::explore;
 use l4_machine::Entry;
+use l4_rounds::choices::choice;
 use l4_script::machine::Machine;
 use l4_types::errors::NoMemory;
 use std::alloc::Global;

@@ -12,7 +12,6 @@
 //! ```
 #![tactic(auto)]
 
-mod choices;
 mod endings_of;
 mod states;
 mod tried;

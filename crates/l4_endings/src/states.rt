@@ -2,13 +2,14 @@
 ghost use Rattle.std.specs.Prelude.{◌≡◌, ◌<◌, IfOk, OnOk, length};
 ghost use Rattle.l4_model.specs.Machine.{Machine as MachineOfModel};
 ghost use Rattle.l4_core_model.specs.Runs.{Run, processors};
-ghost use Rattle.l4_explore.specs.Views.{state_from};
+ghost use Rattle.l4_explore.specs.Inner.Views.{state_from};
 ghost use Rattle.l4_machine.specs.UnderWay.{HasRun, IsRun};
-ghost use Rattle.l4_choices.specs.Alike.{contents};
-ghost use Rattle.l4_states.specs.Codes.{chained, content_code, local_code, mail_code, mail_to_code};
-ghost use Rattle.l4_states.specs.Codes.{sized};
+ghost use Rattle.l4_bisimilar.specs.Alike.{contents};
+ghost use Rattle.l4_states.specs.Inner.Codes.{chained, content_code, local_code, mail_code};
+ghost use Rattle.l4_states.specs.Inner.Codes.{mail_to_code};
+ghost use Rattle.l4_states.specs.Inner.Codes.{sized};
 ghost use Rattle.l4_states.specs.Choices.{state_in};
-ghost use Rattle.l4_codes.specs.Written.{Writes};
+ghost use Rattle.l4_codes.specs.Inner.Written.{Writes};
 
 use l4_codes::code::Code;
 use l4_codes::letters::put_letter;

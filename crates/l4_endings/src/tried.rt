@@ -1,21 +1,23 @@
 //! The choices of a machine, as a search tries them.
-ghost use Rattle.std.specs.Prelude.{◌+◌, ◌*◌, ◌/◌, ◌<◌, ◌≡◌, ◌++◌, ◌∷◌, ◌^◌, [], IfOk, IsSome, OnOk, Some, length, map};
+ghost use Rattle.std.specs.Prelude.{◌+◌, ◌*◌, ◌/◌, ◌<◌, ◌≡◌, ◌++◌, ◌∷◌, ◌^◌, [], IfOk, IsSome};
+ghost use Rattle.std.specs.Prelude.{OnOk, Some, length, map};
 ghost use Rattle.l4_model.specs.Machine.{Machine as MachineOfModel};
 ghost use Rattle.l4_core_model.specs.Runs.{IsMachine, Run};
-ghost use Rattle.l4_explore.specs.States.{AreAllEntries};
+ghost use Rattle.l4_explore.specs.Inner.States.{AreAllEntries};
 ghost use Rattle.l4_explore.specs.Tries.{deepest, AreNexts, StandsForAll};
-ghost use Rattle.l4_explore.specs.Views.{next_from, state_from};
+ghost use Rattle.l4_explore.specs.Inner.Views.{next_from, state_from};
 ghost use Rattle.l4_machine.specs.UnderWay.{IsRun};
 ghost use Rattle.l4_states.specs.Choices.{state_after, IsNear};
-ghost use Rattle.l4_endings.specs.Tried.{schedules, AreUpTo, IsTickOf};
-ghost use Rattle.l4_endings.specs.Walked.{AreChoices, IsWalked};
+ghost use Rattle.l4_endings.specs.Inner.Tried.{schedules, AreUpTo};
+ghost use Rattle.l4_rounds.specs.Inner.Choices.{IsTickOf};
+ghost use Rattle.l4_endings.specs.Inner.Walked.{AreChoices, IsWalked};
 
-use crate::choices::{choice_count, is_possible};
 use crate::states::state_of;
 use crate::walks::{walk_on, walk_to};
 use l4_explore::found::Found;
 use l4_explore::tries::{Choice, Reached, Tries};
 use l4_machine::Walk;
+use l4_rounds::choices::{choice_count, is_possible};
 use l4_script::machine::Machine;
 use std::alloc::{AllocError, Global};
 

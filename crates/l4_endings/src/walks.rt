@@ -1,14 +1,15 @@
 //! Core runs that choices lead to.
-ghost use Rattle.std.specs.Prelude.{◌≡◌, ◌<◌, ◌*◌, ◌+◌, ◌/◌, ◌%◌, ◌++◌, ◌∷◌, ◌^◌, [], IfOk, OnOk, length};
+ghost use Rattle.std.specs.Prelude.{◌≡◌, ◌<◌, ◌*◌, ◌+◌, ◌/◌, ◌%◌, ◌++◌, ◌∷◌, ◌^◌, [], IfOk, OnOk};
+ghost use Rattle.std.specs.Prelude.{length};
 ghost use Rattle.l4_model.specs.Machine.{Machine as MachineOfModel};
 ghost use Rattle.l4_core_model.specs.Runs.{Run};
 ghost use Rattle.l4_machine.specs.Entries.{after_entry};
 ghost use Rattle.l4_machine.specs.UnderWay.{GoesOn, HasRun, IsRun};
 ghost use Rattle.l4_states.specs.Choices.{choice_of, IsNear};
-ghost use Rattle.l4_endings.specs.Walked.{AreChoices, IsWalked};
+ghost use Rattle.l4_endings.specs.Inner.Walked.{AreChoices, IsWalked};
 
-use crate::choices::{choice, least_deadline};
 use l4_machine::Walk;
+use l4_rounds::choices::{choice, least_deadline};
 use l4_script::machine::Machine;
 use l4_types::errors::NoMemory;
 use std::alloc::Global;

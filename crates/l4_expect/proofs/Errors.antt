@@ -1,10 +1,10 @@
 -- Which ErrorCodes the threads of a history have, and what its report tells of each of them.
 use Rattle.std.proofs.Common.{◌≡◌, ℕ, zero, suc, ◌<◌, ◌^◌, Bool, true, Option, Some, None, List, [], ◌∷◌, map, refl, subst, arith}
-use Rattle.std.specs.Prelude.{◌==◌, slice_get, zip}
+use Rattle.std.specs.Prelude.{slice_get, zip}
 use Rattle.std.specs.List.{list_all}
 use Rattle.std.proofs.lemmas.Bool.{and_parts, and_from, ltb-true, lt-ltb}
 use Rattle.l4_model.specs.Words.{Format, W64, W32, is_word_in}
-use Rattle.l4_model.specs.Machine.{Declaration, Instr, Set, Copy, Add, Tag, Vs, Ipc, Ask, Jump, OnErr, End, Machine, OrderKind, CancelSend, CancelReceive, CancelBoth, Delete}
+use Rattle.l4_model.specs.Machine.{Declaration, Instr, Run, Ipc, Ask, End, Machine, OrderKind, CancelSend, CancelReceive, CancelBoth, Delete}
 use Rattle.l4_model.specs.World.{Context, Owed, Phase, Ready, Sending, Receiving, Ordering, Ended, Deleted, Receive, Send, Thread, World, changed, is_alive, opening, opening_thread}
 use Rattle.l4_model.specs.Rules.{ran}
 use Rattle.l4_model.specs.Conditions.{instruction}
@@ -42,15 +42,9 @@ all_changed f keeps (t ∷ ts) (suc i) h =
     and_from (has_error t) (list_all has_error (changed f ts i)) parts.0 (all_changed f keeps ts i parts.1)
 
 ran_error : (i : Instr) (c : Context) → is_error c.error ≡ true → is_error (ran i c).error ≡ true
-ran_error (Set a word) c h = h
-ran_error (Copy a b) c h = h
-ran_error (Add format a word) c h = h
-ran_error (Tag word) c h = h
-ran_error (Vs id) c h = h
+ran_error (Run own) c h = h
 ran_error (Ipc to from send receive) c h = refl
 ran_error (Ask target what) c h = refl
-ran_error (Jump place) c h = h
-ran_error (OnErr place) c h = cond_keeps (λ (x : Context). is_error x.error ≡ true) (c.error == 0) _ _ (λ e. h) (λ e. h)
 ran_error End c h = h
 
 fails_error : (code : ℕ) → is_error code ≡ true → KeepsTo (fails code)

@@ -5,7 +5,7 @@ use Rattle.std.specs.List.{cons_option, list_all}
 use Rattle.std.specs.Option.{option_map}
 use Rattle.std.proofs.lemmas.Bool.{and_parts, and_from, ltb-true, lt-ltb, eq-eqb, eqb-true, false_from_ne_true, not_from_false}
 use Rattle.l4_model.specs.Words.{Format, W64, W32, GlobalId, Id, NilThread, AnyThread, AnyLocalThread, LocalThread, GlobalThread, Period, has_typed_words, has_word_in, is_global, is_word_in, last_register}
-use Rattle.l4_model.specs.Machine.{Declaration, Instr, Set, Copy, Add, Tag, Vs, Ipc, Ask, Jump, OnErr, End, Machine, OrderKind, CancelSend, CancelReceive, CancelBoth, Delete, To, ToId, ToLast, instruction_at, same_space}
+use Rattle.l4_model.specs.Machine.{Declaration, Assign, Instr, Run, Tag, Vs, Ipc, Ask, Jump, OnErr, End, Machine, OrderKind, CancelSend, CancelReceive, CancelBoth, Delete, To, ToId, ToLast, instruction_at, same_space}
 use Rattle.l4_model.specs.World.{Context, Message, Name, Owed, Phase, Ready, Sending, Receiving, Ordering, Ended, Deleted, Receive, Send, Thread, World, is_alive, opening}
 use Rattle.l4_model.specs.Rules.{RunsAlone, Orders, act, ask_act, bit, destination, failed, ipc_act, is_admitted, message_of, originator, permitted, ran, receive_phase, received, received_tag, register}
 use Rattle.l4_model.specs.Conditions.{◌>>=◌, Pending, undecided}
@@ -17,7 +17,7 @@ use Rattle.l4_model.proofs.Keeping.{Each, Maintained, opening_is, sender_fact, s
 use Rattle.l4_model.proofs.Places.{known_send}
 use Rattle.l4_model.proofs.Requests.{act_request, message_short}
 use Rattle.l4_types.proofs.InFormats.{is_global_too}
-use Rattle.l4_script.specs.Canonical.{HasText, can_be_declared, can_be_written, has_destination, is_register}
+use Rattle.l4_script.specs.Canonical.{HasText, can_be_assigned, can_be_declared, can_be_written, has_destination, is_register}
 use Rattle.l4_trace.specs.Lines.{has_line}
 use Rattle.l4_words.specs.Names.{is_name}
 use Rattle.l4_expect.proofs.Reported.{is_sender, is_some_thread}
@@ -31,9 +31,7 @@ to_suits ToLast = true
 
 -- No instruction but `tag` writes MR0, and that no typed items; each id has a word.
 abbrev suits : Instr → Bool
-suits (Set a word) = nat_le 1 a
-suits (Copy a b) = nat_le 1 a
-suits (Add format a word) = nat_le 1 a
+suits (Run (Assign a value)) = nat_le 1 a
 suits (Tag word) = word / 2 ^ 6 % 64 == 0
 suits (Vs id) = has_word_in W64 id
 suits (Ipc to from send receive) = to_suits to
@@ -62,9 +60,7 @@ register_suits : (a : ℕ) → is_register a ≡ true → nat_le 1 a ≡ true
 register_suits a h = (and_parts (nat_le 1 a) (nat_le a last_register) h).0
 
 written_suits : (f : Format) (size : ℕ) (i : Instr) → can_be_written f size i ≡ true → suits i ≡ true
-written_suits f size (Set a word) h = register_suits a (and_parts (is_register a) (is_word_in f word) h).0
-written_suits f size (Copy a b) h = register_suits a (and_parts (is_register a) (nat_le b last_register) h).0
-written_suits f size (Add format a word) h = register_suits a (and_parts (is_register a) (is_word_in f word) (and_parts _ _ h).1).0
+written_suits f size (Run (Assign a value)) h = register_suits a (and_parts (is_register a) (can_be_assigned f value) h).0
 written_suits f size (Tag word) h = (and_parts (is_word_in f word) (word / 2 ^ 6 % 64 == 0) h).1
 written_suits f size (Vs id) h = has_word_too f id h
 written_suits f size (Ipc to from send receive) h = destination_too f to (and_parts _ _ (and_parts _ _ (and_parts _ _ h).0).0).0
@@ -114,16 +110,13 @@ tag_first [] word h = refl
 tag_first (x ∷ words) word h = h
 
 ran_plain : (i : Instr) (c : Context) → suits i ≡ true → IsPlain c → IsPlain (ran i c)
-ran_plain (Set a word) c i h = record { from = h.from; actual = h.actual; tag = ap has_typed_words (first_kept c.words a word i) ∙ h.tag }
-ran_plain (Copy a b) c i h = record { from = h.from; actual = h.actual; tag = ap has_typed_words (first_kept c.words a (register c b) i) ∙ h.tag }
-ran_plain (Add format a word) c i h = record { from = h.from; actual = h.actual; tag = ap has_typed_words (first_kept c.words a _ i) ∙ h.tag }
+ran_plain (Run (Assign a value)) c i h = record { from = h.from; actual = h.actual; tag = ap has_typed_words (first_kept c.words a _ i) ∙ h.tag }
 ran_plain (Tag word) c i h = record { from = h.from; actual = h.actual; tag = tag_first c.words word (ap not i) }
 ran_plain (Vs id) c i h = record { from = h.from; actual = i; tag = h.tag }
 ran_plain (Ipc to from send receive) c i h = record { from = refl; actual = h.actual; tag = tag_first c.words 0 refl }
 ran_plain (Ask target what) c i h = record { from = h.from; actual = h.actual; tag = h.tag }
 ran_plain (Jump place) c i h = record { from = h.from; actual = h.actual; tag = h.tag }
-ran_plain (OnErr place) c i h =
-    cond_keeps IsPlain (c.error == 0) _ _ (λ e. record { from = h.from; actual = h.actual; tag = h.tag }) (λ e. record { from = h.from; actual = h.actual; tag = h.tag })
+ran_plain (OnErr place) c i h = record { from = h.from; actual = h.actual; tag = h.tag }
 ran_plain End c i h = h
 
 failed_plain : (code : ℕ) (c : Context) → IsPlain c → IsPlain (failed code c)
@@ -204,13 +197,7 @@ act_to : (m : Machine) (id : GlobalId) (now : ℕ) (c : Context) (i : Instr) (se
 act_to m id now c (Ipc to from send_period receive_period) send i h e =
     ipc_to m id now c (destination c to) send_period (receive_phase from receive_period) send (destination_word c to i h) e
 act_to m id now c (Ask target what) send i h e = absurd (ask_sends m id target what send e)
-act_to m id now c (Set a word) send i h e = cc
-act_to m id now c (Copy a b) send i h e = cc
-act_to m id now c (Add format a word) send i h e = cc
-act_to m id now c (Tag word) send i h e = cc
-act_to m id now c (Vs other) send i h e = cc
-act_to m id now c (Jump place) send i h e = cc
-act_to m id now c (OnErr place) send i h e = cc
+act_to m id now c (Run own) send i h e = cc
 act_to m id now c End send i h e = cc
 
 begun_lawful : (m : Machine) (d : Declaration) (now : ℕ) (c : Context) (i : Instr) (send : Send) → is_global d.id ≡ true → suits i ≡ true → IsPlain c →

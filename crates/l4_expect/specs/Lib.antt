@@ -1,5 +1,5 @@
 pub mod Columns
 pub mod Expected
+pub mod Inner
 pub mod Judging
 pub mod Unmet
-pub mod Views

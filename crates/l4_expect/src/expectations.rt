@@ -4,7 +4,7 @@ ghost use Rattle.std.specs.Prelude.{map};
 ghost use Rattle.l4_expect.specs.Expected.{after_asked, after_line, asked_in, expectations_of};
 ghost use Rattle.l4_expect.specs.Expected.{is_never};
 ghost use Rattle.l4_expect.specs.Unmet.{are_met, unmet_text};
-ghost use Rattle.l4_expect.specs.Views.{expected_of};
+ghost use Rattle.l4_expect.specs.Inner.Views.{expected_of};
 ghost use Rattle.l4_expect.specs.declared.expectations.ExpectFault.TheVariants.{NoMemory as OutOfMemory};
 
 use crate::judging::{Scope, Wrong, wrong_asked};
@@ -37,7 +37,7 @@ pub struct Expectations<'t> {
 impl<'t> Model for Expectations<'t> {
     ghost use Rattle.std.specs.Prelude.{List, map};
     ghost use Rattle.l4_expect.specs.Expected.{Expected};
-    ghost use Rattle.l4_expect.specs.Views.{expected_of};
+    ghost use Rattle.l4_expect.specs.Inner.Views.{expected_of};
 
     ghost Value = { List Expected };
 

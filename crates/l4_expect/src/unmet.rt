@@ -6,7 +6,7 @@ ghost use Rattle.l4_words.specs.Words.{words_in};
 ghost use Rattle.l4_lines.specs.Lines.{has_line, lines_of};
 ghost use Rattle.l4_expect.specs.Unmet.{fits_next, found_beside, found_words, is_beside, is_met};
 ghost use Rattle.l4_expect.specs.Unmet.{are_met, tells_of, unmet_line, unmet_part, verb};
-ghost use Rattle.l4_expect.specs.Views.{expected_of};
+ghost use Rattle.l4_expect.specs.Inner.Views.{expected_of};
 
 use crate::expectations::Expectation;
 use l4_lines::lines::{find_line, fits_line, fits_word};

@@ -3,7 +3,7 @@ use Rattle.std.proofs.Common.{◌≡◌, ℕ, Bool, true, false, cond, Option, S
 use Rattle.std.specs.Prelude.{◌==◌, is_some}
 use Rattle.std.proofs.lemmas.Bool.{and_parts}
 use Rattle.l4_model.specs.Words.{GlobalId, Id, NilThread, AnyThread, AnyLocalThread, LocalThread, GlobalThread, Period, same_id}
-use Rattle.l4_model.specs.Machine.{Machine, OrderKind, CancelSend, CancelReceive, CancelBoth, Delete, Instr, Set, Copy, Add, Tag, Vs, Ipc, Ask, Jump, OnErr, End, is_declared, same_space}
+use Rattle.l4_model.specs.Machine.{Machine, OrderKind, CancelSend, CancelReceive, CancelBoth, Delete, Instr, Run, Ipc, Ask, End, is_declared, same_space}
 use Rattle.l4_model.specs.World.{Context, PendingOrder, Receive, World, is_ready}
 use Rattle.l4_model.specs.Rules.{Orders, RunsAlone, act, ask_act, destination, ipc_act, is_admitted, receive_phase}
 use Rattle.l4_model.specs.Conditions.{Found, act_of, found, instruction}
@@ -49,13 +49,7 @@ act_admitted m id now c (Ask target what) order h = ask_admitted m id target wha
 act_admitted m id now c (Ipc to from send_period receive_period) order h =
     absurd (no_order (order_of (act m id now c (Ipc to from send_period receive_period))) order
     (ipc_orders_nothing m id now c (destination c to) send_period (receive_phase from receive_period)) h)
-act_admitted m id now c (Set a word) order h = cc
-act_admitted m id now c (Copy a b) order h = cc
-act_admitted m id now c (Add format a word) order h = cc
-act_admitted m id now c (Tag word) order h = cc
-act_admitted m id now c (Vs other) order h = cc
-act_admitted m id now c (Jump place) order h = cc
-act_admitted m id now c (OnErr place) order h = cc
+act_admitted m id now c (Run own) order h = cc
 act_admitted m id now c End order h = cc
 
 what_is : (a b : OrderKind) → (order_kind_code a == order_kind_code b) ≡ true → a ≡ b

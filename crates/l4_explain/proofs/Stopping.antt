@@ -6,15 +6,15 @@ use Rattle.std.proofs.lemmas.Option.{slice_get_within, get_or_from_slice_get}
 use Rattle.l4_model.specs.Machine.{Machine}
 use Rattle.l4_model.specs.Steps.{Step, next}
 use Rattle.l4_model.specs.History.{refused_from, refused_place, place_or_rest}
-use Rattle.l4_audit.specs.Auditing.{Auditing}
+use Rattle.l4_audit.specs.Inner.Auditing.{Auditing}
 use Rattle.l4_audit.specs.Reasons.{reason}
-use Rattle.l4_audit.specs.Taking.{Explains}
+use Rattle.l4_audit.specs.Inner.Taking.{Explains}
 use Rattle.l4_audit.specs.declared.reasons.Reason.{Reason}
 use Rattle.l4_audit.specs.declared.reasons.StepFault.{StepFault}
 use Rattle.l4_audit.specs.declared.reasons.StepFault.TheVariants.{Refused}
 use Rattle.l4_audit.proofs.Reasoning.{is_impossible}
 use Rattle.l4_audit.proofs.Replaying.{Replayed}
-use Rattle.l4_explain.specs.Accounts.{IsRefused}
+use Rattle.l4_explain.specs.Inner.Accounts.{IsRefused}
 use Rattle.l4_explain.specs.Reasons.{cause}
 use Rattle.l4_explain.specs.declared.reasons.Cause.{Cause}
 

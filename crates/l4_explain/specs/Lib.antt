@@ -1,3 +1,3 @@
-pub mod Accounts
+pub mod Inner
 pub mod Reasons
 pub mod Worlds

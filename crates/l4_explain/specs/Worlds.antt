@@ -7,7 +7,7 @@ use Rattle.l4_model.specs.History.{view}
 use Rattle.l4_model.specs.Still.{IsStill}
 use Rattle.l4_types.specs.declared.reports.Ending.{Ending}
 use Rattle.l4_audit.specs.Audits.{is_quiet}
-use Rattle.l4_audit.specs.Auditing.{Auditing, waiting_send}
+use Rattle.l4_audit.specs.Inner.Auditing.{Auditing, waiting_send}
 use Rattle.l4_audit.specs.Possible.{possible}
 use Rattle.l4_reports.specs.ReportLines.{report_text}
 use Rattle.l4_trace.specs.Lines.{line_of}

@@ -1,6 +1,7 @@
 //! What an audit tells of the steps of a trace.
 ghost use Rattle.std.specs.Prelude.{◌≡◌, ◌++◌, option_map, IfOk};
-ghost use Rattle.l4_explain.specs.Accounts.{IsAccount, IsStopped, IsToldBy, explained, reported};
+ghost use Rattle.l4_explain.specs.Inner.Accounts.{IsAccount, IsStopped, IsToldBy, explained};
+ghost use Rattle.l4_explain.specs.Inner.Accounts.{reported};
 ghost use Rattle.l4_explain.specs.Worlds.{Ends};
 
 use crate::reasons::{Cause, cause_of};

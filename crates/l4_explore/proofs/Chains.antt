@@ -3,8 +3,8 @@ use Rattle.std.proofs.Common.{◌≡◌, ℕ, zero, suc, ◌<◌, ◌≤◌, Boo
 use Rattle.std.proofs.Math.ListN.{get_or-append}
 use Rattle.std.proofs.lemmas.Bool.{eqb-true, eqb-false, cases_lt}
 use Rattle.std.proofs.Math.Nat.{eq-or-lt_of_le}
-use Rattle.l4_explore.specs.Codes.{code_at, bucket_of}
-use Rattle.l4_explore.specs.Table.{last_in, AreChains, IsTable}
+use Rattle.l4_explore.specs.Inner.Codes.{code_at, bucket_of}
+use Rattle.l4_explore.specs.Inner.Table.{last_in, AreChains, IsTable}
 use Rattle.l4_explore.proofs.Trying.{below_or_last}
 
 module _ (count : ℕ) (codes : List (List ℕ)) (bucket : ℕ) where

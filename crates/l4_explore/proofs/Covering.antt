@@ -7,7 +7,7 @@ use Rattle.std.proofs.lemmas.Bool.{cases_lt}
 use Rattle.l4_explore.specs.Orders.{IsBefore, IsNotAfter}
 use Rattle.l4_explore.specs.Tries.{State, Next, AreSchedules, AreNexts, LeadOn}
 use Rattle.l4_explore.specs.Search.{Seen, seen_at, AreMet, IsFound, IsGoneOn, IsStopped, IsExplored, IsCut, IsCutByDepth, IsCutByStates}
-use Rattle.l4_explore.specs.States.{AreAllEntries, AreAllStates, IsFull, AreCut}
+use Rattle.l4_explore.specs.Inner.States.{AreAllEntries, AreAllStates, IsFull, AreCut}
 use Rattle.l4_explore.proofs.Orders.{before_append, before_never, before_not_after, not_after_append, not_after_last, not_after_length, not_after_trans}
 use Rattle.l4_explore.proofs.Listed.{by_end, found_later}
 use Rattle.l4_explore.proofs.Exploring.{within_last}

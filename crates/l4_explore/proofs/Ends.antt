@@ -4,7 +4,7 @@ use Rattle.std.specs.List.{slice_range}
 use Rattle.std.proofs.Math.ListN.{get_or-append}
 use Rattle.std.proofs.Math.Seq.{get_or-append_seam, drop-append_seam, take-length}
 use Rattle.std.proofs.lemmas.List.{drop-append-le, take-append-le}
-use Rattle.l4_explore.specs.Codes.{code_at, start_of, end_of, code_between, first_codes, codes_of, AreEnds}
+use Rattle.l4_explore.specs.Inner.Codes.{code_at, start_of, end_of, code_between, first_codes, codes_of, AreEnds}
 use Rattle.l4_explore.proofs.Trying.{below_or_last}
 
 module _ (bytes ends : List ℕ) where

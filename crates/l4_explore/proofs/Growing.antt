@@ -10,9 +10,9 @@ use Rattle.std.proofs.lemmas.Slice.Zip.{get_or-zip, length-zip}
 use Rattle.std.proofs.lemmas.List.{map-append, length-map}
 use Rattle.l4_explore.specs.Tries.{State}
 use Rattle.l4_explore.specs.Search.{Seen, seen_at, unseen, has_code}
-use Rattle.l4_explore.specs.Grown.{Node, node_at, no_node, grown, all_grown, seen_of, AreNodes}
-use Rattle.l4_explore.specs.Views.{all_arrived, arrived_by, node_from, nodes_from, AreArrivals, AreKept, Arrived, IsStep}
-use Rattle.l4_explore.specs.Codes.{code_at}
+use Rattle.l4_explore.specs.Inner.Grown.{Node, node_at, no_node, grown, all_grown, seen_of, AreNodes}
+use Rattle.l4_explore.specs.Inner.Views.{all_arrived, arrived_by, node_from, nodes_from, AreArrivals, AreKept, Arrived, IsStep}
+use Rattle.l4_explore.specs.Inner.Codes.{code_at}
 use Rattle.l4_explore.specs.declared.found.Arrival.{Arrival}
 use Rattle.l4_explore.proofs.Listed.{seen_at-old, seen_at-new, place_of_code}
 use Rattle.l4_explore.proofs.Trying.{below_or_last}

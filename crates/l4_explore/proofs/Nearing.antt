@@ -5,7 +5,7 @@ use Rattle.std.proofs.Math.ListN.{length-append}
 use Rattle.std.proofs.lemmas.Bool.{cases_lt}
 use Rattle.l4_explore.specs.Tries.{State, Next}
 use Rattle.l4_explore.specs.Search.{Seen, seen_at, AreMet, IsExplored, Offers}
-use Rattle.l4_explore.specs.Ends.{EndsIn, IsNearer, AreKept, IsFoundIn, AreAllEnds}
+use Rattle.l4_explore.specs.Inner.Ends.{EndsIn, IsNearer, AreKept, IsFoundIn, AreAllEnds}
 use Rattle.l4_explore.proofs.Orders.{not_after_length}
 
 -- The state that a nearer choice leads to, and where it was found

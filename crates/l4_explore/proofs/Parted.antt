@@ -6,9 +6,9 @@ use Rattle.std.proofs.Math.Seq.{get_or-append_seam}
 use Rattle.std.proofs.lemmas.Slice.Eq.{bytes_eq-Decides}
 use Rattle.std.proofs.lemmas.List.{length-map, map-append}
 use Rattle.std.proofs.lemmas.Bool.{lt-ltb, le-ltb, eqb-true}
-use Rattle.l4_explore.specs.Codes.{code_at}
+use Rattle.l4_explore.specs.Inner.Codes.{code_at}
 use Rattle.l4_explore.proofs.Trying.{below_or_last}
-use Rattle.l4_explore.specs.Rows.{numbers_from, numbers_of, joined, whole, AreBelow, AreRows, IsRowOf, HasPart, ArePartsOnce, AreLonger, AreMore, IsKept, high_digit, digits_of}
+use Rattle.l4_explore.specs.Inner.Rows.{numbers_from, numbers_of, joined, whole, AreBelow, AreRows, IsRowOf, HasPart, ArePartsOnce, AreLonger, AreMore, IsKept, high_digit, digits_of}
 
 -- A number
 

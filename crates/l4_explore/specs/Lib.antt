@@ -1,10 +1,4 @@
+pub mod Inner
 pub mod Orders
-pub mod Tries
 pub mod Search
-pub mod States
-pub mod Ends
-pub mod Codes
-pub mod Table
-pub mod Rows
-pub mod Grown
-pub mod Views
+pub mod Tries

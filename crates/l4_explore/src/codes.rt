@@ -1,6 +1,6 @@
 //! Codes, lists of bytes, one behind the other.
 ghost use Rattle.std.specs.Prelude.{◌≡◌, ◌<◌, ◌≤◌, ◌++◌, ◌∷◌, [], OnErr, OnOk, length};
-ghost use Rattle.l4_explore.specs.Codes.{code_at, start_of};
+ghost use Rattle.l4_explore.specs.Inner.Codes.{code_at, start_of};
 
 use std::alloc::{AllocError, Global};
 use std::marker::Model;
@@ -15,7 +15,7 @@ pub struct Codes {
 
 impl Model for Codes {
     ghost use Rattle.std.specs.Prelude.{ℕ, List};
-    ghost use Rattle.l4_explore.specs.Codes.{codes_of, AreEnds};
+    ghost use Rattle.l4_explore.specs.Inner.Codes.{codes_of, AreEnds};
 
     ghost Value = { List (List ℕ) };
 

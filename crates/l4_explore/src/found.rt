@@ -1,7 +1,8 @@
 //! The states that a search has found.
-ghost use Rattle.std.specs.Prelude.{◌≡◌, ◌<◌, ◌++◌, ◌∷◌, ◌^◌, [], false, None, Some, IfNone, IfOk, IfSome, OnErr, OnOk, length};
+ghost use Rattle.std.specs.Prelude.{◌≡◌, ◌<◌, ◌++◌, ◌∷◌, ◌^◌, [], false, None, Some, IfNone, IfOk};
+ghost use Rattle.std.specs.Prelude.{IfSome, OnErr, OnOk, length};
 ghost use Rattle.l4_explore.specs.Search.{has_code, seen_at, seen_next};
-ghost use Rattle.l4_explore.specs.Views.{IsArrived, state_from};
+ghost use Rattle.l4_explore.specs.Inner.Views.{IsArrived, state_from};
 
 use crate::row_table::RowTable;
 use crate::tries::Reached;
@@ -30,8 +31,8 @@ struct Arrival {
 impl Model for Found {
     ghost use Rattle.std.specs.Prelude.{List};
     ghost use Rattle.l4_explore.specs.Search.{Seen};
-    ghost use Rattle.l4_explore.specs.Grown.{seen_of};
-    ghost use Rattle.l4_explore.specs.Views.{all_arrived, nodes_from, AreKept};
+    ghost use Rattle.l4_explore.specs.Inner.Grown.{seen_of};
+    ghost use Rattle.l4_explore.specs.Inner.Views.{all_arrived, nodes_from, AreKept};
 
     ghost Value = { List Seen };
 

@@ -1,6 +1,6 @@
 //! Rows of numbers, in bytes.
 ghost use Rattle.std.specs.Prelude.{◌≡◌, ◌<◌, ◌++◌, ◌∷◌, [], IfNone, IfSome, OnOk, length};
-ghost use Rattle.l4_explore.specs.Rows.{digits_of, high_digit, numbers_of};
+ghost use Rattle.l4_explore.specs.Inner.Rows.{digits_of, high_digit, numbers_of};
 
 use std::alloc::AllocError;
 

@@ -1,7 +1,8 @@
 //! Pieces of codes.
-ghost use Rattle.std.specs.Prelude.{◌≡◌, ◌<◌, ◌≤◌, ◌++◌, ◌^◌, List, ℕ, IfNone, IfOk, IfSome, OnOk, length};
-ghost use Rattle.l4_explore.specs.Codes.{code_at};
-ghost use Rattle.l4_explore.specs.Rows.{AreLonger, AreMore, HasPart, IsKept, IsRowOf};
+ghost use Rattle.std.specs.Prelude.{◌≡◌, ◌<◌, ◌≤◌, ◌++◌, ◌^◌, List, ℕ, IfNone, IfOk, IfSome, OnOk};
+ghost use Rattle.std.specs.Prelude.{length};
+ghost use Rattle.l4_explore.specs.Inner.Codes.{code_at};
+ghost use Rattle.l4_explore.specs.Inner.Rows.{AreLonger, AreMore, HasPart, IsKept, IsRowOf};
 
 use crate::numbers::{first_number, push_number};
 use crate::table::CodeTable;
@@ -25,7 +26,7 @@ pub(crate) struct Pieces {
 
 impl Model for Pieces {
     ghost use Rattle.std.specs.Prelude.{ℕ, List, length, map};
-    ghost use Rattle.l4_explore.specs.Rows.{whole, AreRows};
+    ghost use Rattle.l4_explore.specs.Inner.Rows.{whole, AreRows};
 
     ghost Value = { List (List ℕ) };
 

@@ -1,8 +1,9 @@
 //! A table of codes in parts, in which a code is looked up.
-ghost use Rattle.std.specs.Prelude.{◌≡◌, ◌+◌, ◌<◌, ◌≤◌, ◌++◌, ◌∷◌, ◌^◌, [], ℕ, IfNone, IfOk, IfSome, OnErr, OnOk, length};
+ghost use Rattle.std.specs.Prelude.{◌≡◌, ◌+◌, ◌<◌, ◌≤◌, ◌++◌, ◌∷◌, ◌^◌, [], ℕ, IfNone, IfOk};
+ghost use Rattle.std.specs.Prelude.{IfSome, OnErr, OnOk, length};
 ghost use Rattle.std.specs.Str.{bytes_eq};
-ghost use Rattle.l4_explore.specs.Codes.{code_at};
-ghost use Rattle.l4_explore.specs.Table.{AreChains};
+ghost use Rattle.l4_explore.specs.Inner.Codes.{code_at};
+ghost use Rattle.l4_explore.specs.Inner.Table.{AreChains};
 
 use crate::rows::Rows;
 use crate::table::{FEWEST, bucket, link};
@@ -22,7 +23,7 @@ pub struct RowTable {
 
 impl Model for RowTable {
     ghost use Rattle.std.specs.Prelude.{ℕ, List};
-    ghost use Rattle.l4_explore.specs.Table.{IsTable};
+    ghost use Rattle.l4_explore.specs.Inner.Table.{IsTable};
 
     ghost Value = { List (List ℕ) };
 

@@ -2,8 +2,8 @@
 //! pieces of other codes too.
 ghost use Rattle.std.specs.Prelude.{◌≡◌, ◌<◌, ◌≤◌, ◌++◌, ◌∷◌, [], IfOk, OnErr, OnOk, length};
 ghost use Rattle.std.specs.Str.{bytes_eq};
-ghost use Rattle.l4_explore.specs.Codes.{code_at};
-ghost use Rattle.l4_explore.specs.Rows.{AreLonger, IsRowOf};
+ghost use Rattle.l4_explore.specs.Inner.Codes.{code_at};
+ghost use Rattle.l4_explore.specs.Inner.Rows.{AreLonger, IsRowOf};
 
 use crate::codes::Codes;
 use crate::numbers::{first_number, push_number};
@@ -28,7 +28,7 @@ pub struct Rows {
 
 impl Model for Rows {
     ghost use Rattle.std.specs.Prelude.{ℕ, List, length, map};
-    ghost use Rattle.l4_explore.specs.Rows.{whole, AreRows};
+    ghost use Rattle.l4_explore.specs.Inner.Rows.{whole, AreRows};
 
     ghost Value = { List (List ℕ) };
 

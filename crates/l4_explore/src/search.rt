@@ -1,8 +1,9 @@
 //! Breadth-first search.
 ghost use Rattle.std.specs.Prelude.{◌≡◌, ◌<◌, ◌≤◌, ◌+◌, min, false, true, IfOk, OnOk, length};
-ghost use Rattle.l4_explore.specs.Search.{depth_of, met, seen_at, AreFound, AreWithin, IsCut, IsExplored, IsSearched, IsStopped, OfferTheSame};
+ghost use Rattle.l4_explore.specs.Search.{depth_of, met, seen_at, AreFound, AreWithin, IsCut};
+ghost use Rattle.l4_explore.specs.Search.{IsExplored, IsSearched, IsStopped, OfferTheSame};
 ghost use Rattle.l4_explore.specs.Tries.{deepest};
-ghost use Rattle.l4_explore.specs.Views.{next_from};
+ghost use Rattle.l4_explore.specs.Inner.Views.{next_from};
 
 use crate::found::Found;
 use crate::progress::Progress;

@@ -1,8 +1,9 @@
 //! A table of codes, in which a code is looked up.
-ghost use Rattle.std.specs.Prelude.{◌≡◌, ◌+◌, ◌<◌, ◌≤◌, ◌++◌, ◌∷◌, ◌^◌, [], ℕ, List, IfNone, IfOk, IfSome, OnErr, OnOk, length};
+ghost use Rattle.std.specs.Prelude.{◌≡◌, ◌+◌, ◌<◌, ◌≤◌, ◌++◌, ◌∷◌, ◌^◌, [], ℕ, List, IfNone, IfOk};
+ghost use Rattle.std.specs.Prelude.{IfSome, OnErr, OnOk, length};
 ghost use Rattle.std.specs.Str.{bytes_eq};
-ghost use Rattle.l4_explore.specs.Codes.{bucket_of, code_at};
-ghost use Rattle.l4_explore.specs.Table.{AreChains};
+ghost use Rattle.l4_explore.specs.Inner.Codes.{bucket_of, code_at};
+ghost use Rattle.l4_explore.specs.Inner.Table.{AreChains};
 
 use crate::codes::Codes;
 use std::alloc::{AllocError, Global};
@@ -24,7 +25,7 @@ pub struct CodeTable {
 
 impl Model for CodeTable {
     ghost use Rattle.std.specs.Prelude.{ℕ, List};
-    ghost use Rattle.l4_explore.specs.Table.{IsTable};
+    ghost use Rattle.l4_explore.specs.Inner.Table.{IsTable};
 
     ghost Value = { List (List ℕ) };
 

@@ -2,7 +2,7 @@
 ghost use Rattle.std.specs.Prelude.{ℕ, ◌≡◌, ◌<◌, List, [], Some, Option, IfOk, length, map, take};
 ghost use Rattle.l4_explore.specs.Search.{seen_at, AreApart, OfferTheSame, Seen};
 ghost use Rattle.l4_explore.specs.Tries.{deepest, AreCoded, LeadOn, Next, State};
-ghost use Rattle.l4_explore.specs.Views.{next_from, state_from};
+ghost use Rattle.l4_explore.specs.Inner.Views.{next_from, state_from};
 
 use crate::found::Found;
 use std::alloc::{AllocError, Global};

@@ -2,7 +2,7 @@
 use Rattle.std.proofs.Common.{subst, ◌≡◌, ℕ, true, false, Option, Some, None, refl, ap, sym, ◌∙◌}
 use Rattle.std.specs.Prelude.{slice_get, slice_index, ◌==◌}
 use Rattle.l4_model.specs.Words.{GlobalId, Id, NilThread, AnyThread, AnyLocalThread, LocalThread, GlobalThread, Period, same_id}
-use Rattle.l4_model.specs.Machine.{Machine, OrderKind, CancelSend, CancelReceive, CancelBoth, Delete, Instr, Set, Copy, Add, Tag, Vs, Ipc, Ask, Jump, OnErr, End}
+use Rattle.l4_model.specs.Machine.{Machine, OrderKind, CancelSend, CancelReceive, CancelBoth, Delete, Instr, Run, Ipc, Ask, End}
 use Rattle.l4_model.specs.World.{World, Context, Receive, PendingOrder, is_ready}
 use Rattle.l4_model.specs.Rules.{act, ipc_act, destination, receive_phase}
 use Rattle.l4_model.specs.Effects.{runs, orders}
@@ -52,15 +52,9 @@ ipc_orders_later m id now later c (LocalThread word) period receive = refl
 ipc_orders_later m id now later c (GlobalThread t) period receive = refl
 
 orders_later : (m : Machine) (id : GlobalId) (now later : ℕ) (c : Context) (i : Instr) → order_of (act m id later c i) ≡ order_of (act m id now c i)
-orders_later m id now later c (Set a word) = refl
-orders_later m id now later c (Copy a b) = refl
-orders_later m id now later c (Add format a word) = refl
-orders_later m id now later c (Tag word) = refl
-orders_later m id now later c (Vs other) = refl
+orders_later m id now later c (Run own) = refl
 orders_later m id now later c (Ipc to from send_period receive_period) = ipc_orders_later m id now later c (destination c to) send_period (receive_phase from receive_period)
 orders_later m id now later c (Ask target what) = refl
-orders_later m id now later c (Jump place) = refl
-orders_later m id now later c (OnErr place) = refl
 orders_later m id now later c End = refl
 
 order_quiet : (m : Machine) (w a : World) (x target : GlobalId) (what : OrderKind) (k : OrderTaken m w a x target what) → HasNothingUndone m w x → IsQuiet m w x k.t (orders k.order) (Order x target what)

@@ -2,21 +2,21 @@
 -- order.
 use Rattle.std.proofs.Common.{subst, ◌≡◌, ℕ, Bool, true, false, cond, Option, Some, None, List, [], ◌∷◌, refl, ap, sym, ◌∙◌, inl, inr, ⊎_elim}
 use Rattle.std.proofs.lemmas.Bool.{both_ways, eqb-true, eqb-false, eq-eqb}
-use Rattle.std.specs.Prelude.{is_some, slice_get, slice_index, ◌==◌, ◌&&◌, ◌||◌, not, find, ◌⊎◌}
+use Rattle.std.specs.Prelude.{is_none, is_some, slice_get, slice_index, ◌==◌, ◌&&◌, ◌||◌, not, find, ◌⊎◌}
 use Rattle.std.specs.Option.{option_map}
 use Rattle.l4_model.specs.Words.{GlobalId, Id, NilThread, AnyThread, AnyLocalThread, LocalThread, GlobalThread, same_id, is_id_of}
 use Rattle.l4_model.specs.Machine.{Machine, place_of}
 use Rattle.l4_model.specs.World.{World, Thread, Phase, Ready, Name, Send, Receive, PendingOrder, change, changed, queued, unqueued, others_owed, must_wait, is_alive, is_deleted, receive_now, is_in, list_at}
-use Rattle.l4_model.specs.Rules.{owed_by}
+use Rattle.l4_model.specs.Rules.{Failure, TimeOver, NobodyThere, CancelAsked, receive_code, send_code, owed_by}
 use Rattle.l4_model.specs.Effects.{runs, begins, waits, fails, decided, refused, receives, delivered, asked, orders, obeyed, turns}
 use Rattle.l4_model.specs.Conditions.{Found, found, found_by, Pending, undecided, receiver_of, instruction, shows_accepted, first_accepted, is_gone, is_nobody, is_no_destination, is_refusable, is_waiting, is_zero}
-use Rattle.l4_model.specs.Steps.{Step, Local, Begin, Queue, Deliver, Wait, SendTimeout, ReceiveTimeout, SendNobody, ReceiveNobody, SendCancel, ReceiveCancel, Drop, Order, Obey, Tick, Retarget, owing, without_send}
+use Rattle.l4_model.specs.Steps.{Step, Queue, Deliver, Order, Tick, owing, without_send, OfThread, OfSend, Runs, Waits, Fails, Obeys, Begun, Queued, Failed, Dropped, Retargeted}
 use Rattle.l4_model.proofs.Chains.{some_is, get-changed_same, get-changed_other}
-use Rattle.l4_model.proofs.Inversions.{local_taken, begin_taken, queue_taken, deliver_taken, wait_taken, send_nobody_taken, send_cancel_taken, drop_taken, receive_nobody_taken, receive_cancel_taken, order_taken, obey_taken, retarget_taken}
+use Rattle.l4_model.proofs.Inversions.{local_taken, begin_taken, queue_taken, deliver_taken, wait_taken, drop_taken, order_taken, obey_taken, retarget_taken}
 use Rattle.l4_model.proofs.Places.{known, known_send, sender_found, one_place, eqb_same}
 use Rattle.l4_first.specs.First.{is_next_of, is_zero_send_to, disturbs, AreExchanged}
-use Rattle.l4_worlds.specs.Late.{next_late, may_time_out}
-use Rattle.l4_worlds.proofs.Taken.{late_send_timeout, late_receive_timeout}
+use Rattle.l4_worlds.specs.Late.{may_refuse_late, may_fail_late, next_late, may_time_out}
+use Rattle.l4_worlds.proofs.Taken.{late_refused, late_failed}
 use Rattle.l4_first.proofs.Alone.{known_found, same_found, changes_swap, change_leaves, elsewhere}
 
 -- A thread that is ready, with nothing undone, in no list, and whose next step changes it alone.
@@ -150,6 +150,17 @@ module _ (m : Machine) (w : World) (id : GlobalId) (t : Found) (f : Thread → T
       no_receive : (p : Phase) (receive : Receive) → p ≡ Ready → receive_now p ≡ Some receive → ⊥
       no_receive p receive e f = let none : receive_now p ≡ None = ap receive_now e in cc
 
+  -- What may fail may fail as before.
+
+  may_fail_same : (u : Found) (receive : Receive) (why : Failure) →
+      may_fail_late m (change w t.at f) u receive why ≡ may_fail_late m w u receive why
+  may_fail_same u receive TimeOver = ap (λ o. is_some receive.period && is_none o) (first_same u receive.from)
+  may_fail_same u receive NobodyThere =
+      let from = receive.from in
+      ap (λ b. b && is_none (first_accepted m (change w t.at f) u from)) (nobody_same from)
+      ∙ ap (λ o. is_nobody from (found_by m w from) && is_none o) (first_same u from)
+  may_fail_same u receive CancelAsked = refl
+
   -- Steps that change one other thread, or two
 
   meets : (b : World) (s : Step) → slice_get b.threads t.at ≡ Some t.now → slice_index b.clocks t.declared.cpu ≡ t.clock →
@@ -205,6 +216,15 @@ module _ (m : Machine) (w : World) (id : GlobalId) (t : Found) (f : Thread → T
       by true h = ap (is_refusable m p.send) (seen_other p.send.to h)
       by false h = refl
 
+  may_refuse_same : (s : Name) (p : Pending) (why : Failure) → undecided m w s ≡ Some p →
+      disturbs m w id (OfSend (Failed why) s) ≡ false →
+      may_refuse_late m (change w t.at f) s p why ≡ may_refuse_late m w s p why
+  may_refuse_same s p TimeOver is calm =
+      ap (λ b. b && not (must_wait w.owed s.thread p.send.to)) (may_same p (ap (is_zero_send_to id) (sym is) ∙ calm))
+  may_refuse_same s p NobodyThere is calm =
+      ap (λ b. b && not (must_wait w.owed s.thread p.send.to)) (no_destination_same p.send.to)
+  may_refuse_same s p CancelAsked is calm = refl
+
   caller_other : (x : GlobalId) (u : Found) (order : PendingOrder) → found m w x ≡ Some u → u.now.order ≡ Some order → t.at ≡ u.at → ⊥
   caller_other x u order is has same =
       let one : u ≡ t = (at_self x u is same).1 in
@@ -216,20 +236,20 @@ module _ (m : Machine) (w : World) (id : GlobalId) (t : Found) (f : Thread → T
   -- All of them
 
   pub exchanged : (b : World) (s : Step) → next_late m w s ≡ Some b → is_next_of id s ≡ false → disturbs m w id s ≡ false → AreExchanged m (change w t.at f) b own s
-  exchanged b (Local x) h other calm =
+  exchanged b (OfThread Runs x) h other calm =
       let k = local_taken m w b x h in
       let differs = apart x k.t k.found other in
-      subst (λ b. AreExchanged m (change w t.at f) b own (Local x)) k.leads_to
-      (one_meets w (Local x) k.t.at (runs (instruction k.t)) there clock differs (rw (found_same x k.t k.found differs, k.ready, k.alone) refl))
-  exchanged b (Begin s) h other calm =
+      subst (λ b. AreExchanged m (change w t.at f) b own (OfThread Runs x)) k.leads_to
+      (one_meets w (OfThread Runs x) k.t.at (runs (instruction k.t)) there clock differs (rw (found_same x k.t k.found differs, k.ready, k.alone) refl))
+  exchanged b (OfSend Begun s) h other calm =
       let k = begin_taken m w b s h in
       let differs = apart s.thread k.t k.found other in
-      subst (λ b. AreExchanged m (change w t.at f) b own (Begin s)) k.leads_to
-      (one_meets w (Begin s) k.t.at (begins k.send) there clock differs (rw (found_same s.thread k.t k.found differs, k.ready, k.next_k, k.sends) refl))
-  exchanged b (Queue s) h other calm =
+      subst (λ b. AreExchanged m (change w t.at f) b own (OfSend Begun s)) k.leads_to
+      (one_meets w (OfSend Begun s) k.t.at (begins k.send) there clock differs (rw (found_same s.thread k.t k.found differs, k.ready, k.next_k, k.sends) refl))
+  exchanged b (OfSend Queued s) h other calm =
       let k = queue_taken m w b s h in
-      subst (λ b. AreExchanged m (change w t.at f) b own (Queue s)) k.leads_to
-      (meets (queued w k.r.at k.p.sender.at) (Queue s) there clock (queued_same k.p k.r k.to k.alive s k.is_undecided k.in_no_list k.free))
+      subst (λ b. AreExchanged m (change w t.at f) b own (OfSend Queued s)) k.leads_to
+      (meets (queued w k.r.at k.p.sender.at) (OfSend Queued s) there clock (queued_same k.p k.r k.to k.alive s k.is_undecided k.in_no_list k.free))
   exchanged b (Deliver s receiver shown actual tag words) h other calm =
       let k = deliver_taken m w b s receiver shown actual tag words h in
       let to = to_other k.p.send.to k.r k.receive k.to k.receiving in
@@ -237,61 +257,46 @@ module _ (m : Machine) (w : World) (id : GlobalId) (t : Found) (f : Thread → T
       subst (λ b. AreExchanged m (change w t.at f) b own (Deliver s receiver shown actual tag words)) k.leads_to
       (two_meet u (Deliver s receiver shown actual tag words) k.r.at k.p.sender.at (receives k.p.send.message tag) (delivered k.p.send k.p.sender.clock) there clock to.0 (sender_other s k.p k.is_undecided)
       (rw (undecided_same s k.p k.is_undecided, to.1, k.receiving, first_same k.r k.receive.from, k.first_is, k.is_first, k.same_receiver, k.same_shown, k.same_actual, k.same_tag, k.same_words) refl))
-  exchanged b (Wait x) h other calm =
+  exchanged b (OfThread Waits x) h other calm =
       let k = wait_taken m w b x h in
       let differs = apart x k.t k.found other in
-      subst (λ b. AreExchanged m (change w t.at f) b own (Wait x)) k.leads_to
-      (one_meets w (Wait x) k.t.at (waits k.receive k.t.clock) there clock differs (rw (found_same x k.t k.found differs, k.ready, k.receiving) refl))
-  exchanged b (SendTimeout s) h other calm =
-      let k = late_send_timeout m w b s h in
-      let not_zero : is_zero_send_to id (Some k.p) ≡ false = ap (is_zero_send_to id) (sym k.is_undecided) ∙ calm in
-      subst (λ b. AreExchanged m (change w t.at f) b own (SendTimeout s)) k.leads_to
-      (send_meets s k.p (SendTimeout s) (refused 2) k.is_undecided (rw (undecided_same s k.p k.is_undecided, may_same k.p not_zero, k.may, k.free) refl))
-  exchanged b (ReceiveTimeout x) h other calm =
-      let k = late_receive_timeout m w b x h in
+      subst (λ b. AreExchanged m (change w t.at f) b own (OfThread Waits x)) k.leads_to
+      (one_meets w (OfThread Waits x) k.t.at (waits k.receive k.t.clock) there clock differs (rw (found_same x k.t k.found differs, k.ready, k.receiving) refl))
+  exchanged b (OfSend (Failed why) s) h other calm =
+      let k = late_refused m w b s why h in
+      let step : Step = OfSend (Failed why) s in
+      subst (λ b. AreExchanged m (change w t.at f) b own step) k.leads_to
+      (send_meets s k.p step (refused (send_code why)) k.is_undecided
+      (rw (undecided_same s k.p k.is_undecided, may_refuse_same s k.p why k.is_undecided calm, k.may) refl))
+  exchanged b (OfThread (Fails why) x) h other calm =
+      let k = late_failed m w b x why h in
+      let step : Step = OfThread (Fails why) x in
       let differs = receiver_other x k.t k.receive k.found k.receiving in
-      subst (λ b. AreExchanged m (change w t.at f) b own (ReceiveTimeout x)) k.leads_to
-      (one_meets w (ReceiveTimeout x) k.t.at (fails 3) there clock differs (rw (found_same x k.t k.found differs, k.receiving, k.finite, first_same k.t k.receive.from, k.none_accepted) refl))
-  exchanged b (SendNobody s) h other calm =
-      let k = send_nobody_taken m w b s h in
-      subst (λ b. AreExchanged m (change w t.at f) b own (SendNobody s)) k.leads_to
-      (send_meets s k.p (SendNobody s) (refused 4) k.is_undecided (rw (undecided_same s k.p k.is_undecided, no_destination_same k.p.send.to, k.nobody, k.free) refl))
-  exchanged b (ReceiveNobody x) h other calm =
-      let k = receive_nobody_taken m w b x h in
-      let differs = receiver_other x k.t k.receive k.found k.receiving in
-      subst (λ b. AreExchanged m (change w t.at f) b own (ReceiveNobody x)) k.leads_to
-      (one_meets w (ReceiveNobody x) k.t.at (fails 5) there clock differs (rw (found_same x k.t k.found differs, k.receiving, nobody_same k.receive.from, k.nobody, first_same k.t k.receive.from, k.none_accepted) refl))
-  exchanged b (SendCancel s) h other calm =
-      let k = send_cancel_taken m w b s h in
-      subst (λ b. AreExchanged m (change w t.at f) b own (SendCancel s)) k.leads_to
-      (send_meets s k.p (SendCancel s) (refused 6) k.is_undecided (rw (undecided_same s k.p k.is_undecided, k.in_list, k.wish) refl))
-  exchanged b (ReceiveCancel x) h other calm =
-      let k = receive_cancel_taken m w b x h in
-      let differs = receiver_other x k.t k.receive k.found k.receiving in
-      subst (λ b. AreExchanged m (change w t.at f) b own (ReceiveCancel x)) k.leads_to
-      (one_meets w (ReceiveCancel x) k.t.at (fails 7) there clock differs (rw (found_same x k.t k.found differs, k.receiving, k.wish) refl))
-  exchanged b (Drop s) h other calm =
+      subst (λ b. AreExchanged m (change w t.at f) b own step) k.leads_to
+      (one_meets w step k.t.at (fails (receive_code why)) there clock differs
+      (rw (found_same x k.t k.found differs, k.receiving, may_fail_same k.t k.receive why, k.may) refl))
+  exchanged b (OfSend Dropped s) h other calm =
       let k = drop_taken m w b s h in
-      subst (λ b. AreExchanged m (change w t.at f) b own (Drop s)) k.leads_to
-      (send_meets s k.p (Drop s) decided k.is_undecided (rw (undecided_same s k.p k.is_undecided, k.in_list, k.gone) refl))
+      subst (λ b. AreExchanged m (change w t.at f) b own (OfSend Dropped s)) k.leads_to
+      (send_meets s k.p (OfSend Dropped s) decided k.is_undecided (rw (undecided_same s k.p k.is_undecided, k.in_list, k.gone) refl))
   exchanged b (Order caller target what) h other calm =
       let k = order_taken m w b caller target what h in
       let differs = apart caller k.t k.found other in
       subst (λ b. AreExchanged m (change w t.at f) b own (Order caller target what)) k.leads_to
       (one_meets w (Order caller target what) k.t.at (orders k.order) there clock differs (rw (found_same caller k.t k.found differs, k.ready, k.ordered, k.same_order) refl))
-  exchanged b (Obey caller) h other calm =
+  exchanged b (OfThread Obeys caller) h other calm =
       let k = obey_taken m w b caller h in
       let differs = caller_other caller k.t k.order k.found k.ordered in
       let not_it : same_id k.order.target id ≡ false = rw (k.found, k.ordered) at calm in
       let elsewhere_asked : t.at ≡ k.target → ⊥ =
       λ same. both_ways (same_id k.order.target id) not_it (same_is k.order.target id (one_place m k.order.target id t.at (k.target_is ∙ ap (λ i. Some i) (sym same)) (known m w id t is_own.found).place)) in
-      subst (λ b. AreExchanged m (change w t.at f) b own (Obey caller)) k.leads_to
-      (two_meet w (Obey caller) k.target k.t.at (asked k.order.what) obeyed there clock elsewhere_asked differs (rw (found_same caller k.t k.found differs, k.ordered, k.target_is) refl))
+      subst (λ b. AreExchanged m (change w t.at f) b own (OfThread Obeys caller)) k.leads_to
+      (two_meet w (OfThread Obeys caller) k.target k.t.at (asked k.order.what) obeyed there clock elsewhere_asked differs (rw (found_same caller k.t k.found differs, k.ordered, k.target_is) refl))
   exchanged b (Tick cpu now) h other calm = cc
-  exchanged b (Retarget s) h other calm =
+  exchanged b (OfSend Retargeted s) h other calm =
       let k = retarget_taken m w b s h in
       let u : World = record w { owed = others_owed w.owed s } in
       let not_it : same_id k.o.originator id ≡ false = rw k.is_owed at calm in
       let differs = apart k.o.originator k.t k.found not_it in
-      subst (λ b. AreExchanged m (change w t.at f) b own (Retarget s)) k.leads_to
-      (one_meets u (Retarget s) k.t.at (turns k.o) there clock differs (rw (k.is_owed, found_same k.o.originator k.t k.found differs) refl))
+      subst (λ b. AreExchanged m (change w t.at f) b own (OfSend Retargeted s)) k.leads_to
+      (one_meets u (OfSend Retargeted s) k.t.at (turns k.o) there clock differs (rw (k.is_owed, found_same k.o.originator k.t k.found differs) refl))

@@ -2,8 +2,9 @@
 use Rattle.std.specs.Prelude.{ℕ, ◌==◌, ◌/◌, ◌%◌, ◌^◌, ◌≡◌, ◌⊎◌, ◌&&◌, not, Bool, true, false, Option, Some, None, List, [], ◌∷◌, ◌++◌, length, find, slice_get, is_some}
 use Rattle.std.specs.List.{list_any}
 use Rattle.l4_model.specs.Words.{GlobalId, is_id_of, same_id}
-use Rattle.l4_model.specs.Machine.{OrderKind, Delete, To, ToId, ToLast, Instr, Set, Copy, Add, Tag, Ask, Ipc, Machine}
+use Rattle.l4_model.specs.Machine.{OrderKind, Delete, To, ToId, ToLast, Instr, Tag, Ask, Ipc, Machine}
 use Rattle.l4_model.specs.World.{PendingOrder, World, Owed, owed_of, is_in, list_at}
+use Rattle.l4_model.specs.Rules.{assigned_by}
 use Rattle.l4_model.specs.Conditions.{◌>>=◌, Found, found, Pending, undecided, is_zero}
 use Rattle.l4_model.specs.Steps.{Step, Local, Begin, Wait, Order, Obey, SendTimeout, Retarget}
 use Rattle.l4_worlds.specs.Late.{next_late, run_late}
@@ -55,12 +56,16 @@ is_tried m id = is_among_others m id (instruction_tries id)
 abbrev pub asks_to_propagate : ℕ → Bool
 asks_to_propagate mr0 = (mr0 / 2 ^ 12) % 2 == 1
 
+abbrev pub tag_asks : Instr → Bool
+tag_asks (Tag word) = asks_to_propagate word
+tag_asks _ = false
+
 abbrev pub may_ask : Instr → Bool
-may_ask (Tag word) = asks_to_propagate word
-may_ask (Set a word) = a == 0
-may_ask (Copy a b) = a == 0
-may_ask (Add format a word) = a == 0
-may_ask _ = false
+may_ask i = by (assigned_by i)
+  where
+    by : Option ℕ → Bool
+    by (Some a) = a == 0
+    by None = tag_asks i
 
 abbrev pub may_turn : Machine → Bool
 may_turn m = m.retargeting && list_any (λ d. list_any may_ask d.script) m.threads

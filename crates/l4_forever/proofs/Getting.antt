@@ -17,7 +17,7 @@ use Rattle.l4_explore.specs.Search.{Seen, seen_at}
 use Rattle.l4_futures.proofs.Ways.{by_steps, run_late-append}
 use Rattle.l4_forever.specs.Waits.{wait_at, is_waiting}
 use Rattle.l4_forever.specs.Forever.{WaitsForEver, IsStuckForEver}
-use Rattle.l4_forever.specs.Graph.{AreReached, AllGo, IsGraph, IsGoneOn, IsWorldAt, OneGoes}
+use Rattle.l4_forever.specs.Inner.Graph.{AreReached, AllGo, IsGraph, IsGoneOn, IsWorldAt, OneGoes}
 use Rattle.l4_forever.specs.Moves.{moves_at, AreJustified, IsNeverStuck, MayMove}
 use Rattle.l4_forever.specs.declared.edges.Edge.{Edge}
 use Rattle.l4_forever.proofs.Waiting.{wait_good}

@@ -18,14 +18,14 @@ use Rattle.l4_first.specs.First.{stands_alone}
 use Rattle.l4_explore.specs.Tries.{State, Next}
 use Rattle.l4_explore.specs.Search.{Seen, seen_at, unseen, has_code, IsFound, AreMet, IsGoneOn as IsSearchedOn}
 use Rattle.l4_futures.specs.Choices.{Choice, choice_at, step_at, entry_count, possible, tried, after_entry, world_after}
-use Rattle.l4_futures.specs.Search.{state_in, next_by, nexts}
+use Rattle.l4_futures.specs.Inner.Search.{state_in, next_by, nexts}
 use Rattle.l4_futures.proofs.Entries.{named}
 use Rattle.l4_futures.proofs.Ways.{by_steps, in_filter, is_choice}
 use Rattle.l4_forever.specs.Waits.{wait_in, wait_of, wait_at, waits_in, is_waiting}
-use Rattle.l4_forever.specs.Walks.{all_nexts, is_fresh, are_fresh, AreWalked}
-use Rattle.l4_forever.specs.Graph.{AreReached, AllGo, GoesTo, HasEdge, IsGoneOn, IsWorldAt, OneGoes, StandsAt}
+use Rattle.l4_forever.specs.Inner.Walks.{all_nexts, is_fresh, are_fresh, AreWalked}
+use Rattle.l4_forever.specs.Inner.Graph.{AreReached, AllGo, GoesTo, HasEdge, IsGoneOn, IsWorldAt, OneGoes, StandsAt}
 use Rattle.l4_forever.specs.Moves.{moves_at, AreJustified, HoldsAt, MayMove, Moves, StandsStill}
-use Rattle.l4_forever.specs.Rows.{row_at, wait_by, AreOf, AreSpread, AreStarted, HasAll, IsEdge, IsLedOn}
+use Rattle.l4_forever.specs.Inner.Rows.{row_at, wait_by, AreOf, AreSpread, AreStarted, HasAll, IsEdge, IsLedOn}
 use Rattle.l4_forever.specs.declared.edges.Edge.{Edge}
 use Rattle.l4_forever.specs.declared.waits.Wait.{Wait}
 use Rattle.l4_forever.specs.declared.waits.Wait.TheVariants.{Send, Receive, Neither}

@@ -12,7 +12,7 @@ use Rattle.l4_explore.specs.Search.{Seen, seen_at}
 use Rattle.l4_futures.proofs.Ways.{by_steps}
 use Rattle.l4_forever.specs.Waits.{wait_at, is_waiting}
 use Rattle.l4_forever.specs.Forever.{WaitsForEver}
-use Rattle.l4_forever.specs.Graph.{AreReached, AllGo, HasEdge, IsWorldAt, OneGoes}
+use Rattle.l4_forever.specs.Inner.Graph.{AreReached, AllGo, HasEdge, IsWorldAt, OneGoes}
 use Rattle.l4_forever.specs.Moves.{moves_at, HoldsAt, StandsStill}
 use Rattle.l4_forever.specs.declared.edges.Edge.{Edge}
 use Rattle.l4_forever.proofs.Waiting.{wait_good, own_keeps}

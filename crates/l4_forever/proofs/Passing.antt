@@ -12,13 +12,13 @@ use Rattle.l4_worlds.specs.Bare.{AreAsGood}
 use Rattle.l4_worlds.proofs.LateFutures.{late_futures}
 use Rattle.l4_explore.specs.Tries.{State}
 use Rattle.l4_explore.specs.Search.{Seen, seen_at}
-use Rattle.l4_futures.specs.Codes.{code_of}
+use Rattle.l4_futures.specs.Inner.Codes.{code_of}
 use Rattle.l4_futures.specs.Choices.{world_after}
-use Rattle.l4_futures.specs.Search.{state_in, state_after}
+use Rattle.l4_futures.specs.Inner.Search.{state_in, state_after}
 use Rattle.l4_futures.proofs.Entries.{named}
 use Rattle.l4_futures.proofs.Ways.{by_steps}
 use Rattle.l4_futures.proofs.Kept.{as_good, one_more, same_code, state_led}
-use Rattle.l4_forever.specs.Graph.{AreReached, IsWorldAt, StandsAt}
+use Rattle.l4_forever.specs.Inner.Graph.{AreReached, IsWorldAt, StandsAt}
 
 -- A world to which entries lead, and the found world of its state
 pub record Arrives (m : Machine) (found : List Seen) (to : ℕ) (u : World) : Type 0 where

@@ -1,6 +1,4 @@
-pub mod Waits
 pub mod Forever
-pub mod Walks
-pub mod Graph
+pub mod Inner
 pub mod Moves
-pub mod Rows
+pub mod Waits

@@ -7,7 +7,7 @@ use Rattle.l4_worlds.specs.Late.{run_late}
 use Rattle.l4_explore.specs.Search.{Seen}
 use Rattle.l4_forever.specs.Waits.{wait_at, is_waiting}
 use Rattle.l4_forever.specs.Forever.{IsStuckForEver}
-use Rattle.l4_forever.specs.Graph.{HasEdge, IsGoneOn, IsWorldAt}
+use Rattle.l4_forever.specs.Inner.Graph.{HasEdge, IsGoneOn, IsWorldAt}
 use Rattle.l4_forever.specs.declared.edges.Edge.{Edge}
 
 -- Whether a place is marked. Past the end all are.

@@ -27,10 +27,10 @@ ghost use Rattle.l4_model.specs.Steps.{Step};
 ghost use Rattle.l4_model.specs.History.{run};
 ghost use Rattle.l4_worlds.specs.Histories.{IsTimed};
 ghost use Rattle.l4_explore.specs.Search.{Seen};
-ghost use Rattle.l4_futures.specs.Search.{state_after};
+ghost use Rattle.l4_futures.specs.Inner.Search.{state_after};
 ghost use Rattle.l4_forever.specs.Waits.{wait_at};
 ghost use Rattle.l4_forever.specs.Forever.{IsStuckForEver, WaitsForEver};
-ghost use Rattle.l4_forever.specs.Graph.{AreReached, IsGraph, IsWorldAt};
+ghost use Rattle.l4_forever.specs.Inner.Graph.{AreReached, IsGraph, IsWorldAt};
 ghost use Rattle.l4_forever.specs.Moves.{AreJustified, IsNeverStuck, StandsStill, moves_at};
 ghost use Rattle.l4_forever.specs.declared.edges.Edge.{Edge as FoundEdge};
 

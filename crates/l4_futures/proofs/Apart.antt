@@ -6,9 +6,9 @@ use Rattle.l4_model.specs.Words.{GlobalId, Id, NilThread, AnyThread, AnyLocalThr
 use Rattle.l4_model.specs.Machine.{OrderKind, CancelSend, CancelReceive, CancelBoth, Delete}
 use Rattle.l4_model.specs.World.{Name, Context, Receive, Message, Send, PendingOrder, Owed, Phase, Ready, Sending, Receiving, Ordering, Ended, Deleted, Thread}
 use Rattle.l4_model.specs.Steps.{order_kind_code}
-use Rattle.l4_similar.specs.Similar.{numberless_name, numberless_owed}
-use Rattle.l4_shifted.specs.Shifted.{relative_thread, timeless_phase, timeless_send}
-use Rattle.l4_states.specs.Codes.{number_code, flag_code, optional, each, listed, chained, length_code, sized, global_code, id_code, receive_code, message_code, send_code, asked_code, phase_code, context_code, thread_code, name_code, owed_code}
+use Rattle.l4_bisimilar.specs.Similar.{numberless_name, numberless_owed}
+use Rattle.l4_bisimilar.specs.Shifted.{relative_thread, timeless_phase, timeless_send}
+use Rattle.l4_states.specs.Inner.Codes.{number_code, flag_code, optional, each, listed, chained, length_code, sized, global_code, id_code, receive_code, message_code, send_code, asked_code, phase_code, context_code, thread_code, name_code, owed_code}
 
 pub first_is : (a b : ℕ) (x y : List ℕ) → a ∷ x ≡ b ∷ y → a ≡ b
 first_is a b x y h = cc

@@ -4,7 +4,7 @@ use Rattle.l4_model.specs.Machine.{Machine}
 use Rattle.l4_model.specs.World.{World}
 use Rattle.l4_model.specs.Steps.{Step}
 use Rattle.l4_futures.specs.Endings.{IsListed, AreAllEndings, length_of}
-use Rattle.l4_futures.specs.Asked.{TellsNoneApart, IsNoneListed, IsNoneReached}
+use Rattle.l4_futures.specs.Inner.Asked.{TellsNoneApart, IsNoneListed, IsNoneReached}
 use Rattle.l4_futures.specs.Stuck.{is_stuck_world}
 use Rattle.l4_futures.proofs.Stuck.{stuck_same}
 

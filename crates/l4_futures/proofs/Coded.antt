@@ -5,13 +5,13 @@ use Rattle.std.specs.Prelude.{◌↔◌}
 use Rattle.std.specs.Option.{option_map}
 use Rattle.l4_model.specs.Machine.{Machine}
 use Rattle.l4_model.specs.World.{World, Thread, Send, Owed, Phase, Ready, Sending, Receiving, Ordering, Ended, Deleted, is_deleted}
-use Rattle.l4_similar.specs.Similar.{numberless_owed}
-use Rattle.l4_shifted.specs.Shifted.{relative_thread, timeless_phase, timeless_send}
-use Rattle.l4_states.specs.Codes.{number_code, flag_code, optional, each, chained, sized, length_code, asked_code, context_code, phase_code, send_code, thread_code, owed_code}
+use Rattle.l4_bisimilar.specs.Similar.{numberless_owed}
+use Rattle.l4_bisimilar.specs.Shifted.{relative_thread, timeless_phase, timeless_send}
+use Rattle.l4_states.specs.Inner.Codes.{number_code, flag_code, optional, each, chained, sized, length_code, asked_code, context_code, phase_code, send_code, thread_code, owed_code}
 use Rattle.l4_worlds.specs.Timeless.{timeless_thread, timeless}
 use Rattle.l4_worlds.specs.Numberless.{numberless_thread, numberless_owed as numberless}
 use Rattle.l4_worlds.specs.Bare.{bare_thread, deleted_ones, bare_lists, bare, AreAsGood}
-use Rattle.l4_futures.specs.Codes.{code_of}
+use Rattle.l4_futures.specs.Inner.Codes.{code_of}
 use Rattle.l4_futures.proofs.Apart.{number_apart, chained_apart, sized_apart, chained_image, sized_image, thread_apart, owed_apart}
 
 -- What is left out of a bare world, and of one without time and numbers that is made bare

@@ -12,21 +12,21 @@ use Rattle.l4_worlds.specs.Timeless.{timeless}
 use Rattle.l4_worlds.specs.Late.{no_ticks}
 use Rattle.l4_worlds.specs.Numberless.{numberless}
 use Rattle.l4_worlds.specs.Bare.{bare, AreAsGood}
-use Rattle.l4_worlds.specs.Room.{HaveProcessors}
+use Rattle.l4_worlds.specs.Inner.Room.{HaveProcessors}
 use Rattle.l4_worlds.specs.Histories.{IsTimed, IsStillLate}
 use Rattle.l4_worlds.proofs.Reaching.{reached_late, still_from, still_untimed}
 use Rattle.l4_worlds.proofs.LateFutures.{late_still}
 use Rattle.l4_worlds.proofs.LateWorlds.{late_decided}
 use Rattle.l4_explore.specs.Tries.{State}
 use Rattle.l4_explore.specs.Search.{Seen, seen_at, IsExplored}
-use Rattle.l4_explore.specs.Ends.{AreAllEnds, IsFoundIn}
+use Rattle.l4_explore.specs.Inner.Ends.{AreAllEnds, IsFoundIn}
 use Rattle.l4_explore.proofs.Orders.{before_length}
 use Rattle.l4_explore.proofs.Nearing.{all_ends}
-use Rattle.l4_states.specs.Bytes.{bytes_of}
-use Rattle.l4_futures.specs.Codes.{code_of}
+use Rattle.l4_states.specs.Inner.Bytes.{bytes_of}
+use Rattle.l4_futures.specs.Inner.Codes.{code_of}
 use Rattle.l4_futures.specs.Choices.{world_after}
 use Rattle.l4_futures.specs.Traces.{trace_along}
-use Rattle.l4_futures.specs.Search.{state_in, state_after, AreTried, MayEnd, end_traces_of}
+use Rattle.l4_futures.specs.Inner.Search.{state_in, state_after, AreTried, MayEnd, end_traces_of}
 use Rattle.l4_futures.specs.Endings.{length_of, IsEnding, IsListed, AreAllEndings}
 use Rattle.l4_futures.proofs.Coded.{coded}
 use Rattle.l4_futures.proofs.Ways.{clocks_same, at_end}

@@ -8,13 +8,13 @@ use Rattle.std.specs.Prelude.{slice_get, nat_lt, ◌==◌}
 use Rattle.l4_model.specs.Words.{GlobalId, same_id}
 use Rattle.l4_model.specs.Machine.{Machine, OrderKind, CancelSend, CancelReceive, CancelBoth, Delete}
 use Rattle.l4_model.specs.World.{World, Name, Owed, same_name, owed_of}
-use Rattle.l4_model.specs.Rules.{received_tag, is_cross}
+use Rattle.l4_model.specs.Rules.{Failure, TimeOver, NobodyThere, CancelAsked, received_tag, is_cross}
 use Rattle.l4_model.specs.Conditions.{◌>>=◌, Found, found, found_at, Pending, undecided, act_of}
-use Rattle.l4_model.specs.Steps.{Step, Local, Begin, Queue, Deliver, Wait, SendTimeout, ReceiveTimeout, SendNobody, ReceiveNobody, SendCancel, ReceiveCancel, Drop, Order, Obey, Tick, Retarget, order_kind_code, order_of}
-use Rattle.l4_model.proofs.Inversions.{local_taken, begin_taken, queue_taken, DeliverTaken, deliver_taken, wait_taken, send_nobody_taken, send_cancel_taken, drop_taken, receive_nobody_taken, receive_cancel_taken, OrderTaken, order_taken, obey_taken, retarget_taken}
+use Rattle.l4_model.specs.Steps.{SendStep, ThreadStep, Step, Deliver, Order, Tick, Retarget, order_kind_code, order_of, OfThread, OfSend, Runs, Waits, Fails, Obeys, Begun, Queued, Failed, Dropped, Retargeted}
+use Rattle.l4_model.proofs.Inversions.{begin_taken, queue_taken, DeliverTaken, deliver_taken, drop_taken, OrderTaken, order_taken, retarget_taken}
 use Rattle.l4_model.proofs.Places.{and_true, same_id_is, same_name_is, known, known_send, sender_found, id_of, place_id}
 use Rattle.l4_worlds.specs.Late.{next_late}
-use Rattle.l4_worlds.proofs.Taken.{late_send_timeout, late_receive_timeout}
+use Rattle.l4_worlds.proofs.Taken.{late_refused, late_found}
 use Rattle.l4_futures.specs.Choices.{coming_name, last_name, delivery, order_step, step_of, retarget_of, step_at, entry_count}
 
 -- An entry that names a step
@@ -139,29 +139,63 @@ owed_entry m w j o at =
 
 -- All of them
 
+thread_named : (m : Machine) (w : World) (id : GlobalId) (kind : ThreadStep) (n : ℕ) (t : Found) →
+    found m w id ≡ Some t → n < 14 → step_of m w (Some t) n ≡ Some (OfThread kind t.declared.id) →
+    Named m w (OfThread kind id)
+thread_named m w id kind n t is few at =
+    found_entry m w id n t (OfThread kind id) is few (at ∙ ap (λ x. Some (OfThread kind x)) (thread_is m w id t is))
+
+-- Each step of a thread
+of_thread : (m : Machine) (w : World) (id : GlobalId) (kind : ThreadStep) (t : Found) → found m w id ≡ Some t →
+    Named m w (OfThread kind id)
+of_thread m w id Runs t is = thread_named m w id Runs 0 t is (omega arith) refl
+of_thread m w id Waits t is = thread_named m w id Waits 4 t is (omega arith) refl
+of_thread m w id (Fails TimeOver) t is = thread_named m w id (Fails TimeOver) 6 t is (omega arith) refl
+of_thread m w id (Fails NobodyThere) t is = thread_named m w id (Fails NobodyThere) 8 t is (omega arith) refl
+of_thread m w id (Fails CancelAsked) t is = thread_named m w id (Fails CancelAsked) 10 t is (omega arith) refl
+of_thread m w id Obeys t is = thread_named m w id Obeys 13 t is (omega arith) refl
+
+last_named : (m : Machine) (w : World) (s : Name) (kind : SendStep) (n : ℕ) (p : Pending) →
+    undecided m w s ≡ Some p → n < 14 → step_of m w (Some p.sender) n ≡ Some (OfSend kind (last_name p.sender)) →
+    Named m w (OfSend kind s)
+last_named m w s kind n p is few at =
+    found_entry m w s.thread n p.sender (OfSend kind s) (sender_found m w s p is) few
+    (at ∙ ap (λ x. Some (OfSend kind x)) (last_is m w s p is))
+
+refusal_named : (m : Machine) (w : World) (s : Name) (why : Failure) (p : Pending) → undecided m w s ≡ Some p →
+    Named m w (OfSend (Failed why) s)
+refusal_named m w s TimeOver p is = last_named m w s (Failed TimeOver) 5 p is (omega arith) refl
+refusal_named m w s NobodyThere p is = last_named m w s (Failed NobodyThere) 7 p is (omega arith) refl
+refusal_named m w s CancelAsked p is = last_named m w s (Failed CancelAsked) 9 p is (omega arith) refl
+
 pub named : (m : Machine) (w v : World) (step : Step) → next_late m w step ≡ Some v → Named m w step
-named m w v (Local id) h = let k = local_taken m w v id h in found_entry m w id 0 k.t (Local id) k.found (omega arith) (ap (λ x. Some (Local x)) (thread_is m w id k.t k.found))
-named m w v (Begin s) h =
+named m w v (OfThread kind id) h = let k = late_found m w v kind id h in of_thread m w id kind k.0 k.1
+named m w v (OfSend Begun s) h =
     let k = begin_taken m w v s h in
     let next_k : s.k ≡ k.t.now.context.begun + 1 = eqb-true s.k (k.t.now.context.begun + 1) k.next_k in
-    let name : coming_name k.t ≡ s = ap (λ x. record { thread = x; k = k.t.now.context.begun + 1 }) (thread_is m w s.thread k.t k.found) ∙ ap (λ n. record { thread = s.thread; k = n }) (sym next_k) in
-    found_entry m w s.thread 1 k.t (Begin s) k.found (omega arith) (ap (λ x. Some (Begin x)) name)
-named m w v (Queue s) h = let k = queue_taken m w v s h in found_entry m w s.thread 2 k.p.sender (Queue s) (sender_found m w s k.p k.is_undecided) (omega arith) (ap (λ x. Some (Queue x)) (last_is m w s k.p k.is_undecided))
-named m w v (Deliver s receiver shown actual tag words) h =
-    let k = deliver_taken m w v s receiver shown actual tag words h in
-    found_entry m w s.thread 3 k.p.sender (Deliver s receiver shown actual tag words) (sender_found m w s k.p k.is_undecided) (omega arith) (delivery_named m w v s receiver shown actual tag words k)
-named m w v (Wait id) h = let k = wait_taken m w v id h in found_entry m w id 4 k.t (Wait id) k.found (omega arith) (ap (λ x. Some (Wait x)) (thread_is m w id k.t k.found))
-named m w v (SendTimeout s) h = let k = late_send_timeout m w v s h in found_entry m w s.thread 5 k.p.sender (SendTimeout s) (sender_found m w s k.p k.is_undecided) (omega arith) (ap (λ x. Some (SendTimeout x)) (last_is m w s k.p k.is_undecided))
-named m w v (ReceiveTimeout id) h = let k = late_receive_timeout m w v id h in found_entry m w id 6 k.t (ReceiveTimeout id) k.found (omega arith) (ap (λ x. Some (ReceiveTimeout x)) (thread_is m w id k.t k.found))
-named m w v (SendNobody s) h = let k = send_nobody_taken m w v s h in found_entry m w s.thread 7 k.p.sender (SendNobody s) (sender_found m w s k.p k.is_undecided) (omega arith) (ap (λ x. Some (SendNobody x)) (last_is m w s k.p k.is_undecided))
-named m w v (ReceiveNobody id) h = let k = receive_nobody_taken m w v id h in found_entry m w id 8 k.t (ReceiveNobody id) k.found (omega arith) (ap (λ x. Some (ReceiveNobody x)) (thread_is m w id k.t k.found))
-named m w v (SendCancel s) h = let k = send_cancel_taken m w v s h in found_entry m w s.thread 9 k.p.sender (SendCancel s) (sender_found m w s k.p k.is_undecided) (omega arith) (ap (λ x. Some (SendCancel x)) (last_is m w s k.p k.is_undecided))
-named m w v (ReceiveCancel id) h = let k = receive_cancel_taken m w v id h in found_entry m w id 10 k.t (ReceiveCancel id) k.found (omega arith) (ap (λ x. Some (ReceiveCancel x)) (thread_is m w id k.t k.found))
-named m w v (Drop s) h = let k = drop_taken m w v s h in found_entry m w s.thread 11 k.p.sender (Drop s) (sender_found m w s k.p k.is_undecided) (omega arith) (ap (λ x. Some (Drop x)) (last_is m w s k.p k.is_undecided))
-named m w v (Order caller target what) h = let k = order_taken m w v caller target what h in found_entry m w caller 12 k.t (Order caller target what) k.found (omega arith) (order_named m w v caller target what k)
-named m w v (Obey caller) h = let k = obey_taken m w v caller h in found_entry m w caller 13 k.t (Obey caller) k.found (omega arith) (ap (λ x. Some (Obey x)) (thread_is m w caller k.t k.found))
-named m w v (Tick cpu clock) h = cc
-named m w v (Retarget s) h =
+    let name : coming_name k.t ≡ s =
+    ap (λ x. record { thread = x; k = k.t.now.context.begun + 1 }) (thread_is m w s.thread k.t k.found)
+    ∙ ap (λ n. record { thread = s.thread; k = n }) (sym next_k) in
+    found_entry m w s.thread 1 k.t (OfSend Begun s) k.found (omega arith) (ap (λ x. Some (OfSend Begun x)) name)
+named m w v (OfSend Queued s) h =
+    let k = queue_taken m w v s h in
+    last_named m w s Queued 2 k.p k.is_undecided (omega arith) refl
+named m w v (OfSend (Failed why) s) h =
+    let k = late_refused m w v s why h in
+    refusal_named m w s why k.p k.is_undecided
+named m w v (OfSend Dropped s) h =
+    let k = drop_taken m w v s h in
+    last_named m w s Dropped 11 k.p k.is_undecided (omega arith) refl
+named m w v (OfSend Retargeted s) h =
     let k = retarget_taken m w v s h in
     let r = owed_place w.owed s k.o k.is_owed in
     subst (λ n. Named m w (Retarget n)) r.named (owed_entry m w r.place r.o r.at)
+named m w v (Deliver s receiver shown actual tag words) h =
+    let k = deliver_taken m w v s receiver shown actual tag words h in
+    found_entry m w s.thread 3 k.p.sender (Deliver s receiver shown actual tag words)
+    (sender_found m w s k.p k.is_undecided) (omega arith) (delivery_named m w v s receiver shown actual tag words k)
+named m w v (Order caller target what) h =
+    let k = order_taken m w v caller target what h in
+    found_entry m w caller 12 k.t (Order caller target what) k.found (omega arith)
+    (order_named m w v caller target what k)
+named m w v (Tick cpu clock) h = cc

@@ -16,13 +16,13 @@ use Rattle.l4_worlds.proofs.LateFutures.{late_still}
 use Rattle.l4_worlds.proofs.Passing.{map_from}
 use Rattle.l4_explore.specs.Tries.{State, Next, AreCoded, AreSchedules}
 use Rattle.l4_explore.specs.Search.{Seen}
-use Rattle.l4_explore.specs.Ends.{IsNearer, AreKept}
-use Rattle.l4_states.specs.Bytes.{bytes_of}
+use Rattle.l4_explore.specs.Inner.Ends.{IsNearer, AreKept}
+use Rattle.l4_states.specs.Inner.Bytes.{bytes_of}
 use Rattle.l4_states.proofs.Bytes.{bytes_apart}
-use Rattle.l4_futures.specs.Codes.{code_of}
+use Rattle.l4_futures.specs.Inner.Codes.{code_of}
 use Rattle.l4_futures.specs.Choices.{Choice, possible, tried, after_entry, after_entries, world_after}
-use Rattle.l4_futures.specs.Ends.{is_end, EndsIn}
-use Rattle.l4_futures.specs.Search.{state_in, state_after, next_by, AreTried, MayEnd}
+use Rattle.l4_futures.specs.Inner.Ends.{is_end, EndsIn}
+use Rattle.l4_futures.specs.Inner.Search.{state_in, state_after, next_by, AreTried, MayEnd}
 use Rattle.l4_futures.proofs.Coded.{coded}
 use Rattle.l4_futures.proofs.Ways.{by_steps, clocks_same, is_choice, none, same, onwards, at_end}
 

@@ -4,7 +4,7 @@ use Rattle.std.specs.Prelude.{slice_get, filter}
 use Rattle.l4_explore.specs.Search.{Seen, seen_at}
 use Rattle.l4_model.proofs.Chains.{some_is}
 use Rattle.l4_states.specs.Endings.{ends_of}
-use Rattle.l4_futures.specs.Search.{schedules_of}
+use Rattle.l4_futures.specs.Inner.Search.{schedules_of}
 
 one_later : (i j : ℕ) → i < j → suc i < suc j
 one_later i j less = omega (arith, less)

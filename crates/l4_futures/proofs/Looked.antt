@@ -15,10 +15,10 @@ use Rattle.l4_model.specs.History.{reached}
 use Rattle.l4_worlds.specs.Histories.{IsTimed}
 use Rattle.l4_explore.specs.Search.{Seen, unseen, seen_at, depth_of, AreMet, IsFound, IsExplored, IsCut, IsCutByStates}
 use Rattle.l4_explore.proofs.Orders.{before_length}
-use Rattle.l4_futures.specs.Codes.{code_of}
+use Rattle.l4_futures.specs.Inner.Codes.{code_of}
 use Rattle.l4_futures.specs.Choices.{tried, world_after}
 use Rattle.l4_futures.specs.Traces.{trace_along}
-use Rattle.l4_futures.specs.Search.{state_in, state_after, next_by, nexts, AreTried, schedules_of, traces_of}
+use Rattle.l4_futures.specs.Inner.Search.{state_in, state_after, next_by, nexts, AreTried, schedules_of, traces_of}
 use Rattle.l4_futures.specs.Endings.{length_of, IsAmong, IsGoneOn, AreWorlds, IsAsLong, IsWhole, IsCutByDepth, IsCutByWorlds, HasLooked}
 use Rattle.l4_futures.proofs.Endings.{IsKnown, is_known, state_codes}
 use Rattle.l4_futures.proofs.Kept.{one_more, state_led, same_code, as_good}

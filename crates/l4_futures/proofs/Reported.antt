@@ -9,7 +9,7 @@ use Rattle.l4_model.specs.History.{Report, report_of, view}
 use Rattle.l4_worlds.specs.Timeless.{timeless_thread}
 use Rattle.l4_worlds.specs.Numberless.{numberless_thread}
 use Rattle.l4_worlds.specs.Bare.{bare_thread, AreAsGood}
-use Rattle.l4_futures.specs.Reported.{destinations, AreReportedAlike}
+use Rattle.l4_futures.specs.Inner.Reported.{destinations, AreReportedAlike}
 
 -- A thread without time, numbers and, where it is deleted, registers
 abbrev left : Thread → Thread

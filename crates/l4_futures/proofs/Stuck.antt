@@ -6,7 +6,7 @@ use Rattle.l4_model.specs.World.{Thread, Send, Phase, Ready, Sending, Receiving,
 use Rattle.l4_worlds.specs.Timeless.{timeless_thread}
 use Rattle.l4_worlds.specs.Numberless.{numberless_thread}
 use Rattle.l4_worlds.specs.Bare.{bare_thread}
-use Rattle.l4_futures.specs.Asked.{TellsNoneApart}
+use Rattle.l4_futures.specs.Inner.Asked.{TellsNoneApart}
 use Rattle.l4_futures.specs.Stuck.{is_stuck_thread, is_stuck_world}
 
 thread_same : (t : Thread) → is_stuck_thread (numberless_thread (bare_thread (timeless_thread t))) ≡ is_stuck_thread t

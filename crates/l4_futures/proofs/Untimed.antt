@@ -9,16 +9,16 @@ use Rattle.std.specs.Prelude.{slice_get, slice_index, find, is_some, not, IfSome
 use Rattle.std.specs.List.{AllByRecursion}
 use Rattle.std.specs.Option.{option_map}
 use Rattle.l4_model.specs.Words.{GlobalId, Id, NilThread, AnyThread, AnyLocalThread, LocalThread, GlobalThread, Period}
-use Rattle.l4_model.specs.Machine.{Machine, Declaration, OrderKind, CancelSend, CancelReceive, CancelBoth, Delete, Instr, Set, Copy, Add, Tag, Vs, Ipc, Ask, Jump, OnErr, End, place_of}
+use Rattle.l4_model.specs.Machine.{Machine, Declaration, OrderKind, CancelSend, CancelReceive, CancelBoth, Delete, Instr, Run, Ipc, Ask, End, place_of}
 use Rattle.l4_model.specs.World.{World, Thread, Context, Send, Receive, Owed, Phase, Ready, Sending, Receiving, Ordering, Ended, Deleted, Name, changed, opening, opening_thread, is_alive, is_deleted, is_in, list_at, owed_of, must_wait}
-use Rattle.l4_model.specs.Rules.{Act, Orders, RunsAlone, ipc_act, ask_act, act, is_admitted, destination, receive_phase, received_tag, is_cross}
+use Rattle.l4_model.specs.Rules.{receive_code, send_code, Act, Orders, RunsAlone, ipc_act, ask_act, act, is_admitted, destination, receive_phase, received_tag, is_cross}
 use Rattle.l4_model.specs.Effects.{runs, begins, waits, fails, decided, refused, receives, goes_on, delivered, asked, orders, obeyed, turns, turns_in}
 use Rattle.l4_model.specs.Conditions.{◌>>=◌, Found, found, found_at, found_by, Pending, undecided, receiver_of, instruction, is_waiting, shows_accepted, first_accepted, is_zero, is_no_destination}
-use Rattle.l4_model.specs.Steps.{Step, Local, Begin, Queue, Deliver, Wait, SendTimeout, ReceiveTimeout, SendNobody, ReceiveNobody, SendCancel, ReceiveCancel, Drop, Order, Obey, Tick, Retarget, send_of, next}
+use Rattle.l4_model.specs.Steps.{Step, Queue, Deliver, SendTimeout, ReceiveTimeout, SendNobody, Order, Tick, Retarget, send_of, next, OfThread, OfSend, Runs, Waits, Fails, Obeys, Begun, Queued, Failed, Dropped, Retargeted}
 use Rattle.l4_model.specs.History.{run, reached}
 use Rattle.l4_model.specs.Reached.{IsOwedAmong, SendsTo, WorldFacts, place_to}
 use Rattle.l4_model.proofs.Chains.{bind_then, some_is, get-changed_same, get-changed_other}
-use Rattle.l4_model.proofs.Inversions.{local_taken, begin_taken, queue_taken, deliver_taken, wait_taken, send_timeout_taken, send_nobody_taken, send_cancel_taken, drop_taken, receive_timeout_taken, receive_nobody_taken, receive_cancel_taken, order_taken, obey_taken, tick_taken, retarget_taken}
+use Rattle.l4_model.proofs.Inversions.{local_taken, begin_taken, queue_taken, deliver_taken, wait_taken, drop_taken, order_taken, obey_taken, tick_taken, retarget_taken, send_failed, receive_failed}
 use Rattle.l4_model.proofs.Places.{eqb_same, same_name_refl, place_id, known, sender_found, receiver_place}
 use Rattle.l4_model.proofs.Worlds.{reached_facts}
 use Rattle.l4_worlds.specs.Timeless.{timeless}
@@ -148,13 +148,7 @@ ask_goes m id (GlobalThread t) what = by (is_admitted m id t what)
 act_goes : (m : Machine) (id : GlobalId) (now : ℕ) (c : Context) (i : Instr) → ActGoes (act m id now c i)
 act_goes m id now c (Ipc to from send_period receive_period) = ipc_goes m id now c (destination c to) send_period (receive_phase from receive_period)
 act_goes m id now c (Ask target what) = ask_goes m id target what
-act_goes m id now c (Set a word) = tt
-act_goes m id now c (Copy a b) = tt
-act_goes m id now c (Add format a word) = tt
-act_goes m id now c (Tag word) = tt
-act_goes m id now c (Vs other) = tt
-act_goes m id now c (Jump place) = tt
-act_goes m id now c (OnErr place) = tt
+act_goes m id now c (Run own) = tt
 act_goes m id now c End = tt
 
 -- Steps
@@ -169,33 +163,60 @@ abbrev Fit : Machine → World → Type 0
 Fit m w = AllFit m w.threads
 
 step_fit : (m : Machine) (w v : World) (step : Step) → next m w step ≡ Some v → Fit m w → Fit m v
-step_fit m w v (Local id) h all = let k = local_taken m w v id h in subst (Fit m) k.leads_to (changed_fit m (runs (instruction k.t)) w.threads k.t.at (found_named m w id k.t k.found) (λ t g. g) all)
-step_fit m w v (Begin s) h all =
+step_fit m w v (OfThread Runs id) h all =
+    let k = local_taken m w v id h in
+    subst (Fit m) k.leads_to
+    (changed_fit m (runs (instruction k.t)) w.threads k.t.at (found_named m w id k.t k.found) (λ t g. g) all)
+step_fit m w v (OfThread Waits id) h all =
+    let k = wait_taken m w v id h in
+    subst (Fit m) k.leads_to
+    (changed_fit m (waits k.receive k.t.clock) w.threads k.t.at (found_named m w id k.t k.found) (λ t g. g) all)
+step_fit m w v (OfThread (Fails why) id) h all =
+    let k = receive_failed m w v id why h in
+    let code = receive_code why in
+    subst (Fit m) k.leads_to
+    (changed_fit m (fails code) w.threads k.t.at (found_named m w id k.t k.found) (fails_goes code) all)
+step_fit m w v (OfThread Obeys id) h all =
+    let k = obey_taken m w v id h in
+    let what = k.order.what in
+    subst (Fit m) k.leads_to
+    (changed_fit m obeyed (changed (asked what) w.threads k.target) k.t.at (found_named m w id k.t k.found) obeyed_goes
+    (changed_fit m (asked what) w.threads k.target (named_by m k.order.target k.target k.target_is)
+    (asked_goes what) all))
+step_fit m w v (OfSend Begun s) h all =
     let k = begin_taken m w v s h in
-    let goes : GoesSomewhere (Some k.send) = subst GoesSomewhere k.sends (act_goes m k.t.declared.id k.t.clock k.t.now.context (instruction k.t)) in
-    subst (Fit m) k.leads_to (changed_fit m (begins k.send) w.threads k.t.at (found_named m w s.thread k.t k.found) (λ t g. goes) all)
-step_fit m w v (Queue s) h all = let k = queue_taken m w v s h in subst (Fit m) k.leads_to all
+    let acts = act_goes m k.t.declared.id k.t.clock k.t.now.context (instruction k.t) in
+    let goes : GoesSomewhere (Some k.send) = subst GoesSomewhere k.sends acts in
+    subst (Fit m) k.leads_to
+    (changed_fit m (begins k.send) w.threads k.t.at (found_named m w s.thread k.t k.found) (λ t g. goes) all)
+step_fit m w v (OfSend Queued s) h all = subst (Fit m) (queue_taken m w v s h).leads_to all
+step_fit m w v (OfSend (Failed why) s) h all =
+    let k = send_failed m w v s why h in
+    let code = send_code why in
+    subst (Fit m) k.leads_to
+    (changed_fit m (refused code) w.threads k.p.sender.at (sender_named m w s k.p k.is_undecided)
+    (refused_goes code) all)
+step_fit m w v (OfSend Dropped s) h all =
+    let k = drop_taken m w v s h in
+    subst (Fit m) k.leads_to
+    (changed_fit m decided w.threads k.p.sender.at (sender_named m w s k.p k.is_undecided) (λ t g. tt) all)
+step_fit m w v (OfSend Retargeted s) h all =
+    let k = retarget_taken m w v s h in
+    subst (Fit m) k.leads_to
+    (changed_fit m (turns k.o) w.threads k.t.at (found_named m w k.o.originator k.t k.found) (turns_goes k.o) all)
 step_fit m w v (Deliver s receiver shown actual tag words) h all =
     let k = deliver_taken m w v s receiver shown actual tag words h in
+    let gets : Thread → Thread = receives k.p.send.message tag in
+    let there = named_by m k.r.declared.id k.r.at (receiver_place m w k.p.send.to k.r k.to) in
     subst (Fit m) k.leads_to
-    (changed_fit m (delivered k.p.send k.p.sender.clock) (changed (receives k.p.send.message tag) w.threads k.r.at) k.p.sender.at (sender_named m w s k.p k.is_undecided) (delivered_goes k.p.send k.p.sender.clock)
-    (changed_fit m (receives k.p.send.message tag) w.threads k.r.at (named_by m k.r.declared.id k.r.at (receiver_place m w k.p.send.to k.r k.to)) (λ t g. g) all))
-step_fit m w v (Wait id) h all = let k = wait_taken m w v id h in subst (Fit m) k.leads_to (changed_fit m (waits k.receive k.t.clock) w.threads k.t.at (found_named m w id k.t k.found) (λ t g. g) all)
-step_fit m w v (SendTimeout s) h all = let k = send_timeout_taken m w v s h in subst (Fit m) k.leads_to (changed_fit m (refused 2) w.threads k.p.sender.at (sender_named m w s k.p k.is_undecided) (refused_goes 2) all)
-step_fit m w v (SendNobody s) h all = let k = send_nobody_taken m w v s h in subst (Fit m) k.leads_to (changed_fit m (refused 4) w.threads k.p.sender.at (sender_named m w s k.p k.is_undecided) (refused_goes 4) all)
-step_fit m w v (SendCancel s) h all = let k = send_cancel_taken m w v s h in subst (Fit m) k.leads_to (changed_fit m (refused 6) w.threads k.p.sender.at (sender_named m w s k.p k.is_undecided) (refused_goes 6) all)
-step_fit m w v (Drop s) h all = let k = drop_taken m w v s h in subst (Fit m) k.leads_to (changed_fit m decided w.threads k.p.sender.at (sender_named m w s k.p k.is_undecided) (λ t g. tt) all)
-step_fit m w v (ReceiveTimeout id) h all = let k = receive_timeout_taken m w v id h in subst (Fit m) k.leads_to (changed_fit m (fails 3) w.threads k.t.at (found_named m w id k.t k.found) (fails_goes 3) all)
-step_fit m w v (ReceiveNobody id) h all = let k = receive_nobody_taken m w v id h in subst (Fit m) k.leads_to (changed_fit m (fails 5) w.threads k.t.at (found_named m w id k.t k.found) (fails_goes 5) all)
-step_fit m w v (ReceiveCancel id) h all = let k = receive_cancel_taken m w v id h in subst (Fit m) k.leads_to (changed_fit m (fails 7) w.threads k.t.at (found_named m w id k.t k.found) (fails_goes 7) all)
-step_fit m w v (Order caller target what) h all = let k = order_taken m w v caller target what h in subst (Fit m) k.leads_to (changed_fit m (orders k.order) w.threads k.t.at (found_named m w caller k.t k.found) (λ t g. g) all)
-step_fit m w v (Obey caller) h all =
-    let k = obey_taken m w v caller h in
+    (changed_fit m (delivered k.p.send k.p.sender.clock) (changed gets w.threads k.r.at) k.p.sender.at
+    (sender_named m w s k.p k.is_undecided) (delivered_goes k.p.send k.p.sender.clock)
+    (changed_fit m gets w.threads k.r.at there (λ t g. g) all))
+step_fit m w v (Order caller target what) h all =
+    let k = order_taken m w v caller target what h in
     subst (Fit m) k.leads_to
-    (changed_fit m obeyed (changed (asked k.order.what) w.threads k.target) k.t.at (found_named m w caller k.t k.found) obeyed_goes
-    (changed_fit m (asked k.order.what) w.threads k.target (named_by m k.order.target k.target k.target_is) (asked_goes k.order.what) all))
-step_fit m w v (Tick cpu clock) h all = let k = tick_taken m w v cpu clock h in subst (Fit m) k.leads_to all
-step_fit m w v (Retarget s) h all = let k = retarget_taken m w v s h in subst (Fit m) k.leads_to (changed_fit m (turns k.o) w.threads k.t.at (found_named m w k.o.originator k.t k.found) (turns_goes k.o) all)
+    (changed_fit m (orders k.order) w.threads k.t.at (found_named m w caller k.t k.found) (λ t g. g) all)
+step_fit m w v (Tick cpu clock) h all = subst (Fit m) (tick_taken m w v cpu clock h).leads_to all
 
 run_fit : (m : Machine) (h : List Step) (w v : World) → run m w h ≡ Some v → Fit m w → Fit m v
 run_fit m [] w v r all = subst (Fit m) (some_is w v r) all

@@ -18,9 +18,9 @@ use Rattle.l4_worlds.proofs.LateWorlds.{late_facts}
 use Rattle.l4_worlds.proofs.Passing.{map_from}
 use Rattle.l4_first.specs.First.{stands_alone, chosen, ListsLate}
 use Rattle.l4_first.proofs.First.{choices}
-use Rattle.l4_futures.specs.Codes.{code_of}
+use Rattle.l4_futures.specs.Inner.Codes.{code_of}
 use Rattle.l4_futures.specs.Choices.{Choice, choice_at, step_at, entry_count, possible, tried, after_entry, after_entries, world_after}
-use Rattle.l4_futures.specs.Ends.{is_end, EndsIn, GoesTowards, AreWays}
+use Rattle.l4_futures.specs.Inner.Ends.{is_end, EndsIn, GoesTowards, AreWays}
 use Rattle.l4_futures.proofs.Coded.{coded}
 use Rattle.l4_futures.proofs.Entries.{named}
 

@@ -1,14 +1,14 @@
 -- What a search may try next in a world. An entry names a thread and a kind of step, or an owed
 -- retarget by its place. Ticks are no entries: a finite period may be over at once.
-use Rattle.std.specs.Prelude.{ℕ, ◌+◌, ◌-◌, ◌*◌, ◌/◌, ◌%◌, nat_lt, if◌then◌else◌, Option, Some, None, is_some, List, [], ◌∷◌, length, find, filter_map, slice_get}
+use Rattle.std.specs.Prelude.{ℕ, ◌+◌, ◌-◌, ◌*◌, ◌/◌, ◌%◌, nat_lt, if◌then◌else◌, Option, Some, None, is_some, List, [], ◌∷◌, ◌++◌, length, find, filter_map, slice_get}
 use Rattle.std.specs.List.{range_with_len}
 use Rattle.std.specs.Option.{option_map}
 use Rattle.l4_model.specs.Words.{GlobalId}
 use Rattle.l4_model.specs.Machine.{Machine}
 use Rattle.l4_model.specs.World.{Name, World, Owed, PendingOrder, opening}
-use Rattle.l4_model.specs.Rules.{received_tag, is_cross}
+use Rattle.l4_model.specs.Rules.{Failure, TimeOver, NobodyThere, CancelAsked, received_tag, is_cross}
 use Rattle.l4_model.specs.Conditions.{◌>>=◌, ◌>>◌, Found, found_at, undecided, receiver_of, act_of}
-use Rattle.l4_model.specs.Steps.{Step, Local, Begin, Queue, Deliver, Wait, SendTimeout, ReceiveTimeout, SendNobody, ReceiveNobody, SendCancel, ReceiveCancel, Drop, Order, Obey, Retarget, order_of}
+use Rattle.l4_model.specs.Steps.{Step, OfThread, OfSend, Fails, Failed, Local, Begin, Queue, Deliver, Wait, Drop, Order, Obey, Retarget, order_of}
 use Rattle.l4_worlds.specs.Late.{next_late}
 use Rattle.l4_first.specs.First.{stands_alone}
 
@@ -31,25 +31,26 @@ delivery m w s = do
 abbrev pub order_step : GlobalId → Option PendingOrder → Option Step
 order_step caller asked = option_map (λ o. Order caller o.target o.what) asked
 
+-- For each reason, a send fails and a receive phase does.
+abbrev pub failing : GlobalId → Name → Failure → List (Option Step)
+failing id last why = Some (OfSend (Failed why) last) ∷ Some (OfThread (Fails why) id) ∷ []
+
 -- The steps that a thread may be in for, in the order of the table of steps.
 abbrev pub in_order : Machine → World → Found → GlobalId → (coming last : Name) →
     List (Option Step)
 in_order m w t id coming last =
-    Some (Local id)
+    (Some (Local id)
     ∷ Some (Begin coming)
     ∷ Some (Queue last)
     ∷ delivery m w last
     ∷ Some (Wait id)
-    ∷ Some (SendTimeout last)
-    ∷ Some (ReceiveTimeout id)
-    ∷ Some (SendNobody last)
-    ∷ Some (ReceiveNobody id)
-    ∷ Some (SendCancel last)
-    ∷ Some (ReceiveCancel id)
-    ∷ Some (Drop last)
+    ∷ failing id last TimeOver)
+    ++ failing id last NobodyThere
+    ++ failing id last CancelAsked
+    ++ (Some (Drop last)
     ∷ order_step id (order_of (act_of m t))
     ∷ Some (Obey id)
-    ∷ []
+    ∷ [])
 
 abbrev pub kinds : ℕ
 kinds = 14

@@ -1,9 +1,5 @@
-pub mod Codes
 pub mod Choices
-pub mod Traces
 pub mod Endings
-pub mod Ends
-pub mod Search
-pub mod Asked
+pub mod Inner
 pub mod Stuck
-pub mod Reported
+pub mod Traces

@@ -20,18 +20,18 @@ ghost use Rattle.l4_model.specs.Steps.{Step};
 ghost use Rattle.l4_model.specs.History.{reached};
 ghost use Rattle.l4_model.specs.Still.{IsStill};
 ghost use Rattle.l4_worlds.specs.Timeless.{timeless};
-ghost use Rattle.l4_worlds.specs.Room.{HaveProcessors};
+ghost use Rattle.l4_worlds.specs.Inner.Room.{HaveProcessors};
 ghost use Rattle.l4_worlds.specs.Bare.{AreAsGood};
 ghost use Rattle.l4_worlds.specs.Histories.{IsStillLate, IsTimed, IsUntimed};
 ghost use Rattle.l4_explore.specs.Tries.{deepest, AreSchedules};
 ghost use Rattle.l4_explore.specs.Search.{depth_of, Seen, IsExplored, IsCut};
-ghost use Rattle.l4_explore.specs.Ends.{AreKept};
-ghost use Rattle.l4_futures.specs.Codes.{code_of};
-ghost use Rattle.l4_futures.specs.Ends.{AreWays};
-ghost use Rattle.l4_futures.specs.Search.{end_traces_of, state_after, AreTried, MayEnd};
+ghost use Rattle.l4_explore.specs.Inner.Ends.{AreKept};
+ghost use Rattle.l4_futures.specs.Inner.Codes.{code_of};
+ghost use Rattle.l4_futures.specs.Inner.Ends.{AreWays};
+ghost use Rattle.l4_futures.specs.Inner.Search.{end_traces_of, state_after, AreTried, MayEnd};
 ghost use Rattle.l4_futures.specs.Endings.{length_of, AreAllEndings, HasLooked, IsEnding, IsListed};
-ghost use Rattle.l4_futures.specs.Asked.{IsNoneListed, IsNoneReached, TellsNoneApart};
-ghost use Rattle.l4_futures.specs.Reported.{AreReportedAlike};
+ghost use Rattle.l4_futures.specs.Inner.Asked.{IsNoneListed, IsNoneReached, TellsNoneApart};
+ghost use Rattle.l4_futures.specs.Inner.Reported.{AreReportedAlike};
 ghost use Rattle.l4_futures.specs.Stuck.{is_stuck_world};
 
 /// Worlds of a machine have the same code exactly where they are as good as each other.

@@ -21,9 +21,9 @@ use Rattle.l4_history.specs.declared.records.OfThread.{OfThread}
 use Rattle.l4_history.specs.declared.records.OfSend.{OfSend}
 use Rattle.l4_history.specs.declared.records.OfSend.TheVariants as send
 use Rattle.l4_history.specs.declared.records.Record.{Record}
-use Rattle.l4_history.specs.Rows.{AreRows, IsBody, IsBodyOf, IsHead, IsHeadOf, IsName, IsOfKind, IsRecord, IsWide, IsWideHeadOf, Told, delivery_at, delivery_by, head_delivery, name_at, plain_step, send_step, step_at, thread_step, told, wide_at, wide_delivery}
-use Rattle.l4_history.specs.Sent.{sent}
-use Rattle.l4_history.specs.Slots.{HasSlot, Keeps, thread_at}
+use Rattle.l4_history.specs.Inner.Rows.{AreRows, IsBody, IsBodyOf, IsHead, IsHeadOf, IsName, IsOfKind, IsRecord, IsWide, IsWideHeadOf, Told, delivery_at, delivery_by, head_delivery, name_at, plain_step, send_step, step_at, thread_step, told, wide_at, wide_delivery}
+use Rattle.l4_history.specs.Inner.Sent.{sent}
+use Rattle.l4_history.specs.Inner.Slots.{HasSlot, Keeps, thread_at}
 use Rattle.l4_history.proofs.Kept.{told-kept}
 
 pub same-slots : (slots : List GlobalId) → Keeps slots slots

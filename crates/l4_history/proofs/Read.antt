@@ -4,7 +4,7 @@ use Rattle.std.specs.Prelude.{slice_get, Some, IfSome}
 use Rattle.std.proofs.lemmas.List.{drop_more, get_or-take, length-take-le}
 use Rattle.std.proofs.lemmas.Option.{get_or_from_slice_get, slice_get_cases}
 use Rattle.l4_model.specs.Steps.{Step}
-use Rattle.l4_history.specs.Rows.{Told, HasMore}
+use Rattle.l4_history.specs.Inner.Rows.{Told, HasMore}
 
 -- The next of the first elements.
 pub take_next : {A : Type 0} → (xs : List A) (end i : ℕ) (x : A) → end ≤ length xs → i < end → slice_get xs i ≡ Some x → drop i (take end xs) ≡ x ∷ drop (i + 1) (take end xs)

@@ -2,9 +2,11 @@
 ghost use Rattle.std.specs.Prelude.{◌≡◌, ◌<◌, ◌≤◌, All, IfSome, IsTrue, length, slice_get};
 ghost use Rattle.l4_types.specs.StepView.{delivered, seen};
 ghost use Rattle.l4_types.specs.declared.steps.Step.TheVariants.{Deliver};
-ghost use Rattle.l4_history.specs.Rows.{IsBody, IsBodyOf, IsHead, IsHeadOf, IsWide, IsWideHeadOf};
-ghost use Rattle.l4_history.specs.Rows.{ShowsSender, delivery_at, message_of, wide_at, wide_delivery};
-ghost use Rattle.l4_history.specs.Slots.{Keeps, slot_count};
+ghost use Rattle.l4_history.specs.Inner.Rows.{IsBody, IsBodyOf, IsHead, IsHeadOf, IsWide};
+ghost use Rattle.l4_history.specs.Inner.Rows.{IsWideHeadOf};
+ghost use Rattle.l4_history.specs.Inner.Rows.{ShowsSender, delivery_at, message_of, wide_at};
+ghost use Rattle.l4_history.specs.Inner.Rows.{wide_delivery};
+ghost use Rattle.l4_history.specs.Inner.Slots.{Keeps, slot_count};
 ghost use Rattle.l4_history.specs.declared.records.WideHead.{WideHead};
 
 use crate::records::{Body, Head, SHORT, WideHead, name_at};

@@ -4,8 +4,8 @@ ghost use Rattle.std.specs.Prelude.{IfSome, Some, None, IsTrue, length, map, tak
 ghost use Rattle.l4_model.specs.History.{begun_name};
 ghost use Rattle.l4_model.specs.Steps.{Order, Tick as TickOf};
 ghost use Rattle.l4_types.specs.StepView.{delivered, delivery_in, order_kind_of, seen, step_of};
-ghost use Rattle.l4_history.specs.Rows.{HasMore, plain_step, send_step, thread_step};
-ghost use Rattle.l4_history.specs.Sent.{sent};
+ghost use Rattle.l4_history.specs.Inner.Rows.{HasMore, plain_step, send_step, thread_step};
+ghost use Rattle.l4_history.specs.Inner.Sent.{sent};
 
 use crate::deliveries::{delivery, head, wide_head, wide_step};
 use crate::records::{Head, Kind, OfSend, OfThread, Record, SHORT, WideHead};
@@ -44,8 +44,8 @@ impl Model for History {
     ghost use Rattle.std.specs.Prelude.{◌+◌, ◌*◌, ◌<◌, ◌≤◌, length, vec_len};
     ghost use Rattle.std.specs.Vec.{vec_capacity};
     ghost use Rattle.l4_types.specs.declared.messages.TheConstants.{MOST_WORDS};
-    ghost use Rattle.l4_history.specs.Rows.{Told, AreRows, HasRoom, told};
-    ghost use Rattle.l4_history.specs.Slots.{slot_count};
+    ghost use Rattle.l4_history.specs.Inner.Rows.{Told, AreRows, HasRoom, told};
+    ghost use Rattle.l4_history.specs.Inner.Slots.{slot_count};
 
     ghost Value = { Told };
 

@@ -1,7 +1,7 @@
 //! Rows that grow.
 ghost use Rattle.std.specs.Prelude.{◌≡◌, ◌+◌, ◌≤◌, ◌++◌, OnOk, length, vec_len};
 ghost use Rattle.std.specs.Vec.{vec_capacity};
-ghost use Rattle.l4_history.specs.Rows.{HasRoom};
+ghost use Rattle.l4_history.specs.Inner.Rows.{HasRoom};
 
 use l4_types::errors::NoMemory;
 

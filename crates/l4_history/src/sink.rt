@@ -1,11 +1,12 @@
 //! What takes the steps of a machine.
-ghost use Rattle.std.specs.Prelude.{◌≡◌, ◌<◌, ◌≤◌, ◌+◌, ◌-◌, ℕ, List, [], ◌∷◌, ◌++◌, OnOk, OnErr, length, map, vec_len};
+ghost use Rattle.std.specs.Prelude.{◌≡◌, ◌<◌, ◌≤◌, ◌+◌, ◌-◌, ℕ, List, [], ◌∷◌, ◌++◌, OnOk, OnErr};
+ghost use Rattle.std.specs.Prelude.{length, map, vec_len};
 ghost use Rattle.std.specs.Vec.{vec_capacity};
 ghost use Rattle.arrayvec.specs.ArrayVec.{array_vec_len};
 ghost use Rattle.l4_model.specs.Steps.{Step as ModelStep};
 ghost use Rattle.l4_types.specs.StepView.{seen, step_of};
-ghost use Rattle.l4_history.specs.Rows.{HasMore};
-ghost use Rattle.l4_history.specs.Sent.{sent};
+ghost use Rattle.l4_history.specs.Inner.Rows.{HasMore};
+ghost use Rattle.l4_history.specs.Inner.Sent.{sent};
 
 use crate::history::{EVENT_STEPS, History};
 use arrayvec::ArrayVec;

@@ -1,6 +1,7 @@
 //! The threads that the steps of a history name.
 ghost use Rattle.std.specs.Prelude.{◌≡◌, ◌<◌, ◌≤◌, [], IfSome, IsTrue, OnErr, OnOk, length};
-ghost use Rattle.l4_history.specs.Slots.{HasSlot, IsSlot, Keeps, AllOrNone, home, slot_count, thread_at};
+ghost use Rattle.l4_history.specs.Inner.Slots.{HasSlot, IsSlot, Keeps, AllOrNone, home, slot_count};
+ghost use Rattle.l4_history.specs.Inner.Slots.{thread_at};
 
 use l4_types::errors::NoMemory;
 use l4_types::ids::GlobalId;

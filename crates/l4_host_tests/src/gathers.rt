@@ -2,7 +2,7 @@
 ghost use Rattle.std.specs.Prelude.{◌<◌, ◌≤◌, IfErr, IfSome};
 ghost use Rattle.l4_machine.specs.Gathers.{AreOfOne};
 ghost use Rattle.l4_proc.specs.Working.{HasGoneOn};
-ghost use Rattle.l4_mail.specs.Fabrics.{most_room};
+ghost use Rattle.l4_mail.specs.Inner.Fabrics.{most_room};
 
 use crate::processors::{processors_of, work};
 use crate::runs::machine_of;

@@ -1,6 +1,6 @@
 ghost use Rattle.std.specs.Prelude.{◌<◌, ◌≤◌, IfSome, map};
 ghost use Rattle.l4_machine.specs.Gathers.{AreOfOne};
-ghost use Rattle.l4_mail.specs.Fabrics.{most_room};
+ghost use Rattle.l4_mail.specs.Inner.Fabrics.{most_room};
 ghost use Rattle.l4_mail.specs.Ports.{AreOneFabric};
 ghost use Rattle.l4_proc.specs.Logs.{IsClosed};
 ghost use Rattle.l4_proc.specs.Working.{HasGoneOn};

@@ -2,7 +2,7 @@
 // to 64. Whatever room there is, their steps are a history of the machine.
 ghost use Rattle.std.specs.Prelude.{◌<◌, ◌≤◌, IfSome};
 ghost use Rattle.l4_machine.specs.Gathers.{AreOfOne};
-ghost use Rattle.l4_mail.specs.Fabrics.{most_room};
+ghost use Rattle.l4_mail.specs.Inner.Fabrics.{most_room};
 
 use crate::gates::busy_text;
 use crate::gathers::gathered_again;

@@ -11,10 +11,10 @@ use Rattle.l4_model.proofs.Chains.{some_is}
 use Rattle.l4_core_model.proofs.Changed.{run-last}
 use Rattle.l4_audit.specs.declared.reasons.StepFault.{StepFault}
 use Rattle.l4_audit.specs.declared.reasons.StepFault.TheVariants.{NoMemory, Refused}
-use Rattle.l4_audit.specs.Auditing.{Auditing, IsPassed, begins}
-use Rattle.l4_audit.specs.Taking.{Explains}
+use Rattle.l4_audit.specs.Inner.Auditing.{Auditing, IsPassed, begins}
+use Rattle.l4_audit.specs.Inner.Taking.{Explains}
 use Rattle.l4_audit.proofs.Reasoning.{is_impossible}
-use Rattle.l4_trace.specs.Forward.{Ahead, IsNext}
+use Rattle.l4_trace.specs.Inner.Forward.{Ahead, IsNext}
 use Rattle.l4_trace.specs.Lines.{IsTraceOf}
 use Rattle.l4_trace.specs.Reading.{steps_of}
 use Rattle.l4_trace.specs.declared.fault.TraceFault.{TraceFault}

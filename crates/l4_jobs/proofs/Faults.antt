@@ -8,7 +8,7 @@ use Rattle.l4_model.specs.Steps.{Step}
 use Rattle.l4_model.specs.History.{refused_place}
 use Rattle.l4_model.proofs.Faults.{tells_first_fault}
 use Rattle.l4_core_model.specs.Runs.{Run as CoreRun}
-use Rattle.l4_choices.specs.Entries.{replay_entries}
+use Rattle.l4_core_model.specs.Schedules.{replay_entries}
 use Rattle.l4_expect.specs.Expected.{Expected, expectations_of}
 use Rattle.l4_trace.specs.Lines.{IsTraceOf}
 use Rattle.l4_script.specs.Texts.{machine_of_text}
@@ -32,7 +32,8 @@ use Rattle.l4_jobs.specs.Jobs.{IsAskedFault, IsDoneFor, IsDoneOn, IsFaultBehind,
 use Rattle.l4_jobs.specs.Nexts.{IsNextDone, IsNextFault}
 use Rattle.l4_jobs.specs.Outputs.{Output}
 use Rattle.l4_jobs.specs.Schedules.{IsReplayFault, asked_schedule, fault_of_result, fault_of_run, named_schedule, run_by_list, run_of_schedule}
-use Rattle.l4_jobs.specs.Searches.{IsAnswerBy, IsDoneBy, fault_of_question, question_of}
+use Rattle.l4_jobs.specs.Searches.{IsAnswerBy, IsDoneBy, fault_of_question, question_of, shown_of}
+use Rattle.l4_questions.specs.declared.beside.Shown.{Shown}
 use Rattle.l4_jobs.specs.declared.fault.Fault.{Fault}
 use Rattle.l4_jobs.proofs.Spelled.{trace_right}
 
@@ -67,15 +68,15 @@ audited_right judged m name trace lines status f (inr (r, one)) = never_faulty (
 
 -- What a search is asked has no fault where it was done.
 
-answered_right : (scheduler : Scheduler) (q : Question) (m : Machine) (waits : Bool) (expected : Option (List Expected)) (lines unmet : List ℕ) (status : ℕ) →
-    IsAnswerBy scheduler m q waits expected lines unmet status → question_fault q ≡ None
-answered_right Any q m waits expected lines unmet status is = is.lawful
-answered_right Placed q m waits expected lines unmet status is = is.lawful
+answered_right : (scheduler : Scheduler) (q : Question) (m : Machine) (shown : Shown) (expected : Option (List Expected)) (lines unmet : List ℕ) (status : ℕ) →
+    IsAnswerBy scheduler m q shown expected lines unmet status → question_fault q ≡ None
+answered_right Any q m shown expected lines unmet status is = is.lawful
+answered_right Placed q m shown expected lines unmet status is = is.lawful
 
 searched_right : (trace : Option ℕ) (search : EndingsJob) (m : Machine) (expected : Option (List Expected)) (o : Output) →
     IsDoneBy trace search m expected o → question_fault (question_of search) ≡ None
 searched_right None search m expected o is =
-    answered_right search.scheduler (question_of search) m search.waits expected o.lines o.said o.status is.answered
+    answered_right search.scheduler (question_of search) m (shown_of search) expected o.lines o.said o.status is.answered
 searched_right (Some number) search m expected o is = is.answered.lawful
 
 -- On the machine of a text

@@ -7,10 +7,10 @@ use Rattle.l4_model.specs.Steps.{Step}
 use Rattle.l4_model.specs.Still.{IsStill}
 use Rattle.l4_model.specs.World.{World}
 use Rattle.l4_model.proofs.Faults.{tells_first_fault}
-use Rattle.l4_audit.specs.Auditing.{Auditing, waiting_send}
+use Rattle.l4_audit.specs.Inner.Auditing.{Auditing, waiting_send}
 use Rattle.l4_audit.specs.Audits.{IsReached, is_quiet}
 use Rattle.l4_audit.proofs.Auditing.{waiting_begun}
-use Rattle.l4_explain.specs.Accounts.{IsAccount, IsStopped, IsToldBy, reported}
+use Rattle.l4_explain.specs.Inner.Accounts.{IsAccount, IsStopped, IsToldBy, reported}
 use Rattle.l4_explain.specs.Reasons.{cause}
 use Rattle.l4_explain.specs.Worlds.{Ends, explanation, world_report}
 use Rattle.l4_explain.specs.declared.accounts.Account.{Account}

@@ -14,7 +14,7 @@ use Rattle.l4_commands.specs.Files.{list_name, list_name_in}
 use Rattle.l4_jobs.specs.Inputs.{Gives, IsRead}
 use Rattle.l4_jobs.specs.Lints.{IsLinted, IsListLinted, named_faults}
 use Rattle.l4_jobs.specs.Outputs.{Output}
-use Rattle.l4_jobs.specs.Reading.{IsReadAs}
+use Rattle.l4_jobs.specs.Inner.Reading.{IsReadAs}
 
 -- A text that declares a machine has no fault.
 none_found : (found : List LintFault) → first_in found ≡ None → found ≡ []

@@ -10,7 +10,7 @@ use Rattle.l4_jobs.specs.Inputs.{Gives}
 use Rattle.l4_jobs.specs.Jobs.{IsDone, IsDoneFor, IsFaultyDone, IsInLinesFor}
 use Rattle.l4_jobs.specs.Objects.{is_retold, told}
 use Rattle.l4_jobs.specs.Outputs.{Output}
-use Rattle.l4_jobs.specs.Reading.{IsReadAs}
+use Rattle.l4_jobs.specs.Inner.Reading.{IsReadAs}
 use Rattle.l4_jobs.proofs.Linting.{linted_as}
 
 -- What is made of the part of a text that was read is made of all of it.

@@ -11,7 +11,7 @@ use Rattle.l4_script.specs.Texts.{machine_of_text}
 use Rattle.l4_script.specs.declared.text.fault.TextFaultKind.TheVariants.{TooLong}
 use Rattle.l4_lint.specs.Doubts.{doubts_of}
 use Rattle.l4_lint.specs.Faults.{faults_of}
-use Rattle.l4_jobs.specs.Reading.{IsReadAs}
+use Rattle.l4_jobs.specs.Inner.Reading.{IsReadAs}
 
 not_below : (a b : ℕ) → nat_lt a b ≡ false → b ≤ a
 not_below a b h = grind (arith, nat_tests)

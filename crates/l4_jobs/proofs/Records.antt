@@ -4,7 +4,7 @@ use Rattle.l4_model.specs.History.{reached}
 use Rattle.l4_model.specs.Machine.{Machine}
 use Rattle.l4_model.specs.World.{World}
 use Rattle.l4_core_model.specs.Runs.{Run}
-use Rattle.l4_choices.specs.Entries.{replay_entries}
+use Rattle.l4_core_model.specs.Schedules.{replay_entries}
 use Rattle.l4_expect.specs.Expected.{Expected}
 use Rattle.l4_machine.specs.Outcomes.{Findings, IsOutcomeOf}
 use Rattle.l4_machine.proofs.OneOutcome.{one_outcome}

@@ -33,7 +33,7 @@ use Rattle.l4_jobs.specs.Inputs.{Gives}
 use Rattle.l4_jobs.specs.Jobs.{IsDone, IsDoneOn, IsInLinesFor, IsStatusOf}
 use Rattle.l4_jobs.specs.Outputs.{Output}
 use Rattle.l4_jobs.specs.Runs.{status_of_ending}
-use Rattle.l4_jobs.specs.Searches.{IsAnswerBy, IsDoneBy, IsTraceOut, question_of, wanted_of}
+use Rattle.l4_jobs.specs.Searches.{IsAnswerBy, IsDoneBy, IsTraceOut, question_of, shown_of, wanted_of}
 
 -- Something is expected exactly where a file is named.
 same_some : (name : Option (List ℕ)) (scope : Scope) (gives : Gives) (expected : Option (List Expected)) → IsExpected name scope gives expected →
@@ -116,7 +116,7 @@ stuck_arm search wanted.AnEnding is_any is_whole told status asks is before = su
 
 answer_status : (scheduler : Scheduler) (search : EndingsJob) (m : Machine) (expected : Option (List Expected)) (lines unmet : List ℕ) (status : ℕ) →
     is_some expected ≡ is_some (expected_of (Endings search)) →
-    IsAnswerBy scheduler m (question_of search) search.waits expected lines unmet status → IsStatusOf (Endings search) status
+    IsAnswerBy scheduler m (question_of search) (shown_of search) expected lines unmet status → IsStatusOf (Endings search) status
 answer_status Any search m expected lines unmet status same is =
     stuck_arm search (wanted_of search.wanted) (is_any is.stuck) is.is_stuck_whole is.told_status status refl is.status_is
     (search_status search expected _ _ is.told_status same is.told.status_is)

@@ -39,8 +39,8 @@ abbrev pub part_of : ChartJob → Option (List GlobalId) → Part
 part_of chart threads = record { first = chart.first; last = chart.last; threads = threads }
 
 -- The width of a text in columns. 0 stands for 80.
-abbrev pub width_of : ChartJob → ℕ
-width_of chart = if chart.width == 0 then 80 else chart.width
+abbrev pub text_width : (width : ℕ) → ℕ
+text_width width = if width == 0 then 80 else width
 
 -- The form of a drawing.
 abbrev pub drawing_form : ChartForm → Form
@@ -63,7 +63,7 @@ pub record IsCharted (chart : ChartJob) (m : Machine) (trace lines : List ℕ) (
   pub chosen : chosen_by m chart ≡ Ok threads
   pub steps : List Step
   pub reads : IsTraceOf trace steps
-  pub drawn : IsDrawing (drawing_form chart.form) (width_of chart) (columns_of m threads)
+  pub drawn : IsDrawing (drawing_form chart.form) (text_width chart.width) (columns_of m threads)
       (rows_of m (until_refused (refused_place m steps) (part_of chart threads)) steps) lines
   pub status_is : status ≡ status_of_refused (refused_place m steps)
 

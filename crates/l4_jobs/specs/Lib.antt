@@ -3,6 +3,7 @@ pub mod ChartJobs
 pub mod Expectations
 pub mod Extras
 pub mod FaultLines
+pub mod Inner
 pub mod Inputs
 pub mod Jobs
 pub mod Lints
@@ -10,11 +11,9 @@ pub mod Nexts
 pub mod Objects
 pub mod Outputs
 pub mod Performing
-pub mod Reading
 pub mod Records
 pub mod Refusals
 pub mod Rounds
-pub mod Runners
 pub mod Runs
 pub mod Schedules
 pub mod Searches

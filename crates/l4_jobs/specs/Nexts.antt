@@ -2,7 +2,7 @@
 use Rattle.std.specs.Prelude.{◌≡◌, ◌⊎◌, ℕ, true, Some, None, Ok, List, []}
 use Rattle.std.specs.Option.{option_map}
 use Rattle.l4_model.specs.Machine.{Machine}
-use Rattle.l4_choices.specs.Entries.{Entry, replay_entries}
+use Rattle.l4_core_model.specs.Schedules.{Entry, replay_entries}
 use Rattle.l4_commands.specs.Files.{list_name}
 use Rattle.l4_next.specs.Nexts.{Next, are_spelled, nexts, nexts_fault, nexts_text}
 use Rattle.l4_jobs.specs.Inputs.{Gives, IsRead}

@@ -6,7 +6,7 @@ use Rattle.l4_model.specs.Machine.{Machine}
 use Rattle.l4_model.specs.World.{World}
 use Rattle.l4_model.specs.History.{reached}
 use Rattle.l4_core_model.specs.Runs.{Run as CoreRun}
-use Rattle.l4_choices.specs.Entries.{Entry, replay_entries}
+use Rattle.l4_core_model.specs.Schedules.{Entry, replay_entries}
 use Rattle.l4_types.specs.declared.reports.Ending.{Ending}
 use Rattle.l4_types.specs.declared.reports.Ending.TheVariants.{Quiet, Spent}
 use Rattle.l4_expect.specs.Expected.{Expected}

@@ -3,7 +3,7 @@ use Rattle.std.specs.Prelude.{◌≡◌, ◌⊎◌, ℕ, Option, Some, None, IsS
 use Rattle.std.specs.Option.{option_map}
 use Rattle.l4_model.specs.Machine.{Machine}
 use Rattle.l4_core_model.specs.Runs.{Run as CoreRun}
-use Rattle.l4_choices.specs.Entries.{Entry, replay_entries}
+use Rattle.l4_core_model.specs.Schedules.{Entry, replay_entries}
 use Rattle.l4_machine.specs.Entries.{turns_fault}
 use Rattle.l4_machine.specs.Outcomes.{IsRunFor, in_order}
 use Rattle.l4_machine.specs.declared.outcome.RunFault.{RunFault}

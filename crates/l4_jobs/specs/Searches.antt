@@ -1,11 +1,13 @@
 -- What a search for all endings is asked, what it prints, and its faults.
-use Rattle.std.specs.Prelude.{◌≡◌, ℕ, Bool, Option, None, Some, List, []}
+use Rattle.std.specs.Prelude.{◌≡◌, ℕ, not, Option, None, Some, List, []}
 use Rattle.std.specs.Option.{option_map}
 use Rattle.l4_model.specs.Machine.{Machine}
+use Rattle.l4_chart.specs.declared.whole.TextForm.{TextForm}
 use Rattle.l4_expect.specs.Expected.{Expected}
 use Rattle.l4_questions.specs.Answers.{IsAnswer, IsTraceAnswer}
 use Rattle.l4_questions.specs.Limits.{question_fault}
 use Rattle.l4_questions.specs.Placed.{IsPlacedAnswer}
+use Rattle.l4_questions.specs.declared.beside.Shown.{Shown}
 use Rattle.l4_questions.specs.declared.question.Question.{Question}
 use Rattle.l4_questions.specs.declared.question.QuestionFault.{QuestionFault}
 use Rattle.l4_questions.specs.declared.question.QuestionFault.TheVariants as question
@@ -14,8 +16,10 @@ use Rattle.l4_questions.specs.declared.question.Wanted.TheVariants as wanted
 use Rattle.l4_commands.specs.declared.job.EndingsJob.{EndingsJob}
 use Rattle.l4_commands.specs.declared.job.Scheduler.{Scheduler}
 use Rattle.l4_commands.specs.declared.job.Scheduler.TheVariants.{Any, Placed}
+use Rattle.l4_commands.specs.declared.job.TextChart.{TextChart}
 use Rattle.l4_commands.specs.declared.job.Wanted.{Wanted as Asked}
 use Rattle.l4_commands.specs.declared.job.Wanted.TheVariants as asked
+use Rattle.l4_jobs.specs.ChartJobs.{text_width}
 use Rattle.l4_jobs.specs.FaultLines.{fault_line}
 use Rattle.l4_jobs.specs.Outputs.{Output}
 use Rattle.l4_jobs.specs.declared.fault.Fault.{Fault}
@@ -36,18 +40,29 @@ question_of e = record {
   wanted = wanted_of e.wanted;
 }
 
+-- What is printed of each ending. A chart has 80 columns where the output tells no width.
+
+abbrev pub text_form : TextChart → TextForm
+text_form chart = record {
+  is_ascii = not chart.shows_lines;
+  width = text_width chart.width;
+}
+
+abbrev pub shown_of : EndingsJob → Shown
+shown_of e = record { chart = option_map text_form e.chart; waits = e.waits }
+
 -- The answer is of all histories, or of the runs that processors make.
-abbrev pub IsAnswerBy : Scheduler → Machine → Question → (waits : Bool) →
+abbrev pub IsAnswerBy : Scheduler → Machine → Question → Shown →
     Option (List Expected) → (lines unmet : List ℕ) → (status : ℕ) → Type 0
 IsAnswerBy Any = IsAnswer
 IsAnswerBy Placed = IsPlacedAnswer
 
--- It is printed, and behind each ending who waits for whom, where that is asked for. Each ending
--- that is printed has to meet what is expected.
+-- It is printed, and with each ending a chart and who waits for whom, where these are asked for. Each
+-- ending that is printed has to meet what is expected.
 pub record IsAnswerDone (search : EndingsJob) (m : Machine) (expected : Option (List Expected))
     (o : Output) : Type 0 where
   pub answered :
-      IsAnswerBy search.scheduler m (question_of search) search.waits expected o.lines o.said
+      IsAnswerBy search.scheduler m (question_of search) (shown_of search) expected o.lines o.said
       o.status
   pub unrecorded : o.list ≡ None
 

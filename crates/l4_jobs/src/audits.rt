@@ -1,5 +1,6 @@
 //! The audit of a trace, and the line that it prints.
-ghost use Rattle.std.specs.Prelude.{◌≡◌, ◌⊎◌, ◌++◌, ℕ, List, false, true, length, IfOk, IfErr, Ok, Some};
+ghost use Rattle.std.specs.Prelude.{◌≡◌, ◌⊎◌, ◌++◌, ℕ, List, false, true, length, IfOk, IfErr, Ok};
+ghost use Rattle.std.specs.Prelude.{Some};
 ghost use Rattle.l4_jobs.specs.Audits.{HasPassed, IsAuditDone, IsAudited, IsFaultOfTrace};
 ghost use Rattle.l4_jobs.specs.Audits.{IsPassed, IsRefusedAt, IsRefusedBy, IsTraceFault};
 ghost use Rattle.l4_jobs.specs.Audits.{fault_behind, passed_line, tells_refusals};

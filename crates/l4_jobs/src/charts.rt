@@ -8,7 +8,7 @@ ghost use Rattle.l4_chart.specs.Windows.{until_refused};
 ghost use Rattle.l4_jobs.specs.Audits.{IsFaultOfTrace, IsRefusedAt};
 ghost use Rattle.l4_jobs.specs.ChartJobs.{IsChartDone, IsChartFault, IsCharted, chosen_by};
 ghost use Rattle.l4_jobs.specs.ChartJobs.{drawing_form, fault_of_threads};
-ghost use Rattle.l4_jobs.specs.ChartJobs.{part_of, status_of_refused, width_of};
+ghost use Rattle.l4_jobs.specs.ChartJobs.{part_of, status_of_refused, text_width};
 ghost use Rattle.l4_jobs.specs.Outputs.{output_of};
 ghost use Rattle.l4_jobs.specs.declared.fault.Fault.TheVariants.{NoMemory as OutOfMemory};
 
@@ -60,14 +60,14 @@ fn list_of<'v>(threads: &'v Option<Vec<GlobalId>>) -> Option<&'v [GlobalId]>
     }
 }
 
-// The width of a text in columns.
-fn width_of(chart: &ChartJob<'_>) -> usize
-    ensures { result ≡ width_of chart.now }
+/// The width of a text in columns, where 0 stands for 80.
+pub(crate) fn text_width(width: u64) -> usize
+    ensures { result ≡ text_width width }
 {
-    if chart.width == 0 {
+    if width == 0 {
         DEFAULT_WIDTH
     } else {
-        chart.width as usize
+        width as usize
     }
 }
 
@@ -96,10 +96,16 @@ fn status_of_refused(refused: Option<usize>) -> u8
 
 // A chart in the form and the width that are asked for.
 fn drawing(alloc: Global, chart: &ChartJob<'_>, shown: &Chart<'_>) -> Result<Vec<u8>, NoMemory>
-    ensures { IfOk result (λ drawing. IsDrawing (drawing_form chart.now.form) (width_of chart.now)
-        shown.now.columns.items (map row_of shown.now.rows.items) drawing.items) }
+    ensures { IfOk result (λ drawing. IsDrawing (drawing_form chart.now.form)
+        (text_width chart.now.width) shown.now.columns.items (map row_of shown.now.rows.items)
+        drawing.items) }
 {
-    drawing_of(alloc, shown, drawing_form(chart.form), width_of(chart))
+    drawing_of(
+        alloc,
+        shown,
+        drawing_form(chart.form),
+        text_width(chart.width),
+    )
 }
 
 // What the chart of a history prints, with these threads or all.
@@ -115,7 +121,7 @@ fn history_chart(
     ensures status { IfOk result (λ output.
         output.status ≡ status_of_refused (refused_place machine.now history.now.steps)) }
     ensures lines { IfOk result (λ output.
-        IsDrawing (drawing_form chart.now.form) (width_of chart.now)
+        IsDrawing (drawing_form chart.now.form) (text_width chart.now.width)
         (columns_of machine.now (option_copied threads.entry))
         (rows_of machine.now
         (until_refused (refused_place machine.now history.now.steps)

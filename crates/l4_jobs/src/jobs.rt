@@ -6,10 +6,11 @@ ghost use Rattle.l4_script.specs.Texts.{machine_of_text};
 ghost use Rattle.l4_script.specs.declared.text.fault.TextFaultKind.TheVariants.{NoMemory as NoMemoryKind};
 ghost use Rattle.l4_commands.specs.Files.{second_file_of};
 ghost use Rattle.l4_jobs.specs.Expectations.{scope_of};
-ghost use Rattle.l4_jobs.specs.Jobs.{IsAskedFault, IsDone, IsDoneFor, IsDoneOn, IsFault, IsFaultFor};
+ghost use Rattle.l4_jobs.specs.Jobs.{IsAskedFault, IsDone, IsDoneFor, IsDoneOn, IsFault};
+ghost use Rattle.l4_jobs.specs.Jobs.{IsFaultFor};
 ghost use Rattle.l4_jobs.specs.Jobs.{IsFaultOn, IsFaultyDone, IsInLinesFor, IsTextFault};
 ghost use Rattle.l4_jobs.specs.Outputs.{output_of};
-ghost use Rattle.l4_jobs.specs.Runners.{MakesRuns};
+ghost use Rattle.l4_jobs.specs.Inner.Runners.{MakesRuns};
 ghost use Rattle.l4_jobs.specs.declared.fault.Fault.TheVariants.{NoMemory as OutOfMemory};
 
 use crate::audits::audit_done;

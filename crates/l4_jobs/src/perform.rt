@@ -7,7 +7,8 @@ ghost use Rattle.l4_jobs.specs.Jobs.{IsDone, IsStatusOf};
 ghost use Rattle.l4_jobs.specs.Outputs.{Output, output_of};
 ghost use Rattle.l4_jobs.specs.Performing.{AreOpened, AreUnopened, IsLinesOut, IsOpened};
 ghost use Rattle.l4_jobs.specs.Performing.{IsPerformed, IsPerformedOn, IsSaid, IsTrulyDone};
-ghost use Rattle.l4_jobs.specs.Performing.{IsTrulyDoneOn, IsUnopened, IsWrittenOut, keeps_none, sinks};
+ghost use Rattle.l4_jobs.specs.Performing.{IsTrulyDoneOn, IsUnopened, IsWrittenOut, keeps_none};
+ghost use Rattle.l4_jobs.specs.Performing.{sinks};
 ghost use Rattle.l4_jobs.specs.Streams.{IsWrittenApart};
 
 use crate::done::Done;

@@ -2,7 +2,7 @@
 ghost use Rattle.std.specs.Prelude.{◌≡◌, ◌⊎◌, ◌+◌, ℕ, List, IfOk, IfErr, Ok, take};
 ghost use Rattle.l4_schedules.specs.InFiles.{most_bytes};
 ghost use Rattle.l4_jobs.specs.Inputs.{FailsWith};
-ghost use Rattle.l4_jobs.specs.Reading.{IsReadAs};
+ghost use Rattle.l4_jobs.specs.Inner.Reading.{IsReadAs};
 
 use crate::fault::{Fault, read_fault};
 use crate::streams::Source;

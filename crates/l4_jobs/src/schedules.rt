@@ -1,6 +1,6 @@
 //! The schedule that a job asks for, and what a replay by it comes to.
 ghost use Rattle.std.specs.Prelude.{◌≡◌, ◌⊎◌, ℕ, List, IfOk, IfErr, Ok, Err, None, map};
-ghost use Rattle.l4_choices.specs.Entries.{replay_entries};
+ghost use Rattle.l4_core_model.specs.Schedules.{replay_entries};
 ghost use Rattle.l4_commands.specs.Files.{list_name};
 ghost use Rattle.l4_machine.specs.Entries.{entries_fault, entry_from};
 ghost use Rattle.l4_machine.specs.Outcomes.{IsCompactReplay};

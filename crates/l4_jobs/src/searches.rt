@@ -3,17 +3,19 @@ ghost use Rattle.std.specs.Prelude.{◌≡◌, ◌⊎◌, IfOk, IfErr, Some};
 ghost use Rattle.std.specs.Option.{option_copied};
 ghost use Rattle.l4_jobs.specs.Outputs.{output_of};
 ghost use Rattle.l4_jobs.specs.Searches.{IsAnswerBy, IsAnswerDone, IsSearchDone, IsTraceDone};
-ghost use Rattle.l4_jobs.specs.Searches.{fault_of_search, question_of, wanted_of};
+ghost use Rattle.l4_jobs.specs.Searches.{fault_of_search, question_of, shown_of, text_form, wanted_of};
 ghost use Rattle.l4_jobs.specs.declared.fault.Fault.TheVariants.{NoMemory as OutOfMemory};
 ghost use Rattle.l4_questions.specs.Limits.{question_fault};
 ghost use Rattle.l4_questions.specs.declared.question.QuestionFault.TheVariants.{NoMemory as NoMemoryFor};
 
+use crate::charts::text_width;
 use crate::done::Done;
 use crate::fault::{Fault, line_of};
-use crate::job::{EndingsJob, Scheduler, Wanted as Asked};
+use crate::job::{EndingsJob, Scheduler, TextChart, Wanted as Asked};
+use l4_chart::whole::TextForm;
 use l4_expect::expectations::Expectations;
 use l4_explore::progress::Progress;
-use l4_questions::beside::Beside;
+use l4_questions::beside::{Beside, Shown};
 use l4_questions::question::{Question, QuestionFault, Wanted};
 use l4_questions::{Answer, answer, asked_trace, placed_answer};
 use l4_script::machine::Machine;
@@ -42,6 +44,26 @@ pub(crate) fn question_of<'a>(search: &EndingsJob<'a>) -> Question<'a>
     }
 }
 
+// How a chart is written.
+fn text_form(chart: TextChart) -> TextForm
+    ensures { result ≡ text_form chart }
+{
+    TextForm {
+        is_ascii: !chart.shows_lines,
+        width: text_width(chart.width),
+    }
+}
+
+// What is printed of each ending.
+fn shown_of(search: &EndingsJob<'_>) -> Shown
+    ensures { result ≡ shown_of search.now }
+{
+    Shown {
+        chart: search.chart.map(text_form),
+        waits: search.waits,
+    }
+}
+
 // The answer of all histories, or of the runs that processors make.
 fn answer_by<P: Progress>(
     alloc: Global,
@@ -52,7 +74,7 @@ fn answer_by<P: Progress>(
     progress: &mut P,
 ) -> Result<Answer, QuestionFault>
     ensures ok { IfOk result (λ answer. IsAnswerBy scheduler machine.now question.now
-        beside.entry.waits (option_copied beside.entry.expected) answer.lines.items
+        beside.entry.shown (option_copied beside.entry.expected) answer.lines.items
         answer.unmet.items answer.status) }
     ensures err { IfErr result (λ fault. (fault ≡ NoMemoryFor) ⊎
         (question_fault question.now ≡ Some fault)) }
@@ -78,7 +100,7 @@ fn answer_done<'a, P: Progress>(
 {
     let question = question_of(search);
     let beside = Beside {
-        waits: search.waits,
+        shown: shown_of(search),
         expected,
     };
     let answer = answer_by(

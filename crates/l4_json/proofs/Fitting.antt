@@ -10,7 +10,7 @@ use Rattle.l4_words.specs.Words.{words_in, words_left}
 use Rattle.l4_words.proofs.FirstWord.{has_word}
 use Rattle.l4_json.specs.Objects.{One, member_text}
 use Rattle.l4_json.specs.Rows.{Part, Text, fits, told}
-use Rattle.l4_json.specs.Views.{part_of}
+use Rattle.l4_json.specs.Inner.Views.{part_of}
 use Rattle.l4_json.specs.declared.rows.Part.{Part as RustPart}
 use Rattle.l4_json.specs.declared.rows.Part.TheVariants.{Text as RustText}
 

@@ -14,7 +14,7 @@ use Rattle.l4_model.specs.Words.{Id}
 use Rattle.l4_model.specs.World.{World, opening}
 use Rattle.l4_model.proofs.Chains.{bind_then}
 use Rattle.l4_core_model.proofs.Changed.{run-last}
-use Rattle.l4_audit.specs.Audited.{Audited, IsPlaced}
+use Rattle.l4_audit.specs.Inner.Audited.{Audited, IsPlaced}
 use Rattle.l4_audit.proofs.Auditing.{are_placed}
 use Rattle.l4_trace.specs.Lines.{has_line, words_of}
 use Rattle.l4_words.specs.Threads.{id_word}

@@ -1,6 +1,6 @@
+pub mod Inner
 pub mod Lines
 pub mod Objects
 pub mod Rows
 pub mod Scripts
 pub mod Steps
-pub mod Views

@@ -1,5 +1,6 @@
 //! Lines of JSON, an object each.
-ghost use Rattle.std.specs.Prelude.{◌≡◌, ◌++◌, ◌∷◌, [], OnOk, IfOk, Some, ℕ, List, codes, flat_map, map, option_and_then};
+ghost use Rattle.std.specs.Prelude.{◌≡◌, ◌++◌, ◌∷◌, [], OnOk, IfOk, Some, ℕ, List, codes, flat_map};
+ghost use Rattle.std.specs.Prelude.{map, option_and_then};
 ghost use Rattle.std.specs.Option.{option_copied};
 ghost use Rattle.json.specs.Json.{document};
 ghost use Rattle.json.specs.Print.{quoted};
@@ -7,7 +8,7 @@ ghost use Rattle.l4_words.specs.Words.{words_left};
 ghost use Rattle.l4_json.specs.Lines.{json_text, lines_told, text_of, whole_lines};
 ghost use Rattle.l4_json.specs.Objects.{One, behind_text, member_text, row_text};
 ghost use Rattle.l4_json.specs.Rows.{line_in, told};
-ghost use Rattle.l4_json.specs.Views.{more_of, part_of};
+ghost use Rattle.l4_json.specs.Inner.Views.{more_of, part_of};
 
 use crate::rows::{Part, first_word, row_of};
 use crate::strings::push_quoted;

@@ -3,7 +3,7 @@ ghost use Rattle.std.specs.Prelude.{◌≡◌, ◌∷◌, find, map, unwrap_or};
 ghost use Rattle.std.specs.Option.{option_copied};
 ghost use Rattle.l4_words.specs.Words.{words_in, words_left};
 ghost use Rattle.l4_json.specs.Rows.{fits, is_ended, plain_row, row_of};
-ghost use Rattle.l4_json.specs.Views.{part_of, row_view};
+ghost use Rattle.l4_json.specs.Inner.Views.{part_of, row_view};
 
 use l4_words::lines::split_once;
 

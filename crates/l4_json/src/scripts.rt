@@ -1,5 +1,6 @@
 //! At which lines of a machine text instructions stand.
-ghost use Rattle.std.specs.Prelude.{◌≡◌, ◌+◌, ◌++◌, ◌∷◌, ℕ, List, IfOk, OnOk, map, option_and_then, slice_get};
+ghost use Rattle.std.specs.Prelude.{◌≡◌, ◌+◌, ◌++◌, ◌∷◌, ℕ, List, IfOk, OnOk, map, option_and_then};
+ghost use Rattle.std.specs.Prelude.{slice_get};
 ghost use Rattle.l4_script.specs.Lines.{is_skipped};
 ghost use Rattle.l4_json.specs.Scripts.{EachHasLine, declares_thread, groups, script_lines};
 

@@ -1,5 +1,6 @@
 //! The steps of a history as objects.
-ghost use Rattle.std.specs.Prelude.{◌≡◌, ◌++◌, IfOk, OnOk, codes, decimal, is_some, option_map, true};
+ghost use Rattle.std.specs.Prelude.{◌≡◌, ◌++◌, IfOk, OnOk, codes, decimal, is_some, option_map};
+ghost use Rattle.std.specs.Prelude.{true};
 ghost use Rattle.std.specs.List.{join_with_byte, list_all};
 ghost use Rattle.std.specs.Option.{option_copied};
 ghost use Rattle.l4_model.specs.History.{IsHistory};
@@ -7,7 +8,7 @@ ghost use Rattle.l4_model.specs.Steps.{next};
 ghost use Rattle.l4_model.specs.World.{opening};
 ghost use Rattle.l4_types.specs.StepView.{seen};
 ghost use Rattle.l4_words.specs.Threads.{id_word};
-ghost use Rattle.l4_audit.specs.Audited.{IsPlaced};
+ghost use Rattle.l4_audit.specs.Inner.Audited.{IsPlaced};
 ghost use Rattle.l4_trace.specs.Lines.{has_line, words_of};
 ghost use Rattle.l4_json.specs.Lines.{text_of};
 ghost use Rattle.l4_json.specs.Steps.{behind, destination, runner, step_destination, step_line};

@@ -5,13 +5,13 @@ use Rattle.std.specs.Prelude.{slice_get, ◌⊎◌}
 use Rattle.l4_model.specs.Words.{GlobalId, Id, NilThread, AnyThread, AnyLocalThread, LocalThread, GlobalThread}
 use Rattle.l4_model.specs.Machine.{Machine, Declaration, OrderKind, instruction_at}
 use Rattle.l4_model.specs.World.{World, Thread, Send, Receive, PendingOrder, Message, changed, change, receive_now, unqueued, others_owed, Owed, Name}
-use Rattle.l4_model.specs.Rules.{act}
+use Rattle.l4_model.specs.Rules.{receive_code, send_code, act}
 use Rattle.l4_model.specs.Conditions.{Found, found, found_by, Pending, undecided, instruction}
-use Rattle.l4_model.specs.Steps.{Step, Local, Begin, Queue, Deliver, Wait, SendTimeout, ReceiveTimeout, SendNobody, ReceiveNobody, SendCancel, ReceiveCancel, Drop, Order, Obey, Tick, Retarget, send_of, receive_of, without_send, next}
+use Rattle.l4_model.specs.Steps.{Step, Deliver, Order, Tick, send_of, receive_of, without_send, next, OfThread, OfSend, Runs, Waits, Fails, Obeys, Begun, Queued, Failed, Dropped, Retargeted}
 use Rattle.l4_model.specs.Effects.{runs, begins, waits, fails, decided, refused, receives, delivered, asked, orders, obeyed, turns}
 use Rattle.l4_model.proofs.Chains.{some_is, part-changed}
 use Rattle.l4_model.proofs.Places.{known, known_send, sender_found}
-use Rattle.l4_model.proofs.Inversions.{local_taken, begin_taken, queue_taken, DeliverTaken, deliver_taken, wait_taken, send_timeout_taken, send_nobody_taken, send_cancel_taken, drop_taken, receive_timeout_taken, receive_nobody_taken, receive_cancel_taken, order_taken, ObeyTaken, obey_taken, tick_taken, retarget_taken}
+use Rattle.l4_model.proofs.Inversions.{local_taken, begin_taken, queue_taken, DeliverTaken, deliver_taken, wait_taken, drop_taken, order_taken, ObeyTaken, obey_taken, tick_taken, retarget_taken, send_failed, receive_failed}
 
 -- A fact of a thread, with what is declared of it.
 abbrev pub Fact : Type 1
@@ -111,45 +111,48 @@ obey_each m P w v caller kept k each =
 
 -- Each step keeps the fact.
 pub step_each : (m : Machine) (P : Fact) (w v : World) (step : Step) → IsKept m P → next m w step ≡ Some v → Each m P w → Each m P v
-step_each m P w v (Local id) kept h each =
+step_each m P w v (OfThread Runs id) kept h each =
     let k = local_taken m w v id h in
-    subst (Each m P) k.leads_to (found_each m P w id k.t (runs (instruction k.t)) k.found each (kept.at_run k.t.declared k.t.now))
-step_each m P w v (Begin s) kept h each =
-    let k = begin_taken m w v s h in
-    subst (Each m P) k.leads_to (found_each m P w s.thread k.t (begins k.send) k.found each (kept.at_begin k.t.declared k.t.clock k.t.now k.send k.sends))
-step_each m P w v (Queue s) kept h each = let k = queue_taken m w v s h in subst (Each m P) k.leads_to each
-step_each m P w v (Deliver s receiver shown actual tag words) kept h each =
-    deliver_each m P w v s receiver shown actual tag words kept (deliver_taken m w v s receiver shown actual tag words h) each
-step_each m P w v (Wait id) kept h each =
+    subst (Each m P) k.leads_to
+    (found_each m P w id k.t (runs (instruction k.t)) k.found each (kept.at_run k.t.declared k.t.now))
+step_each m P w v (OfThread Waits id) kept h each =
     let k = wait_taken m w v id h in
-    subst (Each m P) k.leads_to (found_each m P w id k.t (waits k.receive k.t.clock) k.found each (kept.at_wait k.t.declared k.t.clock k.t.now k.receive k.receiving))
-step_each m P w v (SendTimeout s) kept h each =
-    let k = send_timeout_taken m w v s h in
-    subst (Each m P) k.leads_to (sender_each m P w s k.p (refused 2) k.is_undecided each (λ x. kept.at_failure k.p.sender.declared (decided k.p.sender.now) 2 (kept.at_decision k.p.sender.declared k.p.sender.now x)))
-step_each m P w v (SendNobody s) kept h each =
-    let k = send_nobody_taken m w v s h in
-    subst (Each m P) k.leads_to (sender_each m P w s k.p (refused 4) k.is_undecided each (λ x. kept.at_failure k.p.sender.declared (decided k.p.sender.now) 4 (kept.at_decision k.p.sender.declared k.p.sender.now x)))
-step_each m P w v (SendCancel s) kept h each =
-    let k = send_cancel_taken m w v s h in
-    subst (Each m P) k.leads_to (sender_each m P w s k.p (refused 6) k.is_undecided each (λ x. kept.at_failure k.p.sender.declared (decided k.p.sender.now) 6 (kept.at_decision k.p.sender.declared k.p.sender.now x)))
-step_each m P w v (Drop s) kept h each =
+    subst (Each m P) k.leads_to
+    (found_each m P w id k.t (waits k.receive k.t.clock) k.found each
+    (kept.at_wait k.t.declared k.t.clock k.t.now k.receive k.receiving))
+step_each m P w v (OfThread (Fails why) id) kept h each =
+    let k = receive_failed m w v id why h in
+    let code = receive_code why in
+    subst (Each m P) k.leads_to
+    (found_each m P w id k.t (fails code) k.found each (kept.at_failure k.t.declared k.t.now code))
+step_each m P w v (OfThread Obeys id) kept h each = obey_each m P w v id kept (obey_taken m w v id h) each
+step_each m P w v (OfSend Begun s) kept h each =
+    let k = begin_taken m w v s h in
+    subst (Each m P) k.leads_to
+    (found_each m P w s.thread k.t (begins k.send) k.found each
+    (kept.at_begin k.t.declared k.t.clock k.t.now k.send k.sends))
+step_each m P w v (OfSend Queued s) kept h each = subst (Each m P) (queue_taken m w v s h).leads_to each
+step_each m P w v (OfSend (Failed why) s) kept h each =
+    let k = send_failed m w v s why h in
+    let code = send_code why in
+    let from : Found = k.p.sender in
+    subst (Each m P) k.leads_to
+    (sender_each m P w s k.p (refused code) k.is_undecided each
+    (λ x. kept.at_failure from.declared (decided from.now) code (kept.at_decision from.declared from.now x)))
+step_each m P w v (OfSend Dropped s) kept h each =
     let k = drop_taken m w v s h in
-    subst (Each m P) k.leads_to (sender_each m P w s k.p decided k.is_undecided each (kept.at_decision k.p.sender.declared k.p.sender.now))
-step_each m P w v (ReceiveTimeout id) kept h each =
-    let k = receive_timeout_taken m w v id h in
-    subst (Each m P) k.leads_to (found_each m P w id k.t (fails 3) k.found each (kept.at_failure k.t.declared k.t.now 3))
-step_each m P w v (ReceiveNobody id) kept h each =
-    let k = receive_nobody_taken m w v id h in
-    subst (Each m P) k.leads_to (found_each m P w id k.t (fails 5) k.found each (kept.at_failure k.t.declared k.t.now 5))
-step_each m P w v (ReceiveCancel id) kept h each =
-    let k = receive_cancel_taken m w v id h in
-    subst (Each m P) k.leads_to (found_each m P w id k.t (fails 7) k.found each (kept.at_failure k.t.declared k.t.now 7))
-step_each m P w v (Order caller target what) kept h each =
-    let k = order_taken m w v caller target what h in
-    subst (Each m P) k.leads_to (found_each m P w caller k.t (orders k.order) k.found each (kept.at_order k.t.declared k.t.now k.order))
-step_each m P w v (Obey caller) kept h each = obey_each m P w v caller kept (obey_taken m w v caller h) each
-step_each m P w v (Tick cpu clock) kept h each = let k = tick_taken m w v cpu clock h in subst (Each m P) k.leads_to each
-step_each m P w v (Retarget s) kept h each =
+    subst (Each m P) k.leads_to
+    (sender_each m P w s k.p decided k.is_undecided each (kept.at_decision k.p.sender.declared k.p.sender.now))
+step_each m P w v (OfSend Retargeted s) kept h each =
     let k = retarget_taken m w v s h in
     let u : World = record w { owed = others_owed w.owed s } in
-    subst (Each m P) k.leads_to (found_each m P u k.o.originator k.t (turns k.o) k.found each (kept.at_turn k.t.declared k.t.now k.o))
+    subst (Each m P) k.leads_to
+    (found_each m P u k.o.originator k.t (turns k.o) k.found each (kept.at_turn k.t.declared k.t.now k.o))
+step_each m P w v (Deliver s receiver shown actual tag words) kept h each =
+    let k = deliver_taken m w v s receiver shown actual tag words h in
+    deliver_each m P w v s receiver shown actual tag words kept k each
+step_each m P w v (Order caller target what) kept h each =
+    let k = order_taken m w v caller target what h in
+    subst (Each m P) k.leads_to
+    (found_each m P w caller k.t (orders k.order) k.found each (kept.at_order k.t.declared k.t.now k.order))
+step_each m P w v (Tick cpu clock) kept h each = subst (Each m P) (tick_taken m w v cpu clock h).leads_to each

@@ -4,15 +4,15 @@ use Rattle.std.specs.Prelude.{not, is_some, nat_lt, find, filter, slice_index, I
 use Rattle.std.specs.List.{AllByRecursion, list_any, position_or_len}
 use Rattle.std.proofs.lemmas.Bool.{and_parts, lt-ltb, or_from}
 use Rattle.l4_model.specs.Words.{GlobalId, Id, NilThread, AnyThread, AnyLocalThread, LocalThread, GlobalThread, Period, same_id}
-use Rattle.l4_model.specs.Machine.{Machine, Declaration, Instr, Set, Copy, Add, Tag, Vs, Ipc, Ask, Jump, OnErr, End, OrderKind, CancelSend, CancelReceive, CancelBoth, Delete, declaration_of, is_declared, agree, same_space}
+use Rattle.l4_model.specs.Machine.{Machine, Declaration, Instr, Run, Ipc, Ask, End, OrderKind, CancelSend, CancelReceive, CancelBoth, Delete, declaration_of, is_declared, agree, same_space}
 use Rattle.l4_model.specs.World.{World, Owed, Name, PendingOrder, Receive, Context, same_name, one_more, owed_of, opening}
 use Rattle.l4_model.specs.Rules.{act, ipc_act, ask_act, is_admitted, destination, receive_phase, owed_by, Orders, RunsAlone}
 use Rattle.l4_model.specs.Conditions.{Found, found, Pending, undecided}
-use Rattle.l4_model.specs.Steps.{Step, Local, Begin, Queue, Deliver, Wait, SendTimeout, ReceiveTimeout, SendNobody, ReceiveNobody, SendCancel, ReceiveCancel, Drop, Order, Obey, Tick, Retarget, order_of, next}
+use Rattle.l4_model.specs.Steps.{Step, Deliver, Order, Tick, Retarget, order_of, next, OfThread, OfSend, Begun, Queued, Failed, Dropped, Retargeted}
 use Rattle.l4_model.specs.History.{run, reached}
 use Rattle.l4_model.specs.Reached.{ThreadFacts, IsSendOf}
 use Rattle.l4_model.proofs.Chains.{bind_then, some_is}
-use Rattle.l4_model.proofs.Inversions.{local_taken, begin_taken, queue_taken, DeliverTaken, deliver_taken, wait_taken, send_timeout_taken, send_nobody_taken, send_cancel_taken, drop_taken, receive_timeout_taken, receive_nobody_taken, receive_cancel_taken, order_taken, obey_taken, retarget_taken}
+use Rattle.l4_model.proofs.Inversions.{begin_taken, queue_taken, DeliverTaken, deliver_taken, drop_taken, order_taken, retarget_taken, send_failed, thread_found}
 use Rattle.l4_model.proofs.Owed.{OwedEffect, owed_effect, owed_by_is}
 use Rattle.l4_model.proofs.Places.{same_id_is, same_name_is, known, known_send, sender_found, receiver_place, id_of}
 use Rattle.l4_model.proofs.Sound.{AreSound, opening_sound, step_sound}
@@ -90,13 +90,7 @@ act_declared m id now c (Ipc to from send_period receive_period) order h =
   where
     no_order : (o : Option PendingOrder) (order : PendingOrder) → o ≡ None → o ≡ Some order → ⊥
     no_order o order e f = cc
-act_declared m id now c (Set a word) order h = cc
-act_declared m id now c (Copy a b) order h = cc
-act_declared m id now c (Add format a word) order h = cc
-act_declared m id now c (Tag word) order h = cc
-act_declared m id now c (Vs other) order h = cc
-act_declared m id now c (Jump place) order h = cc
-act_declared m id now c (OnErr place) order h = cc
+act_declared m id now c (Run own) order h = cc
 act_declared m id now c End order h = cc
 
 -- The sends of owed retargets are of declared threads.
@@ -167,26 +161,33 @@ delivery_declared m w v s receiver shown actual tag words k sound =
 
 step_declared : (m : Machine) (w v : World) (step : Step) → next m w step ≡ Some v → AreSound m w → AllByRecursion (IsOwedOf m) w.owed →
     AreDeclared m (threads_in step)
-step_declared m w v (Local id) h sound owed = let k = local_taken m w v id h in (found_declared m w id k.t k.found, tt)
-step_declared m w v (Begin s) h sound owed = let k = begin_taken m w v s h in (found_declared m w s.thread k.t k.found, tt)
-step_declared m w v (Queue s) h sound owed = let k = queue_taken m w v s h in (sender_declared m w s k.p k.is_undecided, tt)
+step_declared m w v (OfThread kind id) h sound owed =
+    let k = thread_found m w v kind id h in
+    (found_declared m w id k.0 k.1, tt)
+step_declared m w v (OfSend Begun s) h sound owed =
+    let k = begin_taken m w v s h in
+    (found_declared m w s.thread k.t k.found, tt)
+step_declared m w v (OfSend Queued s) h sound owed =
+    let k = queue_taken m w v s h in
+    (sender_declared m w s k.p k.is_undecided, tt)
+step_declared m w v (OfSend (Failed why) s) h sound owed =
+    let k = send_failed m w v s why h in
+    (sender_declared m w s k.p k.is_undecided, tt)
+step_declared m w v (OfSend Dropped s) h sound owed =
+    let k = drop_taken m w v s h in
+    (sender_declared m w s k.p k.is_undecided, tt)
+step_declared m w v (OfSend Retargeted s) h sound owed =
+    let k = retarget_taken m w v s h in
+    (owed_declared m s w.owed k.o owed k.is_owed, tt)
 step_declared m w v (Deliver s receiver shown actual tag words) h sound owed =
-    delivery_declared m w v s receiver shown actual tag words (deliver_taken m w v s receiver shown actual tag words h) sound
-step_declared m w v (Wait id) h sound owed = let k = wait_taken m w v id h in (found_declared m w id k.t k.found, tt)
-step_declared m w v (SendTimeout s) h sound owed = let k = send_timeout_taken m w v s h in (sender_declared m w s k.p k.is_undecided, tt)
-step_declared m w v (ReceiveTimeout id) h sound owed = let k = receive_timeout_taken m w v id h in (found_declared m w id k.t k.found, tt)
-step_declared m w v (SendNobody s) h sound owed = let k = send_nobody_taken m w v s h in (sender_declared m w s k.p k.is_undecided, tt)
-step_declared m w v (ReceiveNobody id) h sound owed = let k = receive_nobody_taken m w v id h in (found_declared m w id k.t k.found, tt)
-step_declared m w v (SendCancel s) h sound owed = let k = send_cancel_taken m w v s h in (sender_declared m w s k.p k.is_undecided, tt)
-step_declared m w v (ReceiveCancel id) h sound owed = let k = receive_cancel_taken m w v id h in (found_declared m w id k.t k.found, tt)
-step_declared m w v (Drop s) h sound owed = let k = drop_taken m w v s h in (sender_declared m w s k.p k.is_undecided, tt)
+    let k = deliver_taken m w v s receiver shown actual tag words h in
+    delivery_declared m w v s receiver shown actual tag words k sound
 step_declared m w v (Order caller target what) h sound owed =
     let k = order_taken m w v caller target what h in
     let target_is : target ≡ k.order.target = same_id_is target k.order.target (and_parts _ _ k.same_order).0 in
-    (found_declared m w caller k.t k.found, (ap (is_declared m) target_is ∙ act_declared m k.t.declared.id k.t.clock k.t.now.context _ k.order k.ordered, tt))
-step_declared m w v (Obey caller) h sound owed = let k = obey_taken m w v caller h in (found_declared m w caller k.t k.found, tt)
+    let acts = act_declared m k.t.declared.id k.t.clock k.t.now.context _ k.order k.ordered in
+    (found_declared m w caller k.t k.found, (ap (is_declared m) target_is ∙ acts, tt))
 step_declared m w v (Tick cpu clock) h sound owed = tt
-step_declared m w v (Retarget s) h sound owed = let k = retarget_taken m w v s h in (owed_declared m s w.owed k.o owed k.is_owed, tt)
 
 -- A thread that is not declared
 

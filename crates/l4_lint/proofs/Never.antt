@@ -7,7 +7,7 @@ use Rattle.std.proofs.lemmas.Bool.{and_parts, or_from, or_parts, ltb-true, leb-t
 use Rattle.std.proofs.lemmas.List.{length-take}
 use Rattle.std.proofs.lemmas.Slice.Eq.{bytes_eq-Decides}
 use Rattle.l4_model.specs.Words.{Format, GlobalId, Id, NilThread, AnyThread, AnyLocalThread, LocalThread, GlobalThread, same_id, last_register}
-use Rattle.l4_model.specs.Machine.{Machine, Declaration, Instr, Set, Copy, Add, Tag, Vs, Ipc, Ask, Jump, OnErr, End, place_of, instruction_at}
+use Rattle.l4_model.specs.Machine.{Machine, Declaration, Assign, Instr, Run, Tag, Vs, Ipc, Ask, Jump, OnErr, End, place_of, instruction_at}
 use Rattle.l4_model.specs.World.{World, Message, Context, Name, opening}
 use Rattle.l4_model.specs.Rules.{permitted, originator, message_of, register, received_tag, is_cross, bit}
 use Rattle.l4_model.specs.Steps.{Step, Deliver, next}
@@ -16,7 +16,7 @@ use Rattle.l4_model.proofs.Chains.{bind_then, some_is}
 use Rattle.l4_model.proofs.Inversions.{DeliverTaken, deliver_taken}
 use Rattle.l4_model.proofs.Places.{same_id_is, known_send, eqb_same}
 use Rattle.l4_model.proofs.Requests.{message_short}
-use Rattle.l4_script.specs.Canonical.{can_be_written, is_register}
+use Rattle.l4_script.specs.Canonical.{can_be_assigned, can_be_written, is_register}
 use Rattle.l4_lint.specs.Always.{delivers_register, delivers_propagated}
 use Rattle.l4_lint.specs.Doubts.{uses, receives, names_originator, asks_to_propagate}
 use Rattle.l4_lint.proofs.Changes.{Each, step_each, sender_fact}
@@ -82,9 +82,7 @@ abbrev Short : ℕ → Declaration → Message → Type 0
 Short r d message = length message.words < r
 
 uses_allows : (f : Format) (size r : ℕ) (d : Declaration) (i : Instr) → uses r i ≡ false → can_be_written f size i ≡ true → Allows (Below r d) i
-uses_allows f size r d (Set a word) u w = written_above a (and_parts (is_register a) _ w).0
-uses_allows f size r d (Copy a b) u w = written_above a (and_parts (is_register a) _ w).0
-uses_allows f size r d (Add format a word) u w = written_above a (and_parts (is_register a) _ (and_parts _ (is_register a && _) w).1).0
+uses_allows f size r d (Run (Assign a value)) u w = written_above a (and_parts (is_register a) (can_be_assigned f value) w).0
 uses_allows f size r d (Tag word) u w = λ tag actual h. let lt : word % 64 < r = leb-false r (word % 64) u in lt
 uses_allows f size r d (Vs id) u w = λ tag actual h. h
 uses_allows f size r d (Ipc to from send_period receive_period) u w = receives_nothing from u
@@ -143,9 +141,7 @@ is_none (Some x) h = cc
 
 names_allows : (m : Machine) (d : Declaration) (f : Format) (size : ℕ) (i : Instr) → names_originator m d.id i ≡ false → can_be_written f size i ≡ true →
     Allows (Unnamed m d) i
-names_allows m d f size (Set a word) u w = written_above a (and_parts (is_register a) _ w).0
-names_allows m d f size (Copy a b) u w = written_above a (and_parts (is_register a) _ w).0
-names_allows m d f size (Add format a word) u w = written_above a (and_parts (is_register a) _ (and_parts _ (is_register a && _) w).1).0
+names_allows m d f size (Run (Assign a value)) u w = written_above a (and_parts (is_register a) (can_be_assigned f value) w).0
 names_allows m d f size (Tag word) u w = λ tag actual h. h
 names_allows m d f size (Vs id) u w = λ tag actual h. is_none (permitted m d.id id) u
 names_allows m d f size (Ipc to from send_period receive_period) u w = receives_nothing from u

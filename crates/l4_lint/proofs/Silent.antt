@@ -1,10 +1,10 @@
 -- A thread whose script receives nothing: what its tag register and its register ActualSender have is what the script writes there, and
 -- so is what it sends.
 use Rattle.std.proofs.Common.{subst, ◌≡◌, ℕ, zero, suc, ◌<◌, Bool, true, false, Option, Some, None, List, [], ◌∷◌, refl, ap, sym, arith}
-use Rattle.std.specs.Prelude.{◌==◌, slice_index, slice_set, IfSome}
+use Rattle.std.specs.Prelude.{slice_index, slice_set, IfSome}
 use Rattle.std.specs.Option.{option_map}
 use Rattle.l4_model.specs.Words.{GlobalId, Id, NilThread, AnyThread, AnyLocalThread, LocalThread, GlobalThread, Period}
-use Rattle.l4_model.specs.Machine.{Machine, Declaration, Instr, Set, Copy, Add, Tag, Vs, Ipc, Ask, Jump, OnErr, End, OrderKind, CancelSend, CancelReceive, CancelBoth, Delete, instruction_at}
+use Rattle.l4_model.specs.Machine.{Machine, Declaration, Assign, Instr, Run, Tag, Vs, Ipc, Ask, Jump, OnErr, End, OrderKind, CancelSend, CancelReceive, CancelBoth, Delete, instruction_at}
 use Rattle.l4_model.specs.World.{Context, Thread, Message, Send, Receive, Owed, Phase, Ready, Sending, Receiving, Ordering, Ended, Deleted, opening, is_alive, receive_now}
 use Rattle.l4_model.specs.Rules.{act, ipc_act, ask_act, is_admitted, destination, receive_phase, ran, register, message_of}
 use Rattle.l4_model.specs.Steps.{send_of, receive_of}
@@ -16,9 +16,7 @@ use Rattle.l4_lint.proofs.Changes.{Fact, Each, IsKept}
 
 -- OrderKind is asked of an instruction: it receives nothing, writes the tag register as a tag alone, and keeps a fact of both registers.
 abbrev pub Allows : (ℕ → Id → Type 0) → Instr → Type 0
-Allows C (Set a word) = 0 < a
-Allows C (Copy a b) = 0 < a
-Allows C (Add format a word) = 0 < a
+Allows C (Run (Assign a value)) = 0 < a
 Allows C (Tag word) = (tag : ℕ) (actual : Id) → C tag actual → C word actual
 Allows C (Vs id) = (tag : ℕ) (actual : Id) → C tag actual → C tag id
 Allows C (Ipc to from send_period receive_period) = from ≡ NilThread
@@ -54,27 +52,19 @@ first_set P (x ∷ words) word h k = k
 
 ran_keeps : (m : Machine) (d : Declaration) (C : ℕ → Id → Type 0) (M : Message → Type 0) (i : Instr) (c : Context) → IsClosed m d C M → Allows C i →
     C (register c 0) c.actual → C (register (ran i c) 0) (ran i c).actual
-ran_keeps m d C M (Set a word) c closed i h = subst (λ n. C n c.actual) (sym (above_first c.words a word i)) h
-ran_keeps m d C M (Copy a b) c closed i h = subst (λ n. C n c.actual) (sym (above_first c.words a _ i)) h
-ran_keeps m d C M (Add format a word) c closed i h = subst (λ n. C n c.actual) (sym (above_first c.words a _ i)) h
+ran_keeps m d C M (Run (Assign a value)) c closed i h = subst (λ n. C n c.actual) (sym (above_first c.words a _ i)) h
 ran_keeps m d C M (Tag word) c closed i h = first_set (λ n. C n c.actual) c.words word (closed.zero _ _ h) (i _ _ h)
 ran_keeps m d C M (Vs id) c closed i h = i _ _ h
 ran_keeps m d C M (Ipc to from send_period receive_period) c closed i h = first_set (λ n. C n c.actual) c.words 0 (closed.zero _ _ h) (closed.zero _ _ h)
 ran_keeps m d C M (Ask target what) c closed i h = h
 ran_keeps m d C M (Jump place) c closed i h = h
-ran_keeps m d C M (OnErr place) c closed i h = cond_keeps (λ (x : Context). C (register x 0) x.actual) (c.error == 0) _ _ (λ e. h) (λ e. h)
+ran_keeps m d C M (OnErr place) c closed i h = h
 ran_keeps m d C M End c closed i h = h
 
 waits_not_after : (i : Instr) → receive_now (phase_after i) ≡ None
-waits_not_after (Set a word) = refl
-waits_not_after (Copy a b) = refl
-waits_not_after (Add format a word) = refl
-waits_not_after (Tag word) = refl
-waits_not_after (Vs id) = refl
+waits_not_after (Run own) = refl
 waits_not_after (Ipc to from send_period receive_period) = refl
 waits_not_after (Ask target what) = refl
-waits_not_after (Jump place) = refl
-waits_not_after (OnErr place) = refl
 waits_not_after End = refl
 
 -- OrderKind an instruction asks for that receives nothing
@@ -115,13 +105,7 @@ act_calls_nobody m id now c C (Ipc to from send_period receive_period) send i h 
     ipc_calls_nobody m id now c (destination c to) send_period send
     (subst (λ (x : Id). send_of (ipc_act m id now c (destination c to) send_period (receive_phase x receive_period)) ≡ Some send) i h)
 act_calls_nobody m id now c C (Ask target what) send i h = absurd (not_both _ send (ask_sends_nothing m id target what).0 h)
-act_calls_nobody m id now c C (Set a word) send i h = cc
-act_calls_nobody m id now c C (Copy a b) send i h = cc
-act_calls_nobody m id now c C (Add format a word) send i h = cc
-act_calls_nobody m id now c C (Tag word) send i h = cc
-act_calls_nobody m id now c C (Vs other) send i h = cc
-act_calls_nobody m id now c C (Jump place) send i h = cc
-act_calls_nobody m id now c C (OnErr place) send i h = cc
+act_calls_nobody m id now c C (Run own) send i h = cc
 act_calls_nobody m id now c C End send i h = cc
 
 act_waits_not : (m : Machine) (id : GlobalId) (now : ℕ) (c : Context) (C : ℕ → Id → Type 0) (i : Instr) (receive : Receive) → Allows C i →
@@ -130,13 +114,7 @@ act_waits_not m id now c C (Ipc to from send_period receive_period) receive i h 
     not_both _ receive (ipc_waits_not m id now c (destination c to) send_period)
     (subst (λ (x : Id). receive_of (ipc_act m id now c (destination c to) send_period (receive_phase x receive_period)) ≡ Some receive) i h)
 act_waits_not m id now c C (Ask target what) receive i h = not_both _ receive (ask_sends_nothing m id target what).1 h
-act_waits_not m id now c C (Set a word) receive i h = cc
-act_waits_not m id now c C (Copy a b) receive i h = cc
-act_waits_not m id now c C (Add format a word) receive i h = cc
-act_waits_not m id now c C (Tag word) receive i h = cc
-act_waits_not m id now c C (Vs other) receive i h = cc
-act_waits_not m id now c C (Jump place) receive i h = cc
-act_waits_not m id now c C (OnErr place) receive i h = cc
+act_waits_not m id now c C (Run own) receive i h = cc
 act_waits_not m id now c C End receive i h = cc
 
 -- Each change of a thread

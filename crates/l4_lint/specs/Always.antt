@@ -4,7 +4,7 @@ use Rattle.std.specs.Prelude.{ℕ, ◌≡◌, ◌-◌, Bool, false, not, ◌&&�
 use Rattle.std.specs.List.{AllByRecursion, count_by, list_any}
 use Rattle.l4_model.specs.Words.{GlobalId, same_id}
 use Rattle.l4_model.specs.Machine.{Declaration, Machine}
-use Rattle.l4_model.specs.Steps.{Step, Local, Begin, Queue, Deliver, Wait, SendTimeout, ReceiveTimeout, SendNobody, ReceiveNobody, SendCancel, ReceiveCancel, Drop, Order, Obey, Tick, Retarget}
+use Rattle.l4_model.specs.Steps.{Step, Deliver, Order, Tick, OfThread, OfSend}
 use Rattle.l4_model.specs.History.{IsHistory}
 use Rattle.l4_words.specs.Threads.{thread_of}
 use Rattle.l4_script.specs.Numbers.{number_of}
@@ -17,23 +17,12 @@ use Rattle.l4_lint.specs.Reading.{begins_script}
 
 -- The threads that a step names.
 abbrev pub threads_in : Step → List GlobalId
-threads_in (Local t) = t ∷ []
-threads_in (Begin s) = s.thread ∷ []
-threads_in (Queue s) = s.thread ∷ []
+threads_in (OfThread kind t) = t ∷ []
+threads_in (OfSend kind s) = s.thread ∷ []
 threads_in (Deliver s receiver shown actual tag words) =
     s.thread ∷ receiver ∷ shown ∷ actual ∷ []
-threads_in (Wait t) = t ∷ []
-threads_in (SendTimeout s) = s.thread ∷ []
-threads_in (ReceiveTimeout t) = t ∷ []
-threads_in (SendNobody s) = s.thread ∷ []
-threads_in (ReceiveNobody t) = t ∷ []
-threads_in (SendCancel s) = s.thread ∷ []
-threads_in (ReceiveCancel t) = t ∷ []
-threads_in (Drop s) = s.thread ∷ []
 threads_in (Order caller target what) = caller ∷ target ∷ []
-threads_in (Obey caller) = caller ∷ []
 threads_in (Tick cpu clock) = []
-threads_in (Retarget s) = s.thread ∷ []
 
 abbrev pub names_thread : GlobalId → Step → Bool
 names_thread t step = list_any (same_id t) (threads_in step)

@@ -1,6 +1,7 @@
 -- What may stand behind the first word of a line.
-use Rattle.std.specs.Prelude.{ℕ, if◌then◌else◌, Option, Some, None, List, [], ◌∷◌, codes}
+use Rattle.std.specs.Prelude.{ℕ, if◌then◌else◌, Option, Some, None, List, [], ◌∷◌, codes, slice_get}
 use Rattle.std.specs.Str.{bytes_eq}
+use Rattle.l4_model.specs.Options.{◌>>=◌}
 use Rattle.l4_lint.specs.declared.hints.Operand.{Operand}
 use Rattle.l4_lint.specs.declared.hints.Operand.TheVariants as operand
 use Rattle.l4_lint.specs.declared.hints.Lines.{Lines}
@@ -22,6 +23,10 @@ instruction_operands name =
     else (if bytes_eq name (codes "onerr") then Some (operand.Place ∷ [])
     else (if bytes_eq name (codes "end") then Some []
     else None))))))))))
+
+-- None where it has none.
+abbrev pub first_operand : (name : List ℕ) → Option Operand
+first_operand name = instruction_operands name >>= λ operands. slice_get operands 0
 
 abbrev pub thread_operands : List Operand
 thread_operands =

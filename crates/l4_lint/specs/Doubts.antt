@@ -14,6 +14,9 @@ use Rattle.l4_script.specs.declared.text.fault.TextFault.{TextFault}
 use Rattle.l4_lint.specs.declared.doubts.Doubt.{Doubt}
 use Rattle.l4_lint.specs.declared.doubts.Doubt.TheVariants.{NoThread, NoLimit, NotSent, NotPropagated}
 use Rattle.l4_lint.specs.declared.doubts.Mark.{Mark}
+use Rattle.l4_lint.specs.declared.hints.Operand.{Operand}
+use Rattle.l4_lint.specs.declared.hints.Operand.TheVariants as operand
+use Rattle.l4_lint.specs.Commands.{first_operand}
 use Rattle.l4_lint.specs.declared.doubts.Mark.TheVariants.{Always, Perhaps}
 use Rattle.l4_lint.specs.Bytes.{behind, word_of}
 use Rattle.l4_lint.specs.Faults.{faults_of}
@@ -113,9 +116,14 @@ abbrev pub is_one_of_ids : (word : List ℕ) → Bool
 is_one_of_ids word =
     bytes_eq word (codes "exregs") || bytes_eq word (codes "delete") || bytes_eq word (codes "vs")
 
+-- A line that writes a register names it first.
+
+abbrev pub names_register : Option Operand → Bool
+names_register (Some operand.Register) = true
+names_register _ = false
+
 abbrev pub is_write : (word : List ℕ) → Bool
-is_write word =
-    bytes_eq word (codes "set") || bytes_eq word (codes "copy") || bytes_eq word (codes "add")
+is_write word = names_register (first_operand word)
 
 abbrev pub script_doubts : Machine → Option Declaration → (number : ℕ) → (line : List ℕ) →
     List Doubtful

@@ -5,9 +5,9 @@ pub mod Contexts
 pub mod Doubts
 pub mod Faults
 pub mod Forms
+pub mod Inner
 pub mod Judging
 pub mod Places
 pub mod Reading
 pub mod Spelling
-pub mod Views
 pub mod Walks

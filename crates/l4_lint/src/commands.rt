@@ -1,7 +1,8 @@
 //! What may stand behind the first word of a line.
 ghost use Rattle.std.specs.Prelude.{◌≡◌};
 ghost use Rattle.std.specs.Option.{option_copied};
-ghost use Rattle.l4_lint.specs.Commands.{instruction_operands, operands_behind, operands_of};
+ghost use Rattle.l4_lint.specs.Commands.{instruction_operands, first_operand, operands_behind};
+ghost use Rattle.l4_lint.specs.Commands.{operands_of};
 
 use crate::hints::{Lines, Operand};
 
@@ -105,6 +106,13 @@ fn instruction_operands(name: &[u8]) -> Option<&'static [Operand]>
         return Some(NOTHING);
     }
     None
+}
+
+/// The first operand of the instruction of this name. None where it has none.
+pub(crate) fn first_operand(name: &[u8]) -> Option<Operand>
+    ensures { result ≡ first_operand name.now }
+{
+    instruction_operands(name)?.first().copied()
 }
 
 fn operands_behind(

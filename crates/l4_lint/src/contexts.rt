@@ -1,8 +1,8 @@
 //! What the lines before a line say about it.
 ghost use Rattle.std.specs.Prelude.{◌≡◌};
-ghost use Rattle.l4_script.specs.Stages.{stage_of};
+ghost use Rattle.l4_script.specs.Inner.Stages.{stage_of};
 ghost use Rattle.l4_lint.specs.Contexts.{lines_in, context_at};
-ghost use Rattle.l4_lint.specs.Views.{context_of};
+ghost use Rattle.l4_lint.specs.Inner.Views.{context_of};
 
 use crate::hints::Lines;
 use l4_script::text::Stage;

@@ -3,7 +3,7 @@ ghost use Rattle.std.specs.Prelude.{ℕ, List, ◌≡◌, ◌≤◌, ◌++◌, l
 ghost use Rattle.std.specs.List.{list_any};
 ghost use Rattle.std.specs.Option.{option_copied};
 ghost use Rattle.std.specs.Str.{bytes_eq};
-ghost use Rattle.l4_script.specs.Scripts.{instr_of};
+ghost use Rattle.l4_script.specs.Inner.Scripts.{instr_of};
 ghost use Rattle.l4_script.specs.Numbers.{time_from};
 ghost use Rattle.l4_script.specs.Texts.{machine_of_text};
 ghost use Rattle.l4_lint.specs.Always.{AreAlwaysSo};
@@ -15,9 +15,11 @@ ghost use Rattle.l4_lint.specs.Doubts.{line_doubts, mark_word, marked, names_ori
 ghost use Rattle.l4_lint.specs.Doubts.{receives};
 ghost use Rattle.l4_lint.specs.Doubts.{script_doubts, tag_doubts, thread_after, uses, write_doubts};
 ghost use Rattle.l4_lint.specs.Reading.{begins_script};
-ghost use Rattle.l4_lint.specs.Views.{doubtful_of};
+ghost use Rattle.l4_lint.specs.Inner.Views.{doubtful_of};
 
 use crate::bytes::split_word;
+use crate::commands::first_operand;
+use crate::hints::Operand;
 use crate::spelling::push_place;
 use l4_script::instructions::Instr;
 use l4_script::machine::{Declaration, Machine};
@@ -302,7 +304,7 @@ fn is_one_of_ids(word: &[u8]) -> bool
 fn is_write(word: &[u8]) -> bool
     ensures { result ≡ is_write word.now }
 {
-    is(word, b"set") || is(word, b"copy") || is(word, b"add")
+    matches!(first_operand(word), Some(Operand::Register))
 }
 
 // Appends the doubts of a line of a script.

@@ -4,7 +4,7 @@ ghost use Rattle.std.specs.Option.{option_copied};
 ghost use Rattle.l4_lint.specs.Forms.{first_hint, surplus_hint, keywords_place, counted_place};
 ghost use Rattle.l4_lint.specs.Forms.{words_place, spaced_place, form_place, walked_place};
 ghost use Rattle.l4_lint.specs.Forms.{operands_place, line_place};
-ghost use Rattle.l4_lint.specs.Views.{context_of, place_of, walked_of};
+ghost use Rattle.l4_lint.specs.Inner.Views.{context_of, place_of, walked_of};
 
 use crate::bytes::{bad_byte, byte_hint, clear, split_word};
 use crate::commands::operands_of;

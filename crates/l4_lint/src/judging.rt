@@ -1,10 +1,10 @@
 //! Whether a word is right in its place.
 ghost use Rattle.std.specs.Prelude.{◌≡◌, is_some};
-ghost use Rattle.l4_types.specs.FormatView.{format_of};
+ghost use Rattle.l4_types.specs.Inner.FormatView.{format_of};
 ghost use Rattle.l4_script.specs.Numbers.{number_of, word_from};
 ghost use Rattle.l4_lint.specs.Judging.{is_one_of, is_untyped, is_right, is_keyword, is_threadless};
 ghost use Rattle.l4_lint.specs.Judging.{has_no_thread, id_hint, operand_hint};
-ghost use Rattle.l4_lint.specs.Views.{context_of};
+ghost use Rattle.l4_lint.specs.Inner.Views.{context_of};
 
 use crate::bytes::split_at_byte;
 use crate::contexts::Context;

@@ -3,7 +3,7 @@ ghost use Rattle.std.specs.Prelude.{◌≡◌, ◌≤◌, ◌-◌, ◌++◌, All
 ghost use Rattle.l4_words.specs.Lines.{parts_of};
 ghost use Rattle.l4_script.specs.Texts.{is_missed};
 ghost use Rattle.l4_lint.specs.Faults.{line_at, missed_fault};
-ghost use Rattle.l4_lint.specs.Views.{fault_of};
+ghost use Rattle.l4_lint.specs.Inner.Views.{fault_of};
 
 use crate::bytes::split_word;
 use crate::faults::{Fault, keep, next_line};

@@ -1,7 +1,7 @@
 //! A place in a line.
 ghost use Rattle.std.specs.Prelude.{◌≡◌, ◌≤◌, length};
 ghost use Rattle.l4_lint.specs.Places.{placed, place_at};
-ghost use Rattle.l4_lint.specs.Views.{place_of};
+ghost use Rattle.l4_lint.specs.Inner.Views.{place_of};
 
 use crate::bytes::split_word;
 use crate::hints::Hint;

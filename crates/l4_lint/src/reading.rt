@@ -1,14 +1,14 @@
 //! How far a text has been read.
 ghost use Rattle.std.specs.Prelude.{◌≡◌, ◌≢◌, false, IfErr, OnErr, OnOk};
-ghost use Rattle.l4_types.specs.FormatView.{format_of};
+ghost use Rattle.l4_types.specs.Inner.FormatView.{format_of};
 ghost use Rattle.l4_script.specs.Judged.{Leads};
-ghost use Rattle.l4_script.specs.Stages.{stage_of};
+ghost use Rattle.l4_script.specs.Inner.Stages.{stage_of};
 ghost use Rattle.l4_script.specs.Texts.{Start};
 ghost use Rattle.l4_script.specs.declared.text.fault.TextFaultKind.TheVariants as kinds;
 ghost use Rattle.l4_lint.specs.Contexts.{context_at};
 ghost use Rattle.l4_lint.specs.Reading.{reader, goes_on, begins_script, instruction_form};
 ghost use Rattle.l4_lint.specs.Reading.{lost_form, is_lost, judged, led_on, left_out};
-ghost use Rattle.l4_lint.specs.Views.{context_of, reader_of};
+ghost use Rattle.l4_lint.specs.Inner.Views.{context_of, reader_of};
 
 use crate::bytes::split_word;
 use crate::commands::THREAD;

@@ -3,7 +3,7 @@ ghost use Rattle.std.specs.Prelude.{◌≡◌, ◌++◌, codes, decimal, flat_ma
 ghost use Rattle.std.specs.Char.Escape.{escape_ascii};
 ghost use Rattle.l4_lint.specs.Spelling.{kind_word, operand_text, lines_text, hint_text};
 ghost use Rattle.l4_lint.specs.Spelling.{shown_word, place_text, fault_line, faults_text};
-ghost use Rattle.l4_lint.specs.Views.{fault_of};
+ghost use Rattle.l4_lint.specs.Inner.Views.{fault_of};
 
 use crate::faults::Fault;
 use crate::hints::{Hint, Lines, Operand};

@@ -1,7 +1,7 @@
 //! The operands of a line from left to right.
 ghost use Rattle.std.specs.Prelude.{◌≡◌, ◌≤◌, length};
 ghost use Rattle.l4_lint.specs.Walks.{passes, walk};
-ghost use Rattle.l4_lint.specs.Views.{context_of, walked_of};
+ghost use Rattle.l4_lint.specs.Inner.Views.{context_of, walked_of};
 
 use crate::bytes::split_word;
 use crate::contexts::Context;

@@ -18,7 +18,7 @@ use Rattle.l4_core_model.specs.Mail.{handle}
 use Rattle.l4_core_model.specs.Runs.{System, letters, taken, Action, Handles, Turns, Ticks, Happened, Event, done, happens, Run, then_event, core_run, opening_run, is_empty, IsMachine}
 use Rattle.l4_core_model.specs.Schedules.{first_poster, turn_of, next_turn, or_stays, attempts}
 use Rattle.l4_core_model.specs.Laws.{IsCoreRun}
-use Rattle.l4_split.specs.Laws.{IsLawfulRun}
+use Rattle.l4_refines.specs.Laws.{IsLawfulRun}
 use Rattle.l4_merge.specs.Transitions.{LocalEvent, Handled, Turned, Ticked, work_of}
 use Rattle.l4_merge.proofs.CoreRuns.{core_run-append}
 use Rattle.l4_merge.proofs.Destinations.{letters_go_elsewhere}

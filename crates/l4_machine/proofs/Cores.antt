@@ -24,13 +24,13 @@ use Rattle.l4_mail.specs.Ports.{AreWhole}
 use Rattle.l4_proc.specs.Rests.{HaveHandledAll}
 use Rattle.l4_proc.specs.declared.processor.Processor.{Processor}
 use Rattle.l4_proc.proofs.Rested.{port_of}
-use Rattle.l4_split.specs.Laws.{AreAllHandled, destination_of, home_report, home_thread, home_waiting, thread_of}
+use Rattle.l4_refines.specs.Laws.{AreAllHandled, destination_of, home_report, home_thread, home_waiting, thread_of}
 use Rattle.l4_machine.specs.declared.station.Station as program
 use Rattle.l4_machine.specs.Stations.{Station, station_of}
 use Rattle.l4_machine.specs.UnderWay.{HaveNoMail, IsSystem, letters_at}
 use Rattle.l4_machine.specs.Gathers.{core_of, past_of, pasts_of, with_number, AreOfOne, HaveNumbers}
 use Rattle.l4_machine.specs.declared.homes.OwnerView.{OwnerView}
-use Rattle.l4_machine.specs.Homes.{last_send, locals_of, sent_to, sent_waiting, AreAllOf, IsAtHome}
+use Rattle.l4_machine.specs.Inner.Homes.{last_send, locals_of, sent_to, sent_waiting, AreAllOf, IsAtHome}
 use Rattle.l4_machine.proofs.InOneHand.{all_handled_between, found, nothing_left}
 
 -- Of processors in one hand

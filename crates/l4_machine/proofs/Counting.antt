@@ -6,7 +6,7 @@ use Rattle.l4_proc.specs.Logs.{all_steps, events}
 use Rattle.l4_proc.specs.Working.{turns_of, HaveWorkedOn}
 use Rattle.l4_proc.specs.declared.processor.Processor.{Processor}
 use Rattle.l4_proc.proofs.Ends.{as_many}
-use Rattle.l4_machine.specs.Teams.{pasts, count_events}
+use Rattle.l4_machine.specs.Inner.Teams.{pasts, count_events}
 
 abbrev pub events_in : Processor → ℕ
 events_in p = length (events p.worker.log)

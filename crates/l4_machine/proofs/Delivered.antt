@@ -12,7 +12,7 @@ use Rattle.l4_proc.specs.Logs.{events}
 use Rattle.l4_proc.specs.declared.worker.Worker.{Worker}
 use Rattle.l4_machine.specs.declared.inbox.Inbox.{Inbox}
 use Rattle.l4_machine.specs.declared.station.Station as program
-use Rattle.l4_machine.specs.Inboxes.{letters_in}
+use Rattle.l4_machine.specs.Inner.Inboxes.{letters_in}
 use Rattle.l4_machine.specs.Stations.{Station, events_at, letters_out, station_of, with_letter, IsSameStation}
 use Rattle.l4_machine.specs.UnderWay.{letters_of, with_letters, CanPost, HasDelivered, HasDeliveredOne}
 use Rattle.l4_machine.proofs.Posting.{post_more, IsPosted}

@@ -20,10 +20,10 @@ use Rattle.l4_model.proofs.Chains.{bind_then}
 use Rattle.l4_model.proofs.Places.{one_place, same_name_refl}
 use Rattle.l4_core_model.specs.Runs.{Event, is_earlier, put_event, merged, told}
 use Rattle.l4_proc.specs.declared.processor.Processor.{Processor}
-use Rattle.l4_machine.specs.EventsLeft.{all_left, left}
-use Rattle.l4_machine.specs.Homes.{sent_to, sent_waiting}
-use Rattle.l4_machine.specs.Rising.{RiseFrom}
-use Rattle.l4_machine.specs.Waiting.{all_at_end, at_end, count_sought, count_undecided, AreBegunOnce, ArePassed, IsSilent}
+use Rattle.l4_machine.specs.Inner.EventsLeft.{all_left, left}
+use Rattle.l4_machine.specs.Inner.Homes.{sent_to, sent_waiting}
+use Rattle.l4_machine.specs.Inner.Rising.{RiseFrom}
+use Rattle.l4_machine.specs.Inner.Waiting.{all_at_end, at_end, count_sought, count_undecided, AreBegunOnce, ArePassed, IsSilent}
 use Rattle.l4_machine.specs.declared.homes.LastSend.{LastSend}
 use Rattle.l4_machine.specs.declared.unmerged.Unmerged.{Unmerged}
 use Rattle.l4_machine.proofs.EventsLeft.{joined, all_joined, one_less as one_less_left}

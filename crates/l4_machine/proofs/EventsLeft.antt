@@ -22,8 +22,8 @@ use Rattle.l4_merge.specs.LocalTraces.{all_events}
 use Rattle.l4_proc.specs.Logs.{events}
 use Rattle.l4_proc.specs.declared.processor.Processor.{Processor}
 use Rattle.l4_machine.specs.Gathers.{with_number, events_of, pasts_of, AreOfOne, IsMerge, IsOneOf}
-use Rattle.l4_machine.specs.EventsLeft.{all_left, first_stamp, least_place, left, lower, HasTakenFirst, IsUnmerged}
-use Rattle.l4_machine.specs.Rising.{AreRising, RiseFrom}
+use Rattle.l4_machine.specs.Inner.EventsLeft.{all_left, first_stamp, least_place, left, lower, HasTakenFirst, IsUnmerged}
+use Rattle.l4_machine.specs.Inner.Rising.{AreRising, RiseFrom}
 use Rattle.l4_machine.specs.declared.unmerged.Unmerged.{Unmerged}
 use Rattle.l4_machine.proofs.InOneHand.{found}
 use Rattle.l4_machine.proofs.Rising.{merged_sorted}

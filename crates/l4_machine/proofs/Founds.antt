@@ -16,7 +16,7 @@ use Rattle.l4_proc.proofs.Rested.{port_of}
 use Rattle.l4_machine.specs.Outcomes.{Findings, IsFoundFor, IsOutcomeOf, in_order}
 use Rattle.l4_machine.specs.Gathers.{AreResting}
 use Rattle.l4_machine.specs.Gathered.{IsGathered}
-use Rattle.l4_machine.specs.Teams.{pasts, count_events, AreInOrder, HaveCome}
+use Rattle.l4_machine.specs.Inner.Teams.{pasts, count_events, AreInOrder, HaveCome}
 use Rattle.l4_machine.proofs.InOneHand.{rests, whole_pasts}
 use Rattle.l4_machine.proofs.Rising.{merged_sorted}
 use Rattle.l4_machine.proofs.Members.{in_order_have_numbers, pasts_are}

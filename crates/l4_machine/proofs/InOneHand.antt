@@ -28,7 +28,7 @@ use Rattle.l4_proc.specs.Rests.{AreAsBefore, HaveHandledAll}
 use Rattle.l4_proc.specs.declared.worker.Worker.{Worker}
 use Rattle.l4_proc.specs.Whole.{hand_from, handled_from}
 use Rattle.l4_mail.proofs.Growing.{set_case}
-use Rattle.l4_proc.specs.Assembled.{AreAssembled}
+use Rattle.l4_proc.specs.Inner.Assembled.{AreAssembled}
 use Rattle.l4_proc.specs.Working.{past, HasGoneOn}
 use Rattle.l4_proc.specs.declared.processor.Processor.{Processor}
 use Rattle.l4_proc.proofs.Rested.{port_of, posted_is, handled_begins, all_is_handled, one_of_set, IsSame, same_at}

@@ -11,7 +11,7 @@ use Rattle.l4_model.proofs.Chains.{set_changed}
 use Rattle.l4_core_model.specs.Letters.{Letter}
 use Rattle.l4_core_model.specs.Runs.{is_empty}
 use Rattle.l4_core_model.proofs.Changed.{get-changed}
-use Rattle.l4_machine.specs.Posters.{mark, IsFirstFilled, MarksPosters}
+use Rattle.l4_machine.specs.Inner.Posters.{mark, IsFirstFilled, MarksPosters}
 
 -- What is read of a queue.
 pub queue_read : (qs : List (List Letter)) (i : ℕ) (old : List Letter) → i < length qs → old ≡ get_or qs i old → get_or qs i [] ≡ old

@@ -17,7 +17,7 @@ use Rattle.l4_core_model.specs.Local.{Local, opening_local}
 use Rattle.l4_core_model.specs.Mail.{handle}
 use Rattle.l4_core_model.specs.Turns.{turn, advance}
 use Rattle.l4_core_model.specs.Runs.{Posted, System, is_between, letters, without_first, posted, taken, Action, Handles, Turns, Ticks, Happened, done, happens, Run, core_run, then_event, opening_run}
-use Rattle.l4_choices.specs.Entries.{entry_of}
+use Rattle.l4_bisimilar.specs.Entries.{entry_of}
 use Rattle.l4_merge.proofs.Lists.{all-append}
 use Rattle.l4_machine.specs.Entries.{first_stranger, fault_of, is_entry}
 

@@ -3,7 +3,7 @@ use Rattle.std.proofs.Common.{◌≡◌, ℕ, ◌+◌, ◌-◌, ◌≤◌, List,
 use Rattle.std.proofs.lemmas.List.{drop-append-le, length-append, length-drop}
 use Rattle.l4_core_model.specs.Letters.{Letter}
 use Rattle.l4_types.specs.declared.letters.LetterHead.{LetterHead}
-use Rattle.l4_types.specs.LetterHeads.{letter_with, letters_in, word_count, words_by}
+use Rattle.l4_types.specs.Inner.LetterHeads.{letter_with, letters_in, word_count, words_by}
 use Rattle.l4_types.proofs.LetterRows.{by-push, words-push}
 
 abbrev own : LetterHead → LetterHead

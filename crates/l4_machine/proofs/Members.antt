@@ -10,14 +10,14 @@ use Rattle.l4_model.specs.Machine.{Machine}
 use Rattle.l4_model.proofs.Chains.{some_is}
 use Rattle.l4_mail.specs.Ports.{fabric_size, AreOneFabric}
 use Rattle.l4_mail.specs.Rests.{has_number, have_numbers, have_size, are_all}
-use Rattle.l4_proc.specs.Assembled.{AreAssembled}
+use Rattle.l4_proc.specs.Inner.Assembled.{AreAssembled}
 use Rattle.l4_proc.specs.Rests.{AreAsBefore}
 use Rattle.l4_proc.specs.Working.{past, HasGoneOn}
 use Rattle.l4_proc.specs.declared.worker.Worker.{Worker}
 use Rattle.l4_proc.specs.declared.processor.Processor.{Processor}
 use Rattle.l4_proc.proofs.Rested.{port_of, same_at}
 use Rattle.l4_machine.specs.Gathers.{with_number, past_of, pasts_of, HaveNumbers}
-use Rattle.l4_machine.specs.Teams.{pasts, AreInOrder}
+use Rattle.l4_machine.specs.Inner.Teams.{pasts, AreInOrder}
 use Rattle.l4_machine.proofs.InOneHand.{numbered, assembled, all_same, gone_on}
 
 pub some_there : {A : Type 0} (xs : List A) (i : ℕ) → i < length xs → (x : A) × (slice_get xs i ≡ Some x)

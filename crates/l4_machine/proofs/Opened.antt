@@ -13,13 +13,13 @@ use Rattle.l4_merge.specs.LocalTraces.{LocalTrace, posted_in, handled_in, letter
 use Rattle.l4_merge.specs.Merges.{EndsAt}
 use Rattle.l4_merge.proofs.InRounds.{opening_in_rounds, is_core_run}
 use Rattle.l4_mail.specs.Ports.{AreOneFabric}
-use Rattle.l4_proc.specs.Assembled.{AreAssembled}
+use Rattle.l4_proc.specs.Inner.Assembled.{AreAssembled}
 use Rattle.l4_proc.specs.Rests.{AreAsBefore}
 use Rattle.l4_proc.specs.Working.{past}
 use Rattle.l4_proc.specs.declared.worker.Worker.{Worker}
 use Rattle.l4_proc.specs.declared.processor.Processor.{Processor}
 use Rattle.l4_proc.proofs.Rested.{port_of, same_at, same_pasts}
-use Rattle.l4_machine.specs.Teams.{pasts, count_events, HaveCome}
+use Rattle.l4_machine.specs.Inner.Teams.{pasts, count_events, HaveCome}
 use Rattle.l4_machine.proofs.InOneHand.{none_handled}
 use Rattle.l4_machine.proofs.Members.{some_there, mapped_range, assembled_in_order, in_order_same}
 use Rattle.l4_machine.proofs.Turned.{past_at, count_same}

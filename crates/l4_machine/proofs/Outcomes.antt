@@ -10,7 +10,7 @@ use Rattle.l4_model.specs.Steps.{Step}
 use Rattle.l4_model.specs.Laws.{IsLawful}
 use Rattle.l4_core_model.specs.Local.{Local}
 use Rattle.l4_core_model.specs.Runs.{Run, told, at_rest}
-use Rattle.l4_split.specs.Laws.{AreAllHandled, IsLawfulRun, IsToldAtHome, IsUndeleted, home_reports, home_waiting}
+use Rattle.l4_refines.specs.Laws.{AreAllHandled, IsLawfulRun, IsToldAtHome, IsUndeleted, home_reports, home_waiting}
 use Rattle.l4_types.specs.declared.reports.Ending.TheVariants.{Quiet}
 use Rattle.l4_types.specs.ReportView.{report_of_view}
 use Rattle.l4_machine.specs.declared.outcome.CompactOutcome.{CompactOutcome}

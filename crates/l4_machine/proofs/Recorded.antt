@@ -8,8 +8,9 @@ use Rattle.std.proofs.lemmas.Option.{slice_get-get_or, slice_get_within, get_or_
 use Rattle.l4_model.specs.Machine.{Machine}
 use Rattle.l4_model.proofs.Chains.{get-map, set_changed, some_is}
 use Rattle.l4_core_model.specs.Runs.{Event, Action, merged, opening_run, processors}
-use Rattle.l4_choices.specs.Entries.{Entry, entry_of, replay_entries}
-use Rattle.l4_choices.proofs.Replayed.{replayed}
+use Rattle.l4_core_model.specs.Schedules.{Entry, replay_entries}
+use Rattle.l4_bisimilar.specs.Entries.{entry_of}
+use Rattle.l4_bisimilar.proofs.Replayed.{replayed}
 use Rattle.l4_merge.specs.LocalTraces.{LocalTrace, all_events}
 use Rattle.l4_merge.proofs.Sorted.{length-merged}
 use Rattle.l4_merge.specs.Recorded.{then_others, actions_in, recorded}
@@ -19,15 +20,15 @@ use Rattle.l4_proc.specs.declared.log.Log.{Log}
 use Rattle.l4_proc.specs.declared.processor.Processor.{Processor}
 use Rattle.l4_proc.proofs.Ends.{as_many}
 use Rattle.l4_machine.specs.Entries.{entries_fault, most_events}
-use Rattle.l4_machine.specs.Teams.{count_events, AreInOrder}
+use Rattle.l4_machine.specs.Inner.Teams.{count_events, AreInOrder}
 use Rattle.l4_machine.proofs.Lawful.{no_strangers}
 use Rattle.l4_machine.proofs.Members.{pasts_are}
-use Rattle.l4_machine.specs.EventsLeft.{all_left, least_place, left, IsUnmerged}
+use Rattle.l4_machine.specs.Inner.EventsLeft.{all_left, least_place, left, IsUnmerged}
 use Rattle.l4_machine.specs.Gathered.{IsGathered}
 use Rattle.l4_machine.specs.Gathers.{events_of, past_of, pasts_of, with_number}
 use Rattle.l4_machine.specs.Outcomes.{Findings, IsOutcomeOf}
-use Rattle.l4_machine.specs.Recorded.{entries_left, happened_left, actions_of, recorded_entries, HasTakenEntry}
-use Rattle.l4_machine.specs.Rising.{AreRising, HaveRisingLogs, RiseFrom}
+use Rattle.l4_machine.specs.Inner.Recorded.{entries_left, happened_left, actions_of, recorded_entries, HasTakenEntry}
+use Rattle.l4_machine.specs.Inner.Rising.{AreRising, HaveRisingLogs, RiseFrom}
 use Rattle.l4_machine.specs.declared.unmerged.Unmerged.{Unmerged}
 use Rattle.l4_machine.proofs.EventsLeft.{all_joined, all_left_are, already_merged, at_place, chosen, joined, taken}
 

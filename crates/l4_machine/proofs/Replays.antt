@@ -8,13 +8,11 @@ use Rattle.std.proofs.lemmas.List.{length-map}
 use Rattle.l4_model.specs.Machine.{Machine}
 use Rattle.l4_model.specs.Conditions.{◌>>=◌}
 use Rattle.l4_core_model.specs.Runs.{Event, Action, Happened, happens, Run, opening_run}
-use Rattle.l4_core_model.specs.Schedules.{attempts, entry_of, or_stays, replay}
-use Rattle.l4_choices.specs.Entries.{Entry, entry_event, replays, replay_entries, widened}
-use Rattle.l4_choices.proofs.Widened.{widened_replays}
+use Rattle.l4_core_model.specs.Schedules.{attempts, numbered, or_stays, replay, Entry, entry_event, replays, replay_entries}
 use Rattle.l4_machine.specs.declared.entries.Entry as code
 use Rattle.l4_machine.specs.declared.outcome.RunFault.TheVariants.{Turns, Schedule}
 use Rattle.l4_machine.specs.declared.station.Choice.{Choice}
-use Rattle.l4_machine.specs.Entries.{after_entry, entries_fault, entry_from, is_entry, first_stranger, most_events, numbered, processor_of}
+use Rattle.l4_machine.specs.Entries.{after_entry, entries_fault, entry_from, is_entry, first_stranger, most_events, processor_of}
 use Rattle.l4_machine.specs.UnderWay.{UnderWay, IsRun, GoesOn}
 use Rattle.l4_machine.specs.Stations.{action}
 
@@ -126,12 +124,6 @@ on_ok (Err e) P Q f h = h
 
 -- A schedule of numbers.
 
-numbered_widened : (schedule : List ℕ) → map numbered schedule ≡ map widened (map entry_of schedule)
-numbered_widened [] = refl
-numbered_widened (n ∷ ns) = ap (λ es. numbered n ∷ es) (numbered_widened ns)
-
 pub numbers_replayed : (m : Machine) (schedule : List ℕ) (entries : List Entry) → entries ≡ map numbered schedule →
     replay_entries m entries ≡ replay m schedule
-numbers_replayed m schedule entries same =
-    ap (replay_entries m) (same ∙ numbered_widened schedule)
-    ∙ widened_replays m (map entry_of schedule) (opening_run m)
+numbers_replayed m schedule entries same = ap (replay_entries m) same

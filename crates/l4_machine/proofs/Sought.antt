@@ -13,9 +13,9 @@ use Rattle.l4_history.proofs.Read.{take_next}
 use Rattle.l4_merge.proofs.EventOrder.{earlier_flip, earlier_by_cpu, earlier_than_rest, stamps_rise}
 use Rattle.l4_proc.specs.declared.processor.Processor.{Processor}
 use Rattle.l4_machine.specs.Gathers.{events_of}
-use Rattle.l4_machine.specs.EventsLeft.{all_left, least_place, left, IsUnmerged}
-use Rattle.l4_machine.specs.Rising.{AreRising, RiseFrom}
-use Rattle.l4_machine.specs.Waiting.{HasFoundFirst, HasPassed, IsSilent}
+use Rattle.l4_machine.specs.Inner.EventsLeft.{all_left, least_place, left, IsUnmerged}
+use Rattle.l4_machine.specs.Inner.Rising.{AreRising, RiseFrom}
+use Rattle.l4_machine.specs.Inner.Waiting.{HasFoundFirst, HasPassed, IsSilent}
 use Rattle.l4_machine.specs.declared.unmerged.Unmerged.{Unmerged}
 use Rattle.l4_machine.proofs.EventsLeft.{joined, all_joined, all-set, at_place, chosen, one_less, rise_on, shorter}
 

@@ -9,17 +9,17 @@ use Rattle.l4_core_model.specs.Runs.{is_empty, Event}
 use Rattle.l4_core_model.specs.Turns.{can_stamp, turn}
 use Rattle.l4_merge.specs.Transitions.{work_of}
 use Rattle.l4_core.specs.Processor.{Processor}
-use Rattle.l4_core.specs.Turning.{work}
+use Rattle.l4_core.specs.Inner.Turning.{work}
 use Rattle.l4_proc.specs.declared.stops.Stop.TheVariants as stop
 use Rattle.l4_proc.specs.declared.worker.Worker.{Worker}
-use Rattle.l4_proc.specs.Events.{event_in_hand, stamp_in_hand, HasNone}
+use Rattle.l4_proc.specs.Inner.Events.{event_in_hand, stamp_in_hand, HasNone}
 use Rattle.l4_proc.specs.Logs.{events, HasBegun, IsClosed}
 use Rattle.l4_proc.specs.Working.{with_in_hand, HasTakenTurn, HasTickedTo, IsSameWorker}
 use Rattle.l4_proc.proofs.Logging.{begun_closed, begun_events, logged, same_closed, same_events, IsLogged}
 use Rattle.l4_machine.specs.declared.station.Station as program
 use Rattle.l4_machine.specs.declared.inbox.Inbox.{Inbox}
-use Rattle.l4_machine.specs.Inboxes.{letters_in, IsTakenFrom}
-use Rattle.l4_machine.specs.Posters.{AreEmpty, IsFirstFilled}
+use Rattle.l4_machine.specs.Inner.Inboxes.{letters_in, IsTakenFrom}
+use Rattle.l4_machine.specs.Inner.Posters.{AreEmpty, IsFirstFilled}
 use Rattle.l4_machine.specs.Stations.{station_of, event_of, CanGoOn, CanHandle, CanHandleFirst, CanTurn, HandlesFirst, HandlesFrom, HasDone, HasTriedTurn, IsHandling, IsNoTurn, IsOwnTurn, IsSameStation, IsTick, TakesCoreTurn, TakesTurn}
 
 -- What the worker of a station has told.

@@ -12,7 +12,7 @@ use Rattle.l4_core_model.specs.Local.{Local}
 use Rattle.l4_core_model.specs.Runs.{System, letters, without_first, posted, taken, done}
 use Rattle.l4_core_model.specs.Acts.{Work}
 use Rattle.l4_core_model.proofs.Changed.{get-changed}
-use Rattle.l4_split.proofs.Lists.{get_other_place}
+use Rattle.l4_refines.proofs.Lists.{get_other_place}
 use Rattle.l4_merge.specs.Transitions.{letters_with}
 use Rattle.l4_merge.proofs.Lists.{slice_get_none}
 use Rattle.l4_merge.proofs.Mail.{letters-append, letters-posted, letters-without_first, letters-without_other}

@@ -32,7 +32,7 @@ use Rattle.l4_proc.specs.Working.{past, HasGoneOn, HasTicked}
 use Rattle.l4_proc.specs.declared.processor.Processor.{Processor}
 use Rattle.l4_proc.proofs.Rested.{port_of}
 use Rattle.l4_machine.specs.Gathers.{AreResting}
-use Rattle.l4_machine.specs.Teams.{pasts, count_events, deadline_of, first_deadline, AreIdle, HasComeTo, HaveCome, HaveComeTo}
+use Rattle.l4_machine.specs.Inner.Teams.{pasts, count_events, deadline_of, first_deadline, AreIdle, HasComeTo, HaveCome, HaveComeTo}
 use Rattle.l4_machine.proofs.Endings.{unarmed_is}
 use Rattle.l4_machine.proofs.Counting.{events_in, first_counted}
 use Rattle.l4_machine.proofs.InOneHand.{all_handled_between}

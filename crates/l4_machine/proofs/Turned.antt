@@ -23,10 +23,10 @@ use Rattle.l4_merge.proofs.ClocksOfEvents.{turned_clock}
 use Rattle.l4_merge.proofs.Permuted.{permuted}
 use Rattle.l4_merge.proofs.CoreRuns.{stays_core_run}
 use Rattle.l4_merge.proofs.InRounds.{turned_in_rounds}
-use Rattle.l4_split.specs.Laws.{IsLawfulRun}
+use Rattle.l4_refines.specs.Laws.{IsLawfulRun}
 use Rattle.l4_core_model.specs.Letters.{Letter}
 use Rattle.l4_mail.specs.Ports.{taken_from, kept_from, AreOneFabric, AreWhole}
-use Rattle.l4_proc.specs.Events.{IsRefused, stamp_in_hand}
+use Rattle.l4_proc.specs.Inner.Events.{IsRefused, stamp_in_hand}
 use Rattle.l4_proc.specs.Rests.{AreAsBefore, HaveHandledAll}
 use Rattle.l4_proc.specs.Whole.{hand_from, handled_from}
 use Rattle.l4_proc.specs.Working.{past, HaveWorkedOn, IsIdle, IsStopped}
@@ -34,7 +34,7 @@ use Rattle.l4_proc.specs.declared.worker.Worker.{Worker}
 use Rattle.l4_proc.specs.declared.stops.Stop.TheVariants as stop
 use Rattle.l4_proc.specs.declared.processor.Processor.{Processor}
 use Rattle.l4_proc.proofs.Rested.{port_of, same_at, same_pasts, posted_is, one_of_worked}
-use Rattle.l4_machine.specs.Teams.{pasts, count_events, AreIdle, AreInOrder, HaveCome}
+use Rattle.l4_machine.specs.Inner.Teams.{pasts, count_events, AreIdle, AreInOrder, HaveCome}
 use Rattle.l4_machine.proofs.Counting.{counted, turns_and_ticks}
 use Rattle.l4_machine.proofs.InOneHand.{whole_pasts, none_taken_beyond, none_taken_own}
 use Rattle.l4_machine.proofs.Members.{some_there, in_order_gone_on, in_order_same, in_order_have_numbers, pasts_are}

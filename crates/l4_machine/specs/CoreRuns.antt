@@ -2,7 +2,7 @@
 use Rattle.l4_model.specs.Machine.{Machine}
 use Rattle.l4_core_model.specs.Runs.{Run}
 use Rattle.l4_merge.specs.Merges.{IsReorderedRun}
-use Rattle.l4_split.specs.Laws.{IsLawfulRun}
+use Rattle.l4_refines.specs.Laws.{IsLawfulRun}
 
 -- The other run is the first with its events in order of stamp and processor, and ends as the first
 -- does. All is true of it that is true of each core run.

@@ -5,8 +5,7 @@ use Rattle.l4_model.specs.Machine.{Machine}
 use Rattle.l4_model.specs.Words.{clock_limit}
 use Rattle.l4_model.specs.Conditions.{◌>>=◌}
 use Rattle.l4_core_model.specs.Runs.{Run, happens}
-use Rattle.l4_core_model.specs.Schedules.{entry_of, or_stays}
-use Rattle.l4_choices.specs.Entries.{Entry, TurnOf, TickOf, LetterOf, CoreOf, TickTo, entry_event, widened}
+use Rattle.l4_core_model.specs.Schedules.{numbered, or_stays, Entry, TurnOf, TickOf, LetterOf, CoreOf, TickTo, entry_event}
 use Rattle.l4_machine.specs.declared.entries.Entry as code
 use Rattle.l4_machine.specs.declared.entries.Entry.TheVariants as variant
 use Rattle.l4_machine.specs.declared.outcome.RunFault.{RunFault}
@@ -28,7 +27,7 @@ most_events = 1000015
 abbrev pub turns_fault : (turns : ℕ) → Option RunFault
 turns_fault turns = if turns == 0 || nat_lt most_turns turns then Some Turns else None
 
--- Entries of the program and numbers as entries, and the processor of an entry.
+-- Entries of the program as entries, and the processor of an entry.
 
 abbrev pub entry_from : code.Entry → Entry
 entry_from (variant.Turn cpu) = TurnOf cpu
@@ -36,9 +35,6 @@ entry_from (variant.Tick cpu) = TickOf cpu
 entry_from (variant.Letter cpu from) = LetterOf cpu from
 entry_from (variant.Core cpu) = CoreOf cpu
 entry_from (variant.TickTo cpu clock) = TickTo cpu clock
-
-abbrev pub numbered : (number : ℕ) → Entry
-numbered number = widened (entry_of number)
 
 abbrev pub processor_of : Entry → ℕ
 processor_of (TurnOf cpu) = cpu

@@ -8,10 +8,9 @@ use Rattle.l4_model.specs.History.{IsHistory, Report, reached, view, waiting as 
 use Rattle.l4_model.specs.Laws.{IsLawful}
 use Rattle.l4_model.specs.Still.{IsStill}
 use Rattle.l4_core_model.specs.Runs.{Run, merged, told, at_rest}
-use Rattle.l4_core_model.specs.Schedules.{run, replay}
-use Rattle.l4_choices.specs.Entries.{Entry, replay_entries}
+use Rattle.l4_core_model.specs.Schedules.{run, replay, Entry, replay_entries}
 use Rattle.l4_merge.specs.Rounds.{IsInRounds}
-use Rattle.l4_split.specs.Laws.{IsKnownAtHome}
+use Rattle.l4_refines.specs.Laws.{IsKnownAtHome}
 use Rattle.l4_types.specs.declared.reports.Ending.{Ending}
 use Rattle.l4_types.specs.declared.reports.Ending.TheVariants.{Quiet}
 use Rattle.l4_types.specs.StepView.{step_of}

@@ -10,14 +10,14 @@ use Rattle.l4_core_model.specs.Runs.{Event, System, Action, Handles, Turns, Tick
 use Rattle.l4_core_model.specs.Schedules.{next_turn}
 use Rattle.l4_core_model.specs.Turns.{advance, can_stamp, is_busy, turn}
 use Rattle.l4_core.specs.Processor.{Processor}
-use Rattle.l4_proc.specs.Events.{HasNone, IsRefused}
+use Rattle.l4_proc.specs.Inner.Events.{HasNone, IsRefused}
 use Rattle.l4_proc.specs.Logs.{events}
 use Rattle.l4_proc.specs.Working.{with_in_hand, HasTakenTurn, IsSameWorker}
 use Rattle.l4_proc.specs.declared.stops.Stop.{Stop}
 use Rattle.l4_proc.specs.declared.stops.Stop.TheVariants as stop
 use Rattle.l4_proc.specs.declared.worker.Worker.{Worker}
-use Rattle.l4_machine.specs.Inboxes.{letters_in, IsTakenFrom}
-use Rattle.l4_machine.specs.Posters.{AreEmpty, IsFirstFilled}
+use Rattle.l4_machine.specs.Inner.Inboxes.{letters_in, IsTakenFrom}
+use Rattle.l4_machine.specs.Inner.Posters.{AreEmpty, IsFirstFilled}
 use Rattle.l4_machine.specs.declared.inbox.Inbox.{Inbox}
 use Rattle.l4_machine.specs.declared.station.Choice.{Choice}
 use Rattle.l4_machine.specs.declared.station.Choice.TheVariants as choice

@@ -1,6 +1,7 @@
 //! The entries of a schedule.
 ghost use Rattle.std.specs.Prelude.{◌≡◌, IfOk, map};
-ghost use Rattle.l4_machine.specs.Entries.{entry_from, is_entry, numbered, processor_of};
+ghost use Rattle.l4_machine.specs.Entries.{entry_from, is_entry, processor_of};
+ghost use Rattle.l4_core_model.specs.Schedules.{numbered};
 
 use l4_script::machine::Machine;
 use l4_types::errors::NoMemory;

@@ -12,7 +12,7 @@ ghost use Rattle.l4_types.specs.declared.reports.Ending.TheVariants.{Quiet};
 ghost use Rattle.l4_machine.specs.Gathers.{core_of, pasts_of, with_number, AreOfOne, AreResting};
 ghost use Rattle.l4_machine.specs.Gathers.{HaveNumbers};
 ghost use Rattle.l4_machine.specs.Gathered.{IsGathered};
-ghost use Rattle.l4_machine.specs.Homes.{IsAtHome};
+ghost use Rattle.l4_machine.specs.Inner.Homes.{IsAtHome};
 ghost use Rattle.l4_machine.specs.Outcomes.{IsTrueOf, compact_findings_of, findings_of};
 
 use crate::homes::OwnerView;

@@ -3,8 +3,8 @@ ghost use Rattle.std.specs.Prelude.{◌≡◌, ◌<◌, IfOk, IsTrue, Some, leng
 ghost use Rattle.std.specs.List.{AllByRecursion};
 ghost use Rattle.l4_core_model.specs.Local.{declared};
 ghost use Rattle.l4_types.specs.ReportView.{report_of_view};
-ghost use Rattle.l4_split.specs.Laws.{IsUndeleted, home_reports};
-ghost use Rattle.l4_machine.specs.Homes.{locals_of, sent_at_home, AreAllOf, IsAtHome};
+ghost use Rattle.l4_refines.specs.Laws.{IsUndeleted, home_reports};
+ghost use Rattle.l4_machine.specs.Inner.Homes.{locals_of, sent_at_home, AreAllOf, IsAtHome};
 
 use l4_core::processor::Core;
 use l4_script::machine::Machine;

@@ -1,7 +1,7 @@
 //! The letters that have arrived at a processor.
 ghost use Rattle.std.specs.Prelude.{◌≡◌, ◌≤◌, [], IfOk, length, replicate};
 ghost use Rattle.l4_model.specs.Machine.{most_processors};
-ghost use Rattle.l4_machine.specs.Posters.{MarksPosters};
+ghost use Rattle.l4_machine.specs.Inner.Posters.{MarksPosters};
 
 use crate::letter_queue::{LetterQueue, Letters};
 use l4_script::machine::Machine;
@@ -24,8 +24,8 @@ impl Inbox {
     ghost use Rattle.std.specs.Prelude.{◌≡◌, ◌<◌, ◌++◌, ◌∷◌, ◌↔◌, [], IfOk, IsTrue, OnErr, OnOk, drop};
     ghost use Rattle.std.specs.Prelude.{length, replicate, slice_get, slice_index_or};
     ghost use Rattle.l4_model.specs.World.{changed};
-    ghost use Rattle.l4_machine.specs.Inboxes.{letters_in};
-    ghost use Rattle.l4_machine.specs.Posters.{AreEmpty, PostsFirst};
+    ghost use Rattle.l4_machine.specs.Inner.Inboxes.{letters_in};
+    ghost use Rattle.l4_machine.specs.Inner.Posters.{AreEmpty, PostsFirst};
 
     /// An empty inbox of a processor of this machine.
     pub(crate) fn new(alloc: Global, machine: &Machine) -> Result<Inbox, NoMemory>

@@ -6,10 +6,10 @@ ghost use Rattle.l4_core_model.specs.Runs.{IsMachine, Run};
 ghost use Rattle.l4_machine.specs.CoreRuns.{HasLawfulMergedRun};
 ghost use Rattle.l4_machine.specs.Outcomes.{Findings, IsOutcomeOf};
 ghost use Rattle.l4_merge.specs.Merges.{SortAsMerged};
-ghost use Rattle.l4_split.specs.Laws.{IsLawfulRun};
+ghost use Rattle.l4_refines.specs.Laws.{IsLawfulRun};
 
 use l4_merge::law_reorder;
-use l4_split::law_of_core_runs;
+use l4_refines::law_of_core_runs;
 
 /// What is true of every core run from the opening of every machine that a text can declare, of any
 /// number of processors, whichever processor takes the next turn and whichever letter under way is

@@ -19,7 +19,7 @@ pub(crate) struct LetterQueue {
 
 impl Model for LetterQueue {
     ghost use Rattle.std.specs.Prelude.{◌≡◌, ◌+◌, List, drop, length};
-    ghost use Rattle.l4_types.specs.LetterHeads.{letters_in, words_by};
+    ghost use Rattle.l4_types.specs.Inner.LetterHeads.{letters_in, words_by};
     ghost use Rattle.l4_core_model.specs.Letters.{Letter};
 
     ghost Value = { List Letter };
@@ -144,7 +144,7 @@ pub struct Letters<'a> {
 
 impl<'a> Model for Letters<'a> {
     ghost use Rattle.std.specs.Prelude.{◌≡◌, List, drop, length};
-    ghost use Rattle.l4_types.specs.LetterHeads.{letters_in, words_by};
+    ghost use Rattle.l4_types.specs.Inner.LetterHeads.{letters_in, words_by};
     ghost use Rattle.l4_core_model.specs.Letters.{Letter};
 
     ghost Value = { List Letter };

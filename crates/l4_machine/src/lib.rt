@@ -7,7 +7,7 @@
 //! `run_compact` and `replay_compact` keep the history in 16 bytes a step.
 //!
 //! Which of its histories a run of several processors takes is up to the host; a replay has one.
-//! Each history that a run may have is that of some entries of a replay (`l4_choices`), and
+//! Each history that a run may have is that of some entries of a replay (`l4_bisimilar`), and
 //! `run_recorded` answers these entries too. That a run succeeds where memory is ample, and that
 //! processors work at the same time, the tests see; no clause says it.
 //!

@@ -1,6 +1,6 @@
 //! The logs of processors that have finished.
 ghost use Rattle.l4_machine.specs.Gathers.{HaveNumbers};
-ghost use Rattle.l4_machine.specs.Rising.{HaveRisingLogs, HaveRisingLogs-prop};
+ghost use Rattle.l4_machine.specs.Inner.Rising.{HaveRisingLogs, HaveRisingLogs-prop};
 
 use crate::listener::Listener;
 use crate::merging::tell_merged;
@@ -26,7 +26,7 @@ pub struct Logs<'m> {
 impl<'m> Logs<'m> {
     ghost use Rattle.std.specs.Prelude.{◌≡◌, IfOk, OnOk, filter_map};
     ghost use Rattle.l4_machine.specs.Gathers.{merged_steps, AreOfOne};
-    ghost use Rattle.l4_machine.specs.Waiting.{sought, AreBegunOnce, IsSearch};
+    ghost use Rattle.l4_machine.specs.Inner.Waiting.{sought, AreBegunOnce, IsSearch};
 
     /// The logs of all processors of a machine.
     pub(crate) fn new(machine: &'m Machine, processors: Vec<Processor<'m>>) -> Logs<'m>

@@ -7,9 +7,9 @@ ghost use Rattle.l4_proc.specs.Logs.{events};
 ghost use Rattle.l4_machine.specs.Gathers.{events_of, merged_steps, pasts_of, with_number};
 ghost use Rattle.l4_machine.specs.Gathers.{AreOfOne, HaveNumbers, IsMerge};
 ghost use Rattle.l4_machine.specs.Outcomes.{steps_of};
-ghost use Rattle.l4_machine.specs.EventsLeft.{left, IsUnmerged};
-ghost use Rattle.l4_machine.specs.Recorded.{happened_left, actions_of};
-ghost use Rattle.l4_machine.specs.Rising.{HaveRisingLogs};
+ghost use Rattle.l4_machine.specs.Inner.EventsLeft.{left, IsUnmerged};
+ghost use Rattle.l4_machine.specs.Inner.Recorded.{happened_left, actions_of};
+ghost use Rattle.l4_machine.specs.Inner.Rising.{HaveRisingLogs};
 
 use crate::listener::Listener;
 use crate::logs::Logs;

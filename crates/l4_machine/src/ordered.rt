@@ -27,7 +27,7 @@ impl<'m> OrderedLogs<'m> {
     ghost use Rattle.l4_machine.specs.InOrder.{is_order};
     ghost use Rattle.l4_machine.specs.Ordered.{told_steps};
     ghost use Rattle.l4_machine.specs.Stations.{events_at};
-    ghost use Rattle.l4_machine.specs.Waiting.{sought, AreBegunOnce, IsSearch};
+    ghost use Rattle.l4_machine.specs.Inner.Waiting.{sought, AreBegunOnce, IsSearch};
 
     /// The logs of these processors, whose events were told in this order.
     pub(crate) fn new(stations: Vec<Station<'m>>, order: Vec<u8>) -> OrderedLogs<'m>

@@ -4,7 +4,7 @@ ghost use Rattle.l4_model.specs.History.{IsHistory};
 ghost use Rattle.l4_core_model.specs.Local.{Local};
 ghost use Rattle.l4_core_model.specs.Runs.{Run, at_rest, told};
 ghost use Rattle.l4_types.specs.declared.reports.Ending.TheVariants.{Quiet};
-ghost use Rattle.l4_machine.specs.Homes.{EndsIn, IsAtHome};
+ghost use Rattle.l4_machine.specs.Inner.Homes.{EndsIn, IsAtHome};
 ghost use Rattle.l4_machine.specs.Outcomes.{IsOutcomeOf, IsSound, compact_findings_of, findings_of};
 ghost use Rattle.l4_machine.specs.Outcomes.{steps_of};
 ghost use Rattle.l4_machine.specs.declared.outcome.RunFault.TheVariants.{NoMemory as RunNoMemory};

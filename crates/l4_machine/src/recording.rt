@@ -1,14 +1,14 @@
 //! What a run recorded: what its processors did, as entries of a schedule.
 ghost use Rattle.std.specs.Prelude.{◌≡◌, IfOk, is_some, map, true};
 ghost use Rattle.std.specs.List.{AllByRecursion};
-ghost use Rattle.l4_choices.specs.Entries.{entry_of};
+ghost use Rattle.l4_bisimilar.specs.Entries.{entry_of};
 ghost use Rattle.l4_proc.specs.Choices.{action_of};
 ghost use Rattle.l4_proc.specs.Logs.{actions};
 ghost use Rattle.l4_machine.specs.Entries.{entry_from};
-ghost use Rattle.l4_machine.specs.EventsLeft.{left, IsUnmerged};
+ghost use Rattle.l4_machine.specs.Inner.EventsLeft.{left, IsUnmerged};
 ghost use Rattle.l4_machine.specs.Gathers.{HaveNumbers};
-ghost use Rattle.l4_machine.specs.Recorded.{entries_left, recorded_entries, HasTakenEntry};
-ghost use Rattle.l4_machine.specs.Rising.{HaveRisingLogs, RiseFrom};
+ghost use Rattle.l4_machine.specs.Inner.Recorded.{entries_left, recorded_entries, HasTakenEntry};
+ghost use Rattle.l4_machine.specs.Inner.Rising.{HaveRisingLogs, RiseFrom};
 
 use crate::entries::Entry;
 use crate::merging::{place_of, unmerged_logs};

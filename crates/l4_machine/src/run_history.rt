@@ -1,7 +1,7 @@
 //! The history of an outcome.
 ghost use Rattle.std.specs.Prelude.{◌≡◌, IfOk, OnOk, filter_map};
 ghost use Rattle.l4_machine.specs.Outcomes.{steps_of};
-ghost use Rattle.l4_machine.specs.Waiting.{sought, AreBegunOnce, IsSearch};
+ghost use Rattle.l4_machine.specs.Inner.Waiting.{sought, AreBegunOnce, IsSearch};
 
 use crate::listener::Listener;
 use crate::logs::Logs;

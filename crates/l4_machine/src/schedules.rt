@@ -4,7 +4,7 @@ ghost use Rattle.std.specs.Prelude.{OnOk, None, Some, length, map, nat_lt, true}
 ghost use Rattle.std.specs.Option.{option_map};
 ghost use Rattle.l4_model.specs.Machine.{Machine as MachineOfModel};
 ghost use Rattle.l4_core_model.specs.Runs.{Run};
-ghost use Rattle.l4_choices.specs.Entries.{entry_event, replays};
+ghost use Rattle.l4_core_model.specs.Schedules.{entry_event, replays};
 ghost use Rattle.l4_machine.specs.Entries.{after_entry, entries_fault, entry_from, first_stranger};
 ghost use Rattle.l4_machine.specs.Entries.{is_entry, most_entries, most_events, processor_of};
 ghost use Rattle.l4_machine.specs.Entries.{schedule_fault};

@@ -5,12 +5,12 @@ ghost use Rattle.std.specs.Prelude.{is_some, length, map, slice_get, true};
 ghost use Rattle.std.specs.List.{AllByRecursion};
 ghost use Rattle.l4_core_model.specs.Runs.{merged, told};
 ghost use Rattle.l4_proc.specs.Logs.{events, IsClosed};
-ghost use Rattle.l4_machine.specs.EventsLeft.{all_left, left, IsUnmerged};
-ghost use Rattle.l4_machine.specs.Rising.{HaveRisingLogs, RiseFrom};
+ghost use Rattle.l4_machine.specs.Inner.EventsLeft.{all_left, left, IsUnmerged};
+ghost use Rattle.l4_machine.specs.Inner.Rising.{HaveRisingLogs, RiseFrom};
 ghost use Rattle.l4_machine.specs.Gathers.{events_of, merged_steps, HaveNumbers};
-ghost use Rattle.l4_machine.specs.Waiting.{all_at_end, at_end, count_sought, count_undecided};
-ghost use Rattle.l4_machine.specs.Waiting.{sought, AreBegunOnce, ArePassed, HasFoundFirst};
-ghost use Rattle.l4_machine.specs.Waiting.{HasPassed, IsSearch};
+ghost use Rattle.l4_machine.specs.Inner.Waiting.{all_at_end, at_end, count_sought, count_undecided};
+ghost use Rattle.l4_machine.specs.Inner.Waiting.{sought, AreBegunOnce, ArePassed, HasFoundFirst};
+ghost use Rattle.l4_machine.specs.Inner.Waiting.{HasPassed, IsSearch};
 
 use crate::merging::unmerged_logs;
 use crate::unmerged::{Unmerged, first_place, stamp_of};

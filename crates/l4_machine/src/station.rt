@@ -44,7 +44,7 @@ impl<'m> Station<'m> {
     ghost use Rattle.l4_core_model.specs.Local.{opening_local};
     ghost use Rattle.l4_core_model.specs.Turns.{can_stamp};
     ghost use Rattle.l4_proc.specs.Logs.{IsClosed};
-    ghost use Rattle.l4_machine.specs.Inboxes.{letters_in};
+    ghost use Rattle.l4_machine.specs.Inner.Inboxes.{letters_in};
     ghost use Rattle.l4_machine.specs.Stations.{deadline_of, events_at, letters_from, letters_out};
     ghost use Rattle.l4_machine.specs.Stations.{station_of, with_letter, CanGoOn, GoesOnTo};
     ghost use Rattle.l4_machine.specs.Stations.{HandlesFrom, HasChosen, HasNoMail, IsResting};

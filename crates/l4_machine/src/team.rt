@@ -12,10 +12,10 @@ ghost use Rattle.l4_proc.specs.declared.processor.Processor.{Processor as Proces
 ghost use Rattle.l4_machine.specs.Gathered.{IsGathered};
 ghost use Rattle.l4_machine.specs.Gathers.{AreResting};
 ghost use Rattle.l4_machine.specs.Outcomes.{compact_findings_of};
-ghost use Rattle.l4_machine.specs.Teams.{count_events, deadline_of, first_deadline, AreIdle};
-ghost use Rattle.l4_machine.specs.Teams.{HasComeTo, HaveComeTo, IsTeam};
+ghost use Rattle.l4_machine.specs.Inner.Teams.{count_events, deadline_of, first_deadline, AreIdle};
+ghost use Rattle.l4_machine.specs.Inner.Teams.{HasComeTo, HaveComeTo, IsTeam};
 ghost use Rattle.l4_machine.specs.Entries.{entry_from, most_turns};
-ghost use Rattle.l4_machine.specs.Recorded.{recorded_entries};
+ghost use Rattle.l4_machine.specs.Inner.Recorded.{recorded_entries};
 
 use crate::entries::Entry;
 use crate::gathering::{at_home, ending};

@@ -2,7 +2,7 @@
 ghost use Rattle.std.specs.Prelude.{◌≡◌, IfOk, OnOk, filter_map, length, map, reverse, true};
 ghost use Rattle.l4_machine.specs.InOrder.{is_order, steps_in_order};
 ghost use Rattle.l4_machine.specs.Stations.{events_at};
-ghost use Rattle.l4_machine.specs.Waiting.{sought, AreBegunOnce, IsSearch};
+ghost use Rattle.l4_machine.specs.Inner.Waiting.{sought, AreBegunOnce, IsSearch};
 
 use crate::listener::Listener;
 use crate::station::Station;

@@ -6,10 +6,10 @@ ghost use Rattle.std.specs.Option.{option_map};
 ghost use Rattle.l4_core_model.specs.Runs.{merged, told};
 ghost use Rattle.l4_proc.specs.Logs.{events};
 ghost use Rattle.l4_proc.specs.declared.processor.Processor.{Processor as ProcessorOfMachine};
-ghost use Rattle.l4_machine.specs.EventsLeft.{all_left, least_place, left, HasTakenFirst};
-ghost use Rattle.l4_machine.specs.EventsLeft.{IsUnmerged};
-ghost use Rattle.l4_machine.specs.Recorded.{happened_left, actions_of};
-ghost use Rattle.l4_machine.specs.Rising.{RiseFrom};
+ghost use Rattle.l4_machine.specs.Inner.EventsLeft.{all_left, least_place, left, HasTakenFirst};
+ghost use Rattle.l4_machine.specs.Inner.EventsLeft.{IsUnmerged};
+ghost use Rattle.l4_machine.specs.Inner.Recorded.{happened_left, actions_of};
+ghost use Rattle.l4_machine.specs.Inner.Rising.{RiseFrom};
 ghost use Rattle.l4_machine.specs.Gathers.{events_of};
 
 use crate::listener::Listener;

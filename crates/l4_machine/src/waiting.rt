@@ -2,8 +2,8 @@
 ghost use Rattle.std.specs.Prelude.{◌≡◌, ◌<◌, ◌≤◌, ◌+◌, ◌++◌, [], IfOk, IfSome, OnOk, drop, false};
 ghost use Rattle.std.specs.Prelude.{filter_map, length, reverse, slice_get, take};
 ghost use Rattle.std.specs.List.{AllByRecursion};
-ghost use Rattle.l4_machine.specs.Homes.{sent_to, IsNotBelow};
-ghost use Rattle.l4_machine.specs.Waiting.{count_undecided, sought, AreBegunOnce, IsSearch};
+ghost use Rattle.l4_machine.specs.Inner.Homes.{sent_to, IsNotBelow};
+ghost use Rattle.l4_machine.specs.Inner.Waiting.{count_undecided, sought, AreBegunOnce, IsSearch};
 
 use crate::homes::{LastSend, OwnerView};
 use l4_history::history::History;

@@ -2,7 +2,7 @@
 ghost use Rattle.std.specs.Prelude.{◌≡◌, ◌<◌, None, length};
 ghost use Rattle.l4_core.specs.EventBuffers.{IsOpen};
 ghost use Rattle.l4_proc.specs.Working.{with_in_hand, HasTakenTurn};
-ghost use Rattle.l4_machine.specs.Inboxes.{letters_in};
+ghost use Rattle.l4_machine.specs.Inner.Inboxes.{letters_in};
 ghost use Rattle.l4_machine.specs.Stations.{CanHandle, CanHandleFirst, CanTurn, HandlesFirst};
 ghost use Rattle.l4_machine.specs.Stations.{HasTriedTurn};
 

@@ -8,7 +8,7 @@ use Rattle.l4_mail.specs.declared.inlets.Inlet.{Inlet}
 use Rattle.l4_mail.specs.declared.ports.Port.{Port}
 use Rattle.l4_mail.specs.Ends.{RingId, ring_out, posted, ring_in, taken, kept}
 use Rattle.l4_mail.specs.Ports.{Place, place, HasWayTo, IsWay, AreOneFabric}
-use Rattle.l4_mail.specs.Fabrics.{HaveRooms, AreFresh, GainsOutlet, GainsInlet, IsMember, AreMembers, AreJoined}
+use Rattle.l4_mail.specs.Inner.Fabrics.{HaveRooms, AreFresh, GainsOutlet, GainsInlet, IsMember, AreMembers, AreJoined}
 
 pub some_within : {A : Type 0} (l : List (Option A)) (k : ℕ) (x : A) → get_or l k None ≡ Some x → k < length l
 some_within [] k x e = absurd (none-some x e)

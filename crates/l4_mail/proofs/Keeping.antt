@@ -5,7 +5,7 @@ use Rattle.l4_core_model.specs.Runs.{is_empty}
 use Rattle.l4_core_model.specs.Letters.{Letter}
 use Rattle.l4_mail.specs.declared.inlets.Inlet.{Inlet}
 use Rattle.l4_mail.specs.Ends.{kept, keeps}
-use Rattle.l4_mail.specs.Takes.{NoneIsKept}
+use Rattle.l4_mail.specs.Inner.Takes.{NoneIsKept}
 
 none_here : (xs : List Letter) → not (is_empty xs) ≡ false → xs ≡ []
 none_here [] e = refl

@@ -7,7 +7,7 @@ use Rattle.l4_core_model.specs.Letters.{Letter}
 use Rattle.l4_mail.specs.declared.inlets.Inlet.{Inlet}
 use Rattle.l4_mail.specs.Ends.{ring_in, taken, kept, here}
 use Rattle.l4_mail.specs.Ports.{only}
-use Rattle.l4_mail.specs.Takes.{NoneIsKept, NoneIsHere, NoneIsTaken, IsNext}
+use Rattle.l4_mail.specs.Inner.Takes.{NoneIsKept, NoneIsHere, NoneIsTaken, IsNext}
 use Rattle.l4_mail.proofs.Taken.{front_empty}
 use Rattle.l4_mail.proofs.Rows.{set_here, set_elsewhere, read_here, read_beyond, grown_at, shrunk_at, below_or}
 

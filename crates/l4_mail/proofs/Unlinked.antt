@@ -7,8 +7,8 @@ use Rattle.l4_mail.specs.declared.outlets.Outlet.{Outlet}
 use Rattle.l4_mail.specs.declared.inlets.Inlet.{Inlet}
 use Rattle.l4_mail.specs.declared.ports.Port.{Port}
 use Rattle.l4_mail.specs.Ends.{HasNoWay, RingId, ring_out, posted, waiting, ring_in, taken, kept}
-use Rattle.l4_mail.specs.Fabrics.{AreJoined, AreMembers}
-use Rattle.l4_mail.specs.Takes.{NoneIsHere}
+use Rattle.l4_mail.specs.Inner.Fabrics.{AreJoined, AreMembers}
+use Rattle.l4_mail.specs.Inner.Takes.{NoneIsHere}
 use Rattle.l4_mail.proofs.Rows.{AreAsBefore}
 
 -- The rings are those that they were.

@@ -11,7 +11,7 @@ use Rattle.l4_mail.specs.declared.inlets.Inlet.{Inlet}
 use Rattle.l4_mail.specs.declared.ports.Port.{Port}
 use Rattle.l4_mail.specs.Ends.{RingId, ring_out, posted, waiting, free, room, ring_in, taken, kept, here}
 use Rattle.l4_mail.specs.Ports.{room_to, taken_from, kept_from, only, IsAsBefore, HasPosted, HasTaken}
-use Rattle.l4_mail.specs.Takes.{NoneIsKept, NoneIsHere, NoneIsTaken, IsNext}
+use Rattle.l4_mail.specs.Inner.Takes.{NoneIsKept, NoneIsHere, NoneIsTaken, IsNext}
 use Rattle.l4_mail.proofs.Looking.{IsTaken, IsFirst, next_taken}
 use Rattle.l4_mail.proofs.Rows.{below_or, AreAsBefore, HaveRoom, grown_at, set_elsewhere, set_here, read_here, read_beyond, room_within}
 

@@ -1,6 +1,5 @@
-pub mod Ways
 pub mod Ends
+pub mod Inner
 pub mod Ports
-pub mod Takes
-pub mod Fabrics
 pub mod Rests
+pub mod Ways

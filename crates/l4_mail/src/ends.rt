@@ -1,7 +1,9 @@
 //! The ends of rings, by the other processor. A port has none to itself.
-ghost use Rattle.std.specs.Prelude.{◌≡◌, ◌≢◌, ◌↔◌, ◌≤◌, ◌<◌, ◌+◌, [], ◌∷◌, ◌++◌, false, OnOk, IsTrue, Option, None, ◌⊎◌};
+ghost use Rattle.std.specs.Prelude.{◌≡◌, ◌≢◌, ◌↔◌, ◌≤◌, ◌<◌, ◌+◌, [], ◌∷◌, ◌++◌, false, OnOk};
+ghost use Rattle.std.specs.Prelude.{IsTrue, Option, None, ◌⊎◌};
 ghost use Rattle.std.specs.List.{list_any};
-ghost use Rattle.l4_mail.specs.Ends.{ring_out, posted, waiting, free, room, ring_in, taken, kept, here, keeps, waits};
+ghost use Rattle.l4_mail.specs.Ends.{ring_out, posted, waiting, free, room, ring_in, taken, kept};
+ghost use Rattle.l4_mail.specs.Ends.{here, keeps, waits};
 
 use crate::inlets::Inlet;
 use crate::outlets::Outlet;

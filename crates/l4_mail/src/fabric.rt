@@ -2,7 +2,8 @@
 ghost use Rattle.std.specs.Prelude.{◌≡◌, ◌<◌, ◌≤◌, ◌+◌, [], ◌∷◌, ◌++◌, IfOk, OnOk, Some, vec_len};
 ghost use Rattle.l4_model.specs.Machine.{most_processors};
 ghost use Rattle.l4_mail.specs.Ends.{RingId};
-ghost use Rattle.l4_mail.specs.Fabrics.{most_room, AreFresh, GainsOutlet, GainsInlet, AreMembers};
+ghost use Rattle.l4_mail.specs.Inner.Fabrics.{most_room, AreFresh, GainsOutlet, GainsInlet};
+ghost use Rattle.l4_mail.specs.Inner.Fabrics.{AreMembers};
 
 use crate::bells::Bell;
 use crate::ports::Port;

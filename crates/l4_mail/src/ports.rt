@@ -2,7 +2,7 @@
 ghost use Rattle.std.specs.Prelude.{◌≡◌, ◌≤◌, false, true, map, vec_len};
 ghost use Rattle.l4_model.specs.Machine.{most_processors};
 ghost use Rattle.l4_mail.specs.Ends.{AreReady, HasNoWay, ring_in, ring_out};
-ghost use Rattle.l4_mail.specs.Takes.{NoneIsHere};
+ghost use Rattle.l4_mail.specs.Inner.Takes.{NoneIsHere};
 
 use crate::bells::Bell;
 use crate::inlets::Inlet;

@@ -1,9 +1,12 @@
 //! What is under way, once all ports are in one hand.
-ghost use Rattle.std.specs.Prelude.{ℕ, ◌≡◌, ◌≢◌, ◌<◌, ◌≤◌, ◌↔◌, false, map, length, OnOk, IfOk, IsErrOf};
-ghost use Rattle.l4_mail.specs.Ports.{AreOneFabric, AreWhole, IsWay, IsWhole, place, account, carried, kept_from};
+ghost use Rattle.std.specs.Prelude.{ℕ, ◌≡◌, ◌≢◌, ◌<◌, ◌≤◌, ◌↔◌, false, map, length, OnOk, IfOk};
+ghost use Rattle.std.specs.Prelude.{IsErrOf};
+ghost use Rattle.l4_mail.specs.Ports.{AreOneFabric, AreWhole, IsWay, IsWhole, place, account};
+ghost use Rattle.l4_mail.specs.Ports.{carried, kept_from};
 ghost use Rattle.l4_mail.specs.declared.rests.RestFault.TheVariants.{NoMemory as OutOfMemory};
 ghost use Rattle.l4_mail.specs.declared.rests.RestFault.TheVariants as RestFault;
-ghost use Rattle.l4_mail.specs.Rests.{has_number, have_numbers, have_size, are_all, IsRested, IsRestedTo, under_way};
+ghost use Rattle.l4_mail.specs.Rests.{has_number, have_numbers, have_size, are_all, IsRested};
+ghost use Rattle.l4_mail.specs.Rests.{IsRestedTo, under_way};
 
 use crate::lists::{Rest, list};
 use crate::ports::Port;

@@ -2,7 +2,7 @@
 ghost use Rattle.std.specs.Prelude.{◌≡◌, ◌↔◌, false, map, IfSome, IfNone};
 ghost use Rattle.std.specs.List.{list_any};
 ghost use Rattle.l4_mail.specs.Ends.{kept, keeps};
-ghost use Rattle.l4_mail.specs.Takes.{NoneIsKept, NoneIsHere, NoneIsTaken, IsNext};
+ghost use Rattle.l4_mail.specs.Inner.Takes.{NoneIsKept, NoneIsHere, NoneIsTaken, IsNext};
 
 use crate::ends;
 use crate::inlets::Inlet;

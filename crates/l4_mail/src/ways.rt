@@ -1,8 +1,11 @@
 //! A ring from one processor to another, with both of its ends in hand.
 ghost use Rattle.std.specs.Prelude.{◌≡◌, ◌≤◌, ◌<◌, ◌+◌, [], ◌∷◌, ◌++◌, length, IfOk, OnOk, Some};
 ghost use Rattle.std.specs.VecDeque.{deque_len, deque_capacity};
-ghost use Rattle.rtrb.specs.Ring.{sent, received, known_items, producer_capacity, IsPair, SameProducer, SameConsumer};
-ghost use Rattle.l4_mail.specs.Ends.{outlet_ring, outlet_posted, outlet_room, inlet_ring, inlet_taken, inlet_kept, RingId, ring_out, posted, room, ring_in, taken, kept};
+ghost use Rattle.rtrb.specs.Ring.{sent, received, known_items, producer_capacity, IsPair};
+ghost use Rattle.rtrb.specs.Ring.{SameProducer, SameConsumer};
+ghost use Rattle.l4_mail.specs.Ends.{outlet_ring, outlet_posted, outlet_room, inlet_ring};
+ghost use Rattle.l4_mail.specs.Ends.{inlet_taken, inlet_kept, RingId, ring_out, posted, room};
+ghost use Rattle.l4_mail.specs.Ends.{ring_in, taken, kept};
 
 use crate::bells::Bell;
 use crate::inlets::Inlet;

@@ -7,7 +7,7 @@ use Rattle.std.proofs.lemmas.Bool.{not-true}
 use Rattle.l4_model.specs.Words.{GlobalId, same_id}
 use Rattle.l4_model.specs.Machine.{Machine, place_of, is_declared}
 use Rattle.l4_model.specs.World.{is_deleted, receive_now}
-use Rattle.l4_model.specs.Steps.{ReceiveCancel, ReceiveNobody, ReceiveTimeout}
+use Rattle.l4_model.specs.Rules.{TimeOver, NobodyThere, CancelAsked}
 use Rattle.l4_model.specs.Conditions.{act_of}
 use Rattle.l4_model.proofs.Chains.{bind_then, guard_then, some_is, cond_keeps}
 use Rattle.l4_core_model.specs.Plain as plain
@@ -24,7 +24,7 @@ use Rattle.l4_core_model.proofs.Lists.{all-map}
 use Rattle.l4_merge.specs.Transitions.{LocalEvent, Handled, Turned, Ticked, work_of}
 use Rattle.l4_merge.proofs.Aims.{IsElsewhere, IsAimed, IsChoiceAimed, choice_aimed}
 use Rattle.l4_merge.proofs.RoomOfActs.{all_homed, IsForeign, home_elsewhere, split_is_foreign, HasRoom, Fits, with_local, less, at_end, retargets_fits}
-use Rattle.l4_merge.proofs.RoomOfActs.{posts_fits, refuses_fits, delivers_fits, arrives_fits, withdraws_fits, fails_receive_fits, obeys_fits, acts_fits}
+use Rattle.l4_merge.proofs.RoomOfActs.{posts_fits, refuses_fits, delivers_fits, arrives_fits, withdraws_fits, fails_fits, obeys_fits, acts_fits}
 
 -- An event has room for three steps and two letters.
 opened_fits : (m : Machine) (cpu letter_stamp : ℕ) (l : Local) → HasRoom m cpu 3 2 (opened letter_stamp l)
@@ -43,15 +43,15 @@ does_duty_fits m cpu i DropsOwn aimed x h = refuses_fits m cpu Dropped i x (less
 does_duty_fits m cpu i (RefusesFirst sender) aimed x h = refuses_fits m cpu Nobody sender x (less (omega arith) (omega arith) h)
 does_duty_fits m cpu i (TellsGone to) aimed x h = posts_fits _ _ aimed (with_local (less (omega arith) (omega arith) h))
 does_duty_fits m cpu i CancelsOwn aimed x h = refuses_fits m cpu Cancelled i x (less (omega arith) (omega arith) h)
-does_duty_fits m cpu i CancelsReceive aimed x h = fails_receive_fits m cpu ReceiveCancel 7 i x (less (omega arith) (omega arith) h)
+does_duty_fits m cpu i CancelsReceive aimed x h = fails_fits m cpu CancelAsked i x (less (omega arith) (omega arith) h)
 does_duty_fits m cpu i (DeliversFirst sender) aimed x h = delivers_fits m cpu i sender x h
-does_duty_fits m cpu i ClosesReceive aimed x h = fails_receive_fits m cpu ReceiveNobody 5 i x (less (omega arith) (omega arith) h)
+does_duty_fits m cpu i ClosesReceive aimed x h = fails_fits m cpu NobodyThere i x (less (omega arith) (omega arith) h)
 does_duty_fits m cpu i (RefusesZero sender) aimed x h = refuses_fits m cpu TimedOut sender x (less (omega arith) (omega arith) h)
 
 times_out_fits : (m : Machine) (cpu i : ℕ) → Fits m cpu 1 1 (times_out m cpu i)
 times_out_fits m cpu i x h =
     cond_keeps (HasRoom m cpu 0 0) (is_some (receive_now (thread x.local i).phase)) _ _
-    (λ yes. fails_receive_fits m cpu ReceiveTimeout 3 i x (less (omega arith) (omega arith) h))
+    (λ yes. fails_fits m cpu TimeOver i x (less (omega arith) (omega arith) h))
     (λ no. cond_keeps (HasRoom m cpu 0 0) (plain.is_queued x.local.lists i) _ _ (λ yes. refuses_fits m cpu TimedOut i x h)
     (λ no. withdraws_fits m cpu ByTimeout i _ (split_is_foreign m cpu (thread x.local i).send) 0 0 x (less (omega arith) (omega arith) h)))
 
@@ -152,3 +152,7 @@ letters_go_elsewhere m cpu l event x machine lt is =
 pub at_most_two_letters : (m : Machine) (cpu : ℕ) (l : Local) (event : LocalEvent) (x : Work) → IsMachine m → cpu < m.cpus →
     work_of m cpu l event ≡ Some x → length x.letters ≤ 2
 at_most_two_letters m cpu l event x machine lt is = let h = work_fits m cpu l event x is in omega (arith, h.of_letters)
+
+pub at_most_three_steps : (m : Machine) (cpu : ℕ) (l : Local) (event : LocalEvent) (x : Work) →
+    work_of m cpu l event ≡ Some x → length x.steps ≤ 3
+at_most_three_steps m cpu l event x is = let h = work_fits m cpu l event x is in omega (arith, h.of_steps)

@@ -9,7 +9,7 @@ use Rattle.l4_model.specs.Words.{GlobalId}
 use Rattle.l4_model.specs.Machine.{Machine, OrderKind, place_of, is_place}
 use Rattle.l4_model.specs.World.{Message, Send, PendingOrder, is_deleted, Owed}
 use Rattle.l4_model.specs.Effects.{orders}
-use Rattle.l4_model.specs.Rules.{Act, RunsAlone, Sends, Receives, Orders, owed_by}
+use Rattle.l4_model.specs.Rules.{Failure, Act, RunsAlone, Sends, Receives, Orders, owed_by}
 use Rattle.l4_model.specs.Steps.{Step, Queue, Order}
 use Rattle.l4_model.proofs.Chains.{cond_keeps}
 use Rattle.l4_core_model.specs.Plain as plain
@@ -18,7 +18,7 @@ use Rattle.l4_core_model.specs.Local.{Local, undeclared, declared, is_own, threa
 use Rattle.l4_core_model.specs.Runs.{IsMachine}
 use Rattle.l4_core_model.specs.Acts.{Work, ◌▷◌, tells, does, tells_send, entry, posts, decides_send, refuses, delivers_message, delivers_send, owes, owes_for, retargets}
 use Rattle.l4_core_model.specs.Acts.{delivers, first_acceptable, delivers_if_first, queues_send, arrives, zero_refusable, send_goes_to}
-use Rattle.l4_core_model.specs.Acts.{begins_send, split_receiver, withdraws, fails_receive, withdraws_for, obeys, order_goes_to, gives_order, acts}
+use Rattle.l4_core_model.specs.Acts.{begins_send, split_receiver, withdraws, fails_for, withdraws_for, obeys, order_goes_to, gives_order, acts}
 use Rattle.l4_core_model.proofs.Apart.{apart}
 use Rattle.l4_merge.proofs.Lists.{all-append}
 use Rattle.l4_merge.proofs.Aims.{AllHomed, IsElsewhere}
@@ -142,8 +142,8 @@ pub withdraws_fits : (m : Machine) (cpu : ℕ) (cause : Cause) (i : ℕ) (to : O
 withdraws_fits m cpu cause i None foreign s l x h = less (omega arith) (omega arith) h
 withdraws_fits m cpu cause i (Some r) foreign s l x h = posts_fits _ _ (home_elsewhere m cpu r foreign) h
 
-pub fails_receive_fits : (m : Machine) (cpu : ℕ) (step : GlobalId → Step) (code i : ℕ) → Fits m cpu 1 0 (fails_receive m step code i)
-fails_receive_fits m cpu step code i x h = with_local (tells_fits _ h)
+pub fails_fits : (m : Machine) (cpu : ℕ) (why : Failure) (i : ℕ) → Fits m cpu 1 0 (fails_for m why i)
+fails_fits m cpu why i x h = with_local (tells_fits _ h)
 
 -- An originator turns to its new partner, wherever it stands.
 pub retargets_fits : (m : Machine) (cpu : ℕ) (o : Owed) (to : Option ℕ) → Fits m cpu 1 0 (if_some (retargets o) to)

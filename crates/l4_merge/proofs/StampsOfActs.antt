@@ -6,7 +6,7 @@ use Rattle.l4_model.specs.Words.{GlobalId}
 use Rattle.l4_model.specs.Machine.{Machine, OrderKind, CancelSend, CancelReceive, CancelBoth, Delete, place_of, is_place}
 use Rattle.l4_model.specs.World.{Message, Send, PendingOrder, is_deleted, Owed}
 use Rattle.l4_model.specs.Effects.{orders}
-use Rattle.l4_model.specs.Rules.{Act, RunsAlone, Sends, Receives, Orders, owed_by}
+use Rattle.l4_model.specs.Rules.{Failure, Act, RunsAlone, Sends, Receives, Orders, owed_by}
 use Rattle.l4_model.specs.Steps.{Step, Queue, Order}
 use Rattle.l4_model.proofs.Chains.{cond_keeps}
 use Rattle.l4_core_model.specs.Plain as plain
@@ -14,7 +14,7 @@ use Rattle.l4_core_model.specs.Letters.{Letter, Result, Refusal, Refused, Nobody
 use Rattle.l4_core_model.specs.Local.{Local, declared, is_own, thread, held, destination_place, comes_to, relists, last_name}
 use Rattle.l4_core_model.specs.Acts.{Work, ◌▷◌, tells, does, tells_send, entry, posts, decides_send, refuses, delivers_message, delivers_send, owes, owes_for, retargets}
 use Rattle.l4_core_model.specs.Acts.{delivers, first_acceptable, delivers_if_first, queues_send, arrives, zero_refusable, send_goes_to}
-use Rattle.l4_core_model.specs.Acts.{begins_send, withdraws, fails_receive, asks, withdraws_for, obeys, order_goes_to, gives_order, acts}
+use Rattle.l4_core_model.specs.Acts.{begins_send, withdraws, fails_for, asks, withdraws_for, obeys, order_goes_to, gives_order, acts}
 use Rattle.l4_merge.proofs.Lists.{all-append}
 
 -- The stamp of an event under way, and of the letters that it has posted so far.
@@ -90,8 +90,8 @@ pub withdraws_stamped : (m : Machine) (cause : Cause) (i : ℕ) (to : Option ℕ
 withdraws_stamped m cause i None s x h = h
 withdraws_stamped m cause i (Some r) s x h = posts_stamped _ _ s x h
 
-pub fails_receive_stamped : (m : Machine) (step : GlobalId → Step) (code i : ℕ) → KeepsStamp (fails_receive m step code i)
-fails_receive_stamped m step code i s x h = record { local = h.local; letters = h.letters }
+pub fails_stamped : (m : Machine) (why : Failure) (i : ℕ) → KeepsStamp (fails_for m why i)
+fails_stamped m why i s x h = record { local = h.local; letters = h.letters }
 
 -- An originator turns to its new partner, wherever it stands.
 pub retargets_stamped : (o : Owed) (to : Option ℕ) → KeepsStamp (if_some (retargets o) to)

@@ -7,7 +7,8 @@ use Rattle.l4_model.specs.Machine.{Machine, is_declared, place_of}
 use Rattle.l4_model.specs.Words.{same_id}
 use Rattle.l4_model.specs.Effects.{obeyed}
 use Rattle.l4_model.specs.World.{receive_now, is_deleted}
-use Rattle.l4_model.specs.Steps.{ReceiveCancel, ReceiveNobody, ReceiveTimeout, Tick}
+use Rattle.l4_model.specs.Rules.{TimeOver, NobodyThere, CancelAsked}
+use Rattle.l4_model.specs.Steps.{Tick}
 use Rattle.l4_model.specs.Conditions.{act_of}
 use Rattle.l4_model.proofs.Chains.{bind_then, guard_then, some_is, cond_keeps}
 use Rattle.l4_core_model.specs.Plain as plain
@@ -21,7 +22,7 @@ use Rattle.l4_core_model.specs.Turns.{next_stamp, opened, turn, advance, clock_i
 use Rattle.l4_core_model.specs.Mail.{own_place, foreign_place, waits_here, is_ordering, withdraws_here, handled}
 use Rattle.l4_merge.specs.Transitions.{LocalEvent, Handled, Turned, Ticked, work_of, letter_of}
 use Rattle.l4_merge.proofs.StampsOfActs.{IsStamped, KeepsStamp, posts_stamped, refuses_stamped, delivers_stamped, arrives_stamped, retargets_stamped}
-use Rattle.l4_merge.proofs.StampsOfActs.{withdraws_stamped, fails_receive_stamped, obeys_stamped, acts_stamped}
+use Rattle.l4_merge.proofs.StampsOfActs.{withdraws_stamped, fails_stamped, obeys_stamped, acts_stamped}
 
 -- The first act of an event gives it its stamp.
 pub opened_stamped : (letter_stamp : ℕ) (l : Local) → IsStamped (next_stamp letter_stamp l) (opened letter_stamp l)
@@ -40,14 +41,14 @@ does_duty_stamped m cpu i DropsOwn s x h = refuses_stamped m cpu Dropped i s x h
 does_duty_stamped m cpu i (RefusesFirst sender) s x h = refuses_stamped m cpu Nobody sender s x h
 does_duty_stamped m cpu i (TellsGone to) s x h = posts_stamped _ _ s _ (record { local = h.local; letters = h.letters })
 does_duty_stamped m cpu i CancelsOwn s x h = refuses_stamped m cpu Cancelled i s x h
-does_duty_stamped m cpu i CancelsReceive s x h = fails_receive_stamped m ReceiveCancel 7 i s x h
+does_duty_stamped m cpu i CancelsReceive s x h = fails_stamped m CancelAsked i s x h
 does_duty_stamped m cpu i (DeliversFirst sender) s x h = delivers_stamped m cpu i sender s x h
-does_duty_stamped m cpu i ClosesReceive s x h = fails_receive_stamped m ReceiveNobody 5 i s x h
+does_duty_stamped m cpu i ClosesReceive s x h = fails_stamped m NobodyThere i s x h
 does_duty_stamped m cpu i (RefusesZero sender) s x h = refuses_stamped m cpu TimedOut sender s x h
 
 times_out_stamped : (m : Machine) (cpu i : ℕ) → KeepsStamp (times_out m cpu i)
 times_out_stamped m cpu i s x h =
-    cond_keeps (IsStamped s) (is_some (receive_now (thread x.local i).phase)) _ _ (λ yes. fails_receive_stamped m ReceiveTimeout 3 i s x h)
+    cond_keeps (IsStamped s) (is_some (receive_now (thread x.local i).phase)) _ _ (λ yes. fails_stamped m TimeOver i s x h)
     (λ no. cond_keeps (IsStamped s) (plain.is_queued x.local.lists i) _ _ (λ yes. refuses_stamped m cpu TimedOut i s x h)
     (λ no. withdraws_stamped m ByTimeout i (split_place m cpu x.local i) s x h))
 

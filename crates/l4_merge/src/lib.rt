@@ -16,13 +16,15 @@
 
 ghost use Rattle.std.specs.Prelude.{ℕ, ◌≡◌, ◌≤◌, ◌+◌, ◌↔◌, ◌⊎◌, ◌++◌, true, Some, length};
 ghost use Rattle.std.specs.Prelude.{slice_get, List};
+ghost use Rattle.std.specs.List.{AllByRecursion};
 ghost use Rattle.std.specs.List.Sorted.{IsPermutation};
 ghost use Rattle.l4_model.specs.Machine.{Machine};
 ghost use Rattle.l4_model.specs.World.{changed};
 ghost use Rattle.l4_core_model.specs.Runs.{Event, Run, Ticks, opening_run, at_rest, merged};
 ghost use Rattle.l4_core_model.specs.Schedules.{attempts, run};
 ghost use Rattle.l4_core_model.specs.Laws.{IsCoreRun};
-ghost use Rattle.l4_merge.specs.LocalTraces.{LocalTrace, AddAtMost, AreWholePasts, HasTicked, HasTurned};
+ghost use Rattle.l4_merge.specs.LocalTraces.{LocalTrace, AddAtMost, AreWholePasts, HasTicked};
+ghost use Rattle.l4_merge.specs.LocalTraces.{HasTurned};
 ghost use Rattle.l4_merge.specs.LocalTraces.{HaveWorked, HaveTurned, opening_pasts, all_events};
 ghost use Rattle.l4_merge.specs.LocalTraces.{added_events};
 ghost use Rattle.l4_merge.specs.Merges.{EndsAt, IsMergedRun, HasMergedRun, HasTurnedRun};
@@ -76,6 +78,13 @@ pub fn law_merge()
 pub fn law_reorder()
     ensures whole { (m : Machine) (r : Run) → IsCoreRun m r → HasReorderedRun m r }
     ensures sorted { (m : Machine) (r : Run) → IsCoreRun m r → SortAsMerged r.events }
+{}
+
+/// An event tells at most three steps: those of a send that its receiver takes at once, which begins,
+/// is queued and is delivered.
+pub fn law_few_steps()
+    ensures { (m : Machine) (r : Run) → IsCoreRun m r →
+        AllByRecursion (λ event. length event.steps ≤ 3) r.events }
 {}
 
 /// On a machine of one processor there is one run in rounds: no letter ever comes, so each event is

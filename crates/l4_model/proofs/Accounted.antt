@@ -11,7 +11,7 @@ use Rattle.std.specs.Option.{option_map}
 use Rattle.l4_model.specs.Words.{GlobalId, Id}
 use Rattle.l4_model.specs.Machine.{Machine, Declaration, place_of, is_declared}
 use Rattle.l4_model.specs.World.{World, Send, Thread, changed, opening, opening_thread, Name}
-use Rattle.l4_model.specs.Steps.{Step, Begin, Deliver, SendTimeout, SendNobody, SendCancel, Drop, next}
+use Rattle.l4_model.specs.Steps.{Step, Begin, Deliver, Drop, next, OfSend, Failed}
 use Rattle.l4_model.specs.Conditions.{Pending, undecided, found_at, ◌>>=◌, ◌>>◌}
 use Rattle.l4_model.specs.History.{run, reached, waiting, begun_name}
 use Rattle.l4_model.specs.Laws.{same_name, names, delivered_name, refused_name, dropped_name, begins_of, deliveries_of, refusals_of, drops_of}
@@ -141,9 +141,7 @@ pub step_balance : (m : Machine) (w v : World) (s : Name) (step : Step) → Effe
     beginnings s step + pending_of m w s ≡ decisions s step + pending_of m v s
 step_balance m w v s (Begin t) e sound = omega (arith, begun_pending m w v s t e sound)
 step_balance m w v s (Deliver t receiver shown actual tag words) e sound = omega (arith, decided_pending m w v s t e)
-step_balance m w v s (SendTimeout t) e sound = omega (arith, decided_pending m w v s t e)
-step_balance m w v s (SendNobody t) e sound = omega (arith, decided_pending m w v s t e)
-step_balance m w v s (SendCancel t) e sound = omega (arith, decided_pending m w v s t e)
+step_balance m w v s (OfSend (Failed why) t) e sound = omega (arith, decided_pending m w v s t e)
 step_balance m w v s (Drop t) e sound = omega (arith, decided_pending m w v s t e)
 step_balance m w v s _ e sound = omega (arith, kept_pending m w v s e)
 
@@ -288,9 +286,7 @@ begun_unbegun m w v s t b = by (same_name s t) refl
 step_unbegun : (m : Machine) (w v : World) (s : Name) (step : Step) → Effect m w v step → beginnings s step + unbegun_of m v s ≤ unbegun_of m w s
 step_unbegun m w v s (Begin t) e = begun_unbegun m w v s t e
 step_unbegun m w v s (Deliver t receiver shown actual tag words) e = omega (arith, decided_unbegun m w v s t e)
-step_unbegun m w v s (SendTimeout t) e = omega (arith, decided_unbegun m w v s t e)
-step_unbegun m w v s (SendNobody t) e = omega (arith, decided_unbegun m w v s t e)
-step_unbegun m w v s (SendCancel t) e = omega (arith, decided_unbegun m w v s t e)
+step_unbegun m w v s (OfSend (Failed why) t) e = omega (arith, decided_unbegun m w v s t e)
 step_unbegun m w v s (Drop t) e = omega (arith, decided_unbegun m w v s t e)
 step_unbegun m w v s _ e = omega (arith, kept_unbegun m w v s e)
 

@@ -4,13 +4,13 @@ use Rattle.std.proofs.lemmas.Bool.{leb-true, le-leb}
 use Rattle.std.specs.Prelude.{slice_get, slice_index, ◌==◌, is_some}
 use Rattle.std.specs.Option.{option_map}
 use Rattle.l4_model.specs.Words.{GlobalId, Id, NilThread, AnyThread, AnyLocalThread, LocalThread, GlobalThread, Period}
-use Rattle.l4_model.specs.Machine.{Machine, Declaration, OrderKind, Instr, Set, Copy, Add, Tag, Vs, Ipc, Ask, Jump, OnErr, End, place_of}
+use Rattle.l4_model.specs.Machine.{Machine, Declaration, OrderKind, Instr, Run, Ipc, Ask, End, place_of}
 use Rattle.l4_model.specs.World.{World, Thread, Context, Send, Receive, Phase, Ready, Sending, Receiving, Ordering, Ended, Deleted, Name}
-use Rattle.l4_model.specs.Rules.{Act, RunsAlone, Sends, Receives, Orders, act, ipc_act, ask_act, is_admitted, destination, receive_phase}
+use Rattle.l4_model.specs.Rules.{Failure, TimeOver, NobodyThere, CancelAsked, Act, RunsAlone, Sends, Receives, Orders, act, ipc_act, ask_act, is_admitted, destination, receive_phase}
 use Rattle.l4_model.specs.Conditions.{Found, found, found_at, found_by, Pending, undecided, receiver_of, instruction, act_of, is_nobody, is_no_destination, has_passed, is_refusable, is_timed_out, ◌>>=◌, ◌>>◌}
-use Rattle.l4_model.specs.Steps.{Step, Local, Begin, Queue, Deliver, Wait, SendTimeout, ReceiveTimeout, SendNobody, ReceiveNobody, SendCancel, ReceiveCancel, Drop, Order, Obey, Tick, Retarget, runs_alone, send_of, receive_of, order_of, receive_passed, next}
+use Rattle.l4_model.specs.Steps.{Step, Deliver, Order, Tick, runs_alone, send_of, receive_of, order_of, receive_passed, may_fail, may_refuse, next, OfThread, OfSend, Runs, Waits, Fails, Obeys, Begun, Queued, Failed, Dropped, Retargeted}
 use Rattle.l4_model.specs.Still.{is_tick}
-use Rattle.l4_model.proofs.Inversions.{local_taken, begin_taken, queue_taken, deliver_taken, wait_taken, send_timeout_taken, send_nobody_taken, send_cancel_taken, drop_taken, receive_timeout_taken, receive_nobody_taken, receive_cancel_taken, order_taken, obey_taken, retarget_taken}
+use Rattle.l4_model.proofs.Inversions.{local_taken, begin_taken, queue_taken, deliver_taken, wait_taken, drop_taken, order_taken, obey_taken, retarget_taken, send_failed, receive_failed}
 use Rattle.l4_model.proofs.Places.{and_true, known, known_send}
 
 -- A world with other clocks.
@@ -126,15 +126,9 @@ ask_retimed m id later (GlobalThread t) what = by (is_admitted m id t what)
     by false = refl
 
 act_retimed : (m : Machine) (id : GlobalId) (now later : ℕ) (c : Context) (i : Instr) → act m id later c i ≡ retimed later (act m id now c i)
-act_retimed m id now later c (Set a word) = refl
-act_retimed m id now later c (Copy a b) = refl
-act_retimed m id now later c (Add format a word) = refl
-act_retimed m id now later c (Tag word) = refl
-act_retimed m id now later c (Vs other) = refl
+act_retimed m id now later c (Run own) = refl
 act_retimed m id now later c (Ipc to from send_period receive_period) = ipc_retimed m id now later c (destination c to) send_period (receive_phase from receive_period)
 act_retimed m id now later c (Ask target what) = ask_retimed m id later target what
-act_retimed m id now later c (Jump place) = refl
-act_retimed m id now later c (OnErr place) = refl
 act_retimed m id now later c End = refl
 
 act_at : (m : Machine) (clocks : List ℕ) (t : Found) → act_of m (at_clocks clocks t) ≡ retimed (slice_index clocks t.declared.cpu) (act_of m t)
@@ -194,56 +188,88 @@ receive_passed_later t later Ordering le h = cc
 receive_passed_later t later Ended le h = cc
 receive_passed_later t later Deleted le h = cc
 
+-- What may fail may fail later.
+
+may_fail_later : (m : Machine) (w : World) (later : List ℕ) (id : GlobalId) (t : Found) (receive : Receive)
+    (why : Failure) → found m w id ≡ Some t → AreLater w.clocks later → may_fail m w t receive why ≡ true →
+    may_fail m (with_clocks w later) (at_clocks later t) receive why ≡ true
+may_fail_later m w later id t receive TimeOver is le h =
+    let both = and_true (receive_passed t t.now.phase) _ h in
+    let clock : t.clock ≤ slice_index later t.declared.cpu =
+    omega (arith, (known m w id t is).clock, le t.declared.cpu) in
+    rw (receive_passed_later t later t.now.phase clock both.0) both.1
+may_fail_later m w later id t receive NobodyThere is le h =
+    rw (found_by_later m w later receive.from, nobody_later receive.from later (found_by m w receive.from)) h
+may_fail_later m w later id t receive CancelAsked is le h = h
+
+may_refuse_later : (m : Machine) (w : World) (later : List ℕ) (s : Name) (p : Pending) (why : Failure) →
+    undecided m w s ≡ Some p → AreLater w.clocks later → may_refuse m w s p why ≡ true →
+    may_refuse m (with_clocks w later) s (pending_at later p) why ≡ true
+may_refuse_later m w later s p TimeOver is le h =
+    let both = and_true (is_timed_out m w p) _ h in
+    rw (timed_out_later m w s later p is le both.0) both.1
+may_refuse_later m w later s p NobodyThere is le h =
+    rw (found_by_later m w later p.send.to, no_destination_later p.send.to later (receiver_of m w p)) h
+may_refuse_later m w later s p CancelAsked is le h = h
+
 -- A step that is possible stays so.
-pub possible_later : (m : Machine) (w v : World) (later : List ℕ) (step : Step) → is_tick step ≡ false → AreLater w.clocks later → next m w step ≡ Some v → is_some (next m (with_clocks w later) step) ≡ true
-possible_later m w v later (Local id) not_tick le h =
+pub possible_later : (m : Machine) (w v : World) (later : List ℕ) (step : Step) → is_tick step ≡ false →
+    AreLater w.clocks later → next m w step ≡ Some v → is_some (next m (with_clocks w later) step) ≡ true
+possible_later m w v later (OfThread Runs id) not_tick le h =
     let k = local_taken m w v id h in
-    let alone : runs_alone (act_of m (at_clocks later k.t)) ≡ true = rw (act_at m later k.t) (runs_later (slice_index later k.t.declared.cpu) (act_of m k.t) k.alone) in
+    let now : ℕ = slice_index later k.t.declared.cpu in
+    let alone : runs_alone (act_of m (at_clocks later k.t)) ≡ true =
+    rw (act_at m later k.t) (runs_later now (act_of m k.t) k.alone) in
     rw (found_is m w later id k.t k.found, k.ready, alone)
-possible_later m w v later (Begin s) not_tick le h =
+possible_later m w v later (OfThread Waits id) not_tick le h =
+    let k = wait_taken m w v id h in
+    let now : ℕ = slice_index later k.t.declared.cpu in
+    let receiving : receive_of (act_of m (at_clocks later k.t)) ≡ Some k.receive =
+    rw (act_at m later k.t) (receives_later now (act_of m k.t) ∙ k.receiving) in
+    rw (found_is m w later id k.t k.found, k.ready, receiving)
+possible_later m w v later (OfThread (Fails why) id) not_tick le h =
+    let k = receive_failed m w v id why h in
+    rw (found_is m w later id k.t k.found, k.receiving, may_fail_later m w later id k.t k.receive why k.found le k.may)
+possible_later m w v later (OfThread Obeys id) not_tick le h =
+    let k = obey_taken m w v id h in
+    rw (found_is m w later id k.t k.found, k.ordered, k.target_is)
+possible_later m w v later (OfSend Begun s) not_tick le h =
     let k = begin_taken m w v s h in
-    let sends : is_some (send_of (act_of m (at_clocks later k.t))) ≡ true = rw (act_at m later k.t) (sends_later (slice_index later k.t.declared.cpu) (act_of m k.t) k.send k.sends) in
-    rw (found_is m w later s.thread k.t k.found, k.ready, k.next_k) (goes_on_from (send_of (act_of m (at_clocks later k.t))) _ sends)
-possible_later m w v later (Queue s) not_tick le h =
+    let now : ℕ = slice_index later k.t.declared.cpu in
+    let sends : is_some (send_of (act_of m (at_clocks later k.t))) ≡ true =
+    rw (act_at m later k.t) (sends_later now (act_of m k.t) k.send k.sends) in
+    rw (found_is m w later s.thread k.t k.found, k.ready, k.next_k)
+    (goes_on_from (send_of (act_of m (at_clocks later k.t))) _ sends)
+possible_later m w v later (OfSend Queued s) not_tick le h =
     let k = queue_taken m w v s h in
     rw (undecided_is m w later s k.p k.is_undecided, receiver_is m w later k.p k.r k.to, k.alive, k.in_no_list, k.free)
-possible_later m w v later (Deliver s receiver shown actual tag words) not_tick le h =
-    let k = deliver_taken m w v s receiver shown actual tag words h in
-    rw (undecided_is m w later s k.p k.is_undecided, receiver_is m w later k.p k.r k.to, k.receiving, k.first_is, k.is_first, k.same_receiver, k.same_shown, k.same_actual, k.same_tag, k.same_words)
-possible_later m w v later (Wait id) not_tick le h =
-    let k = wait_taken m w v id h in
-    let receiving : receive_of (act_of m (at_clocks later k.t)) ≡ Some k.receive = rw (act_at m later k.t) (receives_later (slice_index later k.t.declared.cpu) (act_of m k.t) ∙ k.receiving) in
-    rw (found_is m w later id k.t k.found, k.ready, receiving)
-possible_later m w v later (SendTimeout s) not_tick le h =
-    let k = send_timeout_taken m w v s h in
-    rw (undecided_is m w later s k.p k.is_undecided, timed_out_later m w s later k.p k.is_undecided le k.due, k.free)
-possible_later m w v later (SendNobody s) not_tick le h =
-    let k = send_nobody_taken m w v s h in
-    rw (undecided_is m w later s k.p k.is_undecided, found_by_later m w later k.p.send.to, no_destination_later k.p.send.to later (receiver_of m w k.p), k.nobody, k.free)
-possible_later m w v later (SendCancel s) not_tick le h =
-    let k = send_cancel_taken m w v s h in
-    rw (undecided_is m w later s k.p k.is_undecided, k.in_list, k.wish)
-possible_later m w v later (Drop s) not_tick le h =
+possible_later m w v later (OfSend (Failed why) s) not_tick le h =
+    let k = send_failed m w v s why h in
+    rw (undecided_is m w later s k.p k.is_undecided, may_refuse_later m w later s k.p why k.is_undecided le k.may)
+possible_later m w v later (OfSend Dropped s) not_tick le h =
     let k = drop_taken m w v s h in
     rw (undecided_is m w later s k.p k.is_undecided, k.in_list, k.gone)
-possible_later m w v later (ReceiveTimeout id) not_tick le h =
-    let k = receive_timeout_taken m w v id h in
-    let clock : k.t.clock ≤ slice_index later k.t.declared.cpu = omega (arith, (known m w id k.t k.found).clock, le k.t.declared.cpu) in
-    rw (found_is m w later id k.t k.found, k.receiving, receive_passed_later k.t later k.t.now.phase clock k.due, k.none_accepted)
-possible_later m w v later (ReceiveNobody id) not_tick le h =
-    let k = receive_nobody_taken m w v id h in
-    rw (found_is m w later id k.t k.found, k.receiving, found_by_later m w later k.receive.from, nobody_later k.receive.from later (found_by m w k.receive.from), k.nobody, k.none_accepted)
-possible_later m w v later (ReceiveCancel id) not_tick le h =
-    let k = receive_cancel_taken m w v id h in
-    rw (found_is m w later id k.t k.found, k.receiving, k.wish)
-possible_later m w v later (Order caller target what) not_tick le h =
-    let k = order_taken m w v caller target what h in
-    let ordered : order_of (act_of m (at_clocks later k.t)) ≡ Some k.order = rw (act_at m later k.t) (orders_later (slice_index later k.t.declared.cpu) (act_of m k.t) ∙ k.ordered) in
-    rw (found_is m w later caller k.t k.found, k.ready, ordered, k.same_order)
-possible_later m w v later (Obey caller) not_tick le h =
-    let k = obey_taken m w v caller h in
-    rw (found_is m w later caller k.t k.found, k.ordered, k.target_is)
-possible_later m w v later (Tick cpu clock) not_tick le h = cc
-possible_later m w v later (Retarget s) not_tick le h =
+possible_later m w v later (OfSend Retargeted s) not_tick le h =
     let k = retarget_taken m w v s h in
     rw (k.is_owed, found_is m w later k.o.originator k.t k.found)
+possible_later m w v later (Deliver s receiver shown actual tag words) not_tick le h =
+    let k = deliver_taken m w v s receiver shown actual tag words h in
+    rw (
+      undecided_is m w later s k.p k.is_undecided,
+      receiver_is m w later k.p k.r k.to,
+      k.receiving,
+      k.first_is,
+      k.is_first,
+      k.same_receiver,
+      k.same_shown,
+      k.same_actual,
+      k.same_tag,
+      k.same_words,
+    )
+possible_later m w v later (Order caller target what) not_tick le h =
+    let k = order_taken m w v caller target what h in
+    let now : ℕ = slice_index later k.t.declared.cpu in
+    let ordered : order_of (act_of m (at_clocks later k.t)) ≡ Some k.order =
+    rw (act_at m later k.t) (orders_later now (act_of m k.t) ∙ k.ordered) in
+    rw (found_is m w later caller k.t k.found, k.ready, ordered, k.same_order)
+possible_later m w v later (Tick cpu clock) not_tick le h = cc

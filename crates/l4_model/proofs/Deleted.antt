@@ -9,12 +9,13 @@ use Rattle.l4_model.specs.Words.{GlobalId, Id, NilThread, AnyThread, AnyLocalThr
 use Rattle.l4_model.specs.Machine.{Machine, OrderKind, CancelSend, CancelReceive, CancelBoth, Delete, place_of}
 use Rattle.l4_model.specs.World.{World, Thread, PendingOrder, Owed, others_owed, Receive, Phase, Ready, Sending, Receiving, Ordering, Ended, Deleted, changed, change, is_ready, is_deleted, receive_now, unqueued}
 use Rattle.l4_model.specs.Conditions.{Found, Pending, found, found_by}
-use Rattle.l4_model.specs.Steps.{Step, Local, Begin, Queue, Deliver, Wait, SendTimeout, ReceiveTimeout, SendNobody, ReceiveNobody, SendCancel, ReceiveCancel, Drop, Order, Obey, Tick, Retarget, next}
+use Rattle.l4_model.specs.Steps.{ThreadStep, Step, Deliver, Order, Obey, Tick, after_thread, next, OfThread, OfSend, Runs, Waits, Fails, Obeys, Begun, Queued, Failed, Dropped, Retargeted}
+use Rattle.l4_model.specs.Rules.{receive_code, send_code}
 use Rattle.l4_model.specs.Effects.{fails, decided, refused, receives as gets, delivered, asked, obeyed, turns_in, turns}
 use Rattle.l4_model.specs.History.{run}
 use Rattle.l4_model.specs.Laws.{undone, is_delivered_to}
 use Rattle.l4_model.proofs.Chains.{bind_then, some_is, get-changed_same, get-changed_other}
-use Rattle.l4_model.proofs.Inversions.{local_taken, begin_taken, queue_taken, DeliverTaken, deliver_taken, wait_taken, send_timeout_taken, send_nobody_taken, send_cancel_taken, drop_taken, receive_timeout_taken, receive_nobody_taken, receive_cancel_taken, order_taken, obey_taken, tick_taken, retarget_taken}
+use Rattle.l4_model.proofs.Inversions.{local_taken, begin_taken, queue_taken, DeliverTaken, deliver_taken, wait_taken, send_failed, drop_taken, receive_failed, order_taken, obey_taken, tick_taken, retarget_taken}
 use Rattle.l4_model.proofs.Places.{same_id_is, known, receiver_place, receiver_there}
 
 -- no thread stands at this place, or a deleted one
@@ -108,36 +109,56 @@ refusal_stays : (m : Machine) (w : World) (p : Pending) (f : Thread → Thread) 
     gone_at w j ≡ true → gone_at (change (unqueued w p.sender.at) p.sender.at f) j ≡ true
 refusal_stays m w p f j keep gone = stays (unqueued w p.sender.at) p.sender.at f j (λ x at. keep x) gone
 
+thread_stays : (m : Machine) (w v : World) (kind : ThreadStep) (id : GlobalId) (j : ℕ) →
+    after_thread m w id kind ≡ Some v → gone_at w j ≡ true → gone_at v j ≡ true
+thread_stays m w v Runs id j h gone =
+    let k = local_taken m w v id h in
+    subst (λ u. gone_at u j ≡ true) k.leads_to (ready_stays m w id k.t _ j k.found k.ready gone)
+thread_stays m w v Waits id j h gone =
+    let k = wait_taken m w v id h in
+    subst (λ u. gone_at u j ≡ true) k.leads_to (ready_stays m w id k.t _ j k.found k.ready gone)
+thread_stays m w v (Fails why) id j h gone =
+    let k = receive_failed m w v id why h in
+    subst (λ u. gone_at u j ≡ true) k.leads_to
+    (stays w k.t.at (fails (receive_code why)) j (λ x at. fails_stays (receive_code why) x) gone)
+thread_stays m w v Obeys id j h gone =
+    let k = obey_taken m w v id h in
+    subst (λ u. gone_at u j ≡ true) k.leads_to
+    (stays (change w k.target (asked k.order.what)) k.t.at obeyed j (λ x at. obeyed_stays x)
+    (stays w k.target (asked k.order.what) j (λ x at. asked_stays k.order.what x) gone))
+
 step_stays : (m : Machine) (w v : World) (step : Step) (j : ℕ) → next m w step ≡ Some v → gone_at w j ≡ true → gone_at v j ≡ true
-step_stays m w v (Local id) j h gone = let k = local_taken m w v id h in subst (λ u. gone_at u j ≡ true) k.leads_to (ready_stays m w id k.t _ j k.found k.ready gone)
-step_stays m w v (Begin s) j h gone = let k = begin_taken m w v s h in subst (λ u. gone_at u j ≡ true) k.leads_to (ready_stays m w s.thread k.t _ j k.found k.ready gone)
-step_stays m w v (Queue s) j h gone = let k = queue_taken m w v s h in subst (λ u. gone_at u j ≡ true) k.leads_to gone
+step_stays m w v (OfThread kind id) j h gone = thread_stays m w v kind id j h gone
+step_stays m w v (OfSend Begun s) j h gone =
+    let k = begin_taken m w v s h in
+    subst (λ u. gone_at u j ≡ true) k.leads_to (ready_stays m w s.thread k.t _ j k.found k.ready gone)
+step_stays m w v (OfSend Queued s) j h gone = subst (λ u. gone_at u j ≡ true) (queue_taken m w v s h).leads_to gone
+step_stays m w v (OfSend (Failed why) s) j h gone =
+    let k = send_failed m w v s why h in
+    subst (λ u. gone_at u j ≡ true) k.leads_to
+    (refusal_stays m w k.p (refused (send_code why)) j (λ x. fails_stays (send_code why) (decided x)) gone)
+step_stays m w v (OfSend Dropped s) j h gone =
+    let k = drop_taken m w v s h in
+    subst (λ u. gone_at u j ≡ true) k.leads_to (refusal_stays m w k.p decided j (λ x d. d) gone)
+step_stays m w v (OfSend Retargeted s) j h gone =
+    let k = retarget_taken m w v s h in
+    let u : World = record w { owed = others_owed w.owed s } in
+    subst (λ u. gone_at u j ≡ true) k.leads_to (stays u k.t.at (turns k.o) j (λ x at. turns_stays k.o x) gone)
 step_stays m w v (Deliver s receiver shown actual tag words) j h gone =
     let k = deliver_taken m w v s receiver shown actual tag words h in
     let g : Thread → Thread = gets k.p.send.message tag in
     subst (λ u. gone_at u j ≡ true) k.leads_to
-    (stays (change (unqueued w k.p.sender.at) k.r.at g) k.p.sender.at (delivered k.p.send k.p.sender.clock) j (λ x at. delivered_stays k.p k.p.sender.clock x)
+    (stays (change (unqueued w k.p.sender.at) k.r.at g) k.p.sender.at (delivered k.p.send k.p.sender.clock) j
+    (λ x at. delivered_stays k.p k.p.sender.clock x)
     (stays (unqueued w k.p.sender.at) k.r.at g j (λ x at d.
     let same = receiver_now m w k.p.send.to k.r k.to x at in
-    receiving_not_deleted x.phase k.receive (ap (λ (y : Thread). receive_now y.phase) (sym same) ∙ k.receiving) d) gone))
-step_stays m w v (Wait id) j h gone = let k = wait_taken m w v id h in subst (λ u. gone_at u j ≡ true) k.leads_to (ready_stays m w id k.t _ j k.found k.ready gone)
-step_stays m w v (SendTimeout s) j h gone = let k = send_timeout_taken m w v s h in subst (λ u. gone_at u j ≡ true) k.leads_to (refusal_stays m w k.p (refused 2) j (λ x. fails_stays 2 (decided x)) gone)
-step_stays m w v (SendNobody s) j h gone = let k = send_nobody_taken m w v s h in subst (λ u. gone_at u j ≡ true) k.leads_to (refusal_stays m w k.p (refused 4) j (λ x. fails_stays 4 (decided x)) gone)
-step_stays m w v (SendCancel s) j h gone = let k = send_cancel_taken m w v s h in subst (λ u. gone_at u j ≡ true) k.leads_to (refusal_stays m w k.p (refused 6) j (λ x. fails_stays 6 (decided x)) gone)
-step_stays m w v (Drop s) j h gone = let k = drop_taken m w v s h in subst (λ u. gone_at u j ≡ true) k.leads_to (refusal_stays m w k.p decided j (λ x d. d) gone)
-step_stays m w v (ReceiveTimeout id) j h gone = let k = receive_timeout_taken m w v id h in subst (λ u. gone_at u j ≡ true) k.leads_to (stays w k.t.at (fails 3) j (λ x at. fails_stays 3 x) gone)
-step_stays m w v (ReceiveNobody id) j h gone = let k = receive_nobody_taken m w v id h in subst (λ u. gone_at u j ≡ true) k.leads_to (stays w k.t.at (fails 5) j (λ x at. fails_stays 5 x) gone)
-step_stays m w v (ReceiveCancel id) j h gone = let k = receive_cancel_taken m w v id h in subst (λ u. gone_at u j ≡ true) k.leads_to (stays w k.t.at (fails 7) j (λ x at. fails_stays 7 x) gone)
-step_stays m w v (Order caller target what) j h gone = let k = order_taken m w v caller target what h in subst (λ u. gone_at u j ≡ true) k.leads_to (ready_stays m w caller k.t _ j k.found k.ready gone)
-step_stays m w v (Obey caller) j h gone =
-    let k = obey_taken m w v caller h in
-    subst (λ u. gone_at u j ≡ true) k.leads_to
-    (stays (change w k.target (asked k.order.what)) k.t.at obeyed j (λ x at. obeyed_stays x) (stays w k.target (asked k.order.what) j (λ x at. asked_stays k.order.what x) gone))
-step_stays m w v (Tick cpu clock) j h gone = let k = tick_taken m w v cpu clock h in subst (λ u. gone_at u j ≡ true) k.leads_to gone
-step_stays m w v (Retarget s) j h gone =
-    let k = retarget_taken m w v s h in
-    let u : World = record w { owed = others_owed w.owed s } in
-    subst (λ u. gone_at u j ≡ true) k.leads_to (stays u k.t.at (turns k.o) j (λ x at. turns_stays k.o x) gone)
+    let receiving = ap (λ (y : Thread). receive_now y.phase) (sym same) ∙ k.receiving in
+    receiving_not_deleted x.phase k.receive receiving d) gone))
+step_stays m w v (Order caller target what) j h gone =
+    let k = order_taken m w v caller target what h in
+    subst (λ u. gone_at u j ≡ true) k.leads_to (ready_stays m w caller k.t _ j k.found k.ready gone)
+step_stays m w v (Tick cpu clock) j h gone =
+    subst (λ u. gone_at u j ≡ true) (tick_taken m w v cpu clock h).leads_to gone
 
 no_delivery : (m : Machine) (w v : World) (step : Step) (target : GlobalId) (j : ℕ) → next m w step ≡ Some v → place_of m target ≡ Some j → gone_at w j ≡ true → is_delivered_to target step ≡ false
 no_delivery m w v (Deliver s receiver shown actual tag words) target j h place gone = by (same_id target receiver) refl

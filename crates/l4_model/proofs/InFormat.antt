@@ -1,19 +1,19 @@
 -- Registers and messages keep to the format of the machine's scripts.
 use Rattle.std.proofs.Common.{subst, ◌≡◌, ℕ, zero, suc, ◌+◌, ◌*◌, ◌/◌, ◌%◌, ◌^◌, ◌<◌, ◌≤◌, Bool, true, false, Option, Some, None, List, [], ◌∷◌, length, take, drop, refl, ap, ◌∙◌, arith}
-use Rattle.std.specs.Prelude.{◌==◌, slice_get, slice_index, slice_set, IfSome}
+use Rattle.std.specs.Prelude.{slice_get, slice_index, slice_set, IfSome}
 use Rattle.std.specs.List.{list_all}
 use Rattle.std.specs.Option.{option_map}
 use Rattle.std.proofs.lemmas.Bool.{and_parts, and_from, ltb-true, lt-ltb, eqb-true}
 use Rattle.std.proofs.lemmas.List.Folds.{list_all-append}
 use Rattle.std.proofs.lemmas.Slice.Eq.{bytes_eq-Decides}
 use Rattle.l4_model.specs.Words.{Format, W64, W32, word_limit, label_limit_in, is_word_in, same_format, GlobalId}
-use Rattle.l4_model.specs.Machine.{Machine, Declaration, Instr, Set, Copy, Add, Tag, Vs, Ipc, Ask, Jump, OnErr, End, OrderKind, CancelSend, CancelReceive, CancelBoth, Delete, instruction_at}
+use Rattle.l4_model.specs.Machine.{Machine, Declaration, Value, Word, Register, Sum, Own, Assign, AssignTag, AssignVs, GoTo, GoToOnErr, Instr, Run, Ipc, Ask, End, OrderKind, CancelSend, CancelReceive, CancelBoth, Delete, instruction_at}
 use Rattle.l4_model.specs.World.{Context, Thread, World, Message, Send, Receive, Owed, Phase, Ready, Sending, Receiving, Ordering, Ended, Deleted, opening, opening_thread, is_alive}
-use Rattle.l4_model.specs.Rules.{ran, received_tag, is_cross, message_of, bit}
+use Rattle.l4_model.specs.Rules.{assigned, words_after, ran, received_tag, is_cross, message_of, bit}
 use Rattle.l4_model.specs.Steps.{Step, Deliver, next}
 use Rattle.l4_model.specs.History.{run, reached}
 use Rattle.l4_model.specs.Effects.{fails, decided, receives, goes_on, asked, turned_send, turns_in, turns}
-use Rattle.l4_model.specs.Formats.{writes_words, is_of_format, tells_words, has_words, StaysIn}
+use Rattle.l4_model.specs.Formats.{gives_words, writes_words, is_of_format, tells_words, has_words, StaysIn}
 use Rattle.l4_model.proofs.Chains.{bind_then, some_is, cond_keeps}
 use Rattle.l4_model.proofs.Inversions.{deliver_taken}
 use Rattle.l4_model.proofs.Keeping.{Each, Maintained, step_each, sender_fact, opening_is}
@@ -78,16 +78,22 @@ sum_fits W32 W32 sum h = lt-ltb (sum % 2 ^ 32) (2 ^ 32) (omega arith)
 sum_fits W64 W32 sum h = cc
 sum_fits W32 W64 sum h = cc
 
+assigned_fits : (f : Format) (value : Value) (a : ℕ) (words : List ℕ) → gives_words f value ≡ true → list_all (is_word_in f) words ≡ true → is_word_in f (assigned value a words) ≡ true
+assigned_fits f (Word word) a words i h = i
+assigned_fits f (Register b) a words i h = all_at f words b h
+assigned_fits f (Sum format word) a words i h = sum_fits f format (slice_index words a + word) i
+
+own_fits : (f : Format) (own : Own) (words : List ℕ) → writes_words f (Run own) ≡ true → list_all (is_word_in f) words ≡ true → list_all (is_word_in f) (words_after own words) ≡ true
+own_fits f (Assign a value) words i h = all_set f words a _ h (assigned_fits f value a words i h)
+own_fits f (AssignTag word) words i h = all_set f words 0 word h i
+own_fits f (AssignVs id) words i h = h
+own_fits f (GoTo place) words i h = h
+own_fits f (GoToOnErr place) words i h = h
+
 registers_ran : (f : Format) (i : Instr) (c : Context) → writes_words f i ≡ true → list_all (is_word_in f) c.words ≡ true → list_all (is_word_in f) (ran i c).words ≡ true
-registers_ran f (Set a word) c i h = all_set f c.words a word h i
-registers_ran f (Copy a b) c i h = all_set f c.words a (slice_index c.words b) h (all_at f c.words b h)
-registers_ran f (Add format a word) c i h = all_set f c.words a _ h (sum_fits f format (slice_index c.words a + word) i)
-registers_ran f (Tag word) c i h = all_set f c.words 0 word h i
-registers_ran f (Vs id) c i h = h
+registers_ran f (Run own) c i h = own_fits f own c.words i h
 registers_ran f (Ipc to from send_period receive_period) c i h = all_set f c.words 0 0 h (zero_fits f)
 registers_ran f (Ask target what) c i h = h
-registers_ran f (Jump place) c i h = h
-registers_ran f (OnErr place) c i h = cond_keeps (λ (x : Context). list_all (is_word_in f) x.words ≡ true) (c.error == 0) _ _ (λ e. h) (λ e. h)
 registers_ran f End c i h = h
 
 label_fits : (f : Format) (word : ℕ) → is_word_in f word ≡ true → word / 2 ^ 16 < label_limit_in f

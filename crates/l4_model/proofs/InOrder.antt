@@ -8,7 +8,7 @@ use Rattle.std.specs.Option.{option_map}
 use Rattle.l4_model.specs.Words.{GlobalId, same_id}
 use Rattle.l4_model.specs.Machine.{Machine, place_of}
 use Rattle.l4_model.specs.World.{World, Send, changed, opening, Name}
-use Rattle.l4_model.specs.Steps.{Step, Begin, Deliver, SendTimeout, SendNobody, SendCancel, Drop, next}
+use Rattle.l4_model.specs.Steps.{Step, Begin, Deliver, Drop, next, OfSend, Failed}
 use Rattle.l4_model.specs.Conditions.{◌>>=◌}
 use Rattle.l4_model.specs.History.{run, reached}
 use Rattle.l4_model.specs.Laws.{number_between, IsRising}
@@ -92,9 +92,7 @@ step_between : (m : Machine) (w v : World) (from to : GlobalId) (step : Step) �
     Between (least_of m w from) (least_of m v from) (number_between from to step)
 step_between m w v from to (Begin s) e = begun_between m w v from s e
 step_between m w v from to (Deliver s receiver shown actual tag words) e = delivered_between m w v from to receiver s e
-step_between m w v from to (SendTimeout s) e = decided_between m w v from s e
-step_between m w v from to (SendNobody s) e = decided_between m w v from s e
-step_between m w v from to (SendCancel s) e = decided_between m w v from s e
+step_between m w v from to (OfSend (Failed why) s) e = decided_between m w v from s e
 step_between m w v from to (Drop s) e = decided_between m w v from s e
 step_between m w v from to _ e = kept_between m w v from e
 

@@ -1,15 +1,16 @@
 -- What is known where a step was possible: each line of its rule, under a name.
-use Rattle.std.proofs.Common.{◌≡◌, ℕ, ◌+◌, ◌^◌, true, Some, List}
+use Rattle.std.proofs.Common.{subst, ◌≡◌, ℕ, ◌+◌, ◌^◌, true, Some, List, refl, ap, sym}
 use Rattle.std.specs.Prelude.{slice_get, slice_set, nat_lt, ◌==◌, not, ◌&&◌, is_none}
 use Rattle.std.specs.Str.{bytes_eq}
 use Rattle.l4_model.specs.Words.{GlobalId, same_id}
 use Rattle.l4_model.specs.Machine.{Machine, OrderKind, place_of}
 use Rattle.l4_model.specs.World.{Receive, Send, PendingOrder, World, change, is_alive, is_ready, is_deleted, receive_now, queued, unqueued, Name, Owed, owed_of, others_owed, must_wait}
 use Rattle.l4_model.specs.Conditions.{Found, found, Pending, undecided, receiver_of, instruction, act_of, is_waiting, first_accepted, is_nobody, found_by, is_no_destination, is_timed_out}
-use Rattle.l4_model.specs.Rules.{received_tag, is_cross, owed_by}
-use Rattle.l4_model.specs.Steps.{order_kind_code, runs_alone, send_of, receive_of, order_of, after_local, after_begin, after_queue, after_deliver, after_wait, owing, without_send, after_send_timeout, after_send_nobody, after_send_cancel, after_drop, receive_passed, after_receive_timeout, after_receive_nobody, after_receive_cancel, after_order, after_obey, after_tick, after_retarget}
+use Rattle.l4_model.specs.Rules.{Failure, TimeOver, NobodyThere, CancelAsked, send_code, receive_code, received_tag, is_cross, owed_by}
+use Rattle.l4_model.specs.Steps.{ThreadStep, Runs, Waits, Fails, Obeys, SendStep, Begun, Queued, Failed, Dropped, Retargeted, after_thread, after_failure, after_send, after_refusal, order_kind_code, runs_alone, send_of, receive_of, order_of, after_local, after_begin, after_queue, after_deliver, after_wait, owing, without_send, after_drop, receive_passed, may_fail, may_refuse, after_order, after_obey, after_tick, after_retarget}
 use Rattle.l4_model.specs.Effects.{runs, begins, waits, fails, decided, refused, receives, delivered, asked, orders, obeyed, turns}
 use Rattle.l4_model.proofs.Chains.{bind_then, guard_then, some_is}
+use Rattle.l4_model.proofs.Places.{and_true}
 
 pub record LocalTaken (m : Machine) (w v : World) (id : GlobalId) : Type 0 where
   pub t : Found
@@ -109,6 +110,37 @@ wait_taken m w v id h =
     bind_then (receive_of (act_of m t)) _ v rest λ receive receiving rest.
     record { t = t; found = found; ready = ready; receive = receive; receiving = receiving; leads_to = some_is _ v rest }
 
+-- A send is refused, or a receive phase fails, for this reason.
+
+pub record SendFailed (m : Machine) (w v : World) (s : Name) (why : Failure) : Type 0 where
+  pub p : Pending
+  pub is_undecided : undecided m w s ≡ Some p
+  pub may : may_refuse m w s p why ≡ true
+  pub leads_to : without_send w p (refused (send_code why)) ≡ v
+
+pub send_failed : (m : Machine) (w v : World) (s : Name) (why : Failure) →
+    after_refusal m w s why ≡ Some v → SendFailed m w v s why
+send_failed m w v s why h =
+    bind_then (undecided m w s) _ v h λ p is_undecided rest.
+    guard_then (may_refuse m w s p why) _ v rest λ may rest.
+    record { p = p; is_undecided = is_undecided; may = may; leads_to = some_is _ v rest }
+
+pub record ReceiveFailed (m : Machine) (w v : World) (id : GlobalId) (why : Failure) : Type 0 where
+  pub t : Found
+  pub found : found m w id ≡ Some t
+  pub receive : Receive
+  pub receiving : receive_now t.now.phase ≡ Some receive
+  pub may : may_fail m w t receive why ≡ true
+  pub leads_to : change w t.at (fails (receive_code why)) ≡ v
+
+pub receive_failed : (m : Machine) (w v : World) (id : GlobalId) (why : Failure) →
+    after_failure m w id why ≡ Some v → ReceiveFailed m w v id why
+receive_failed m w v id why h =
+    bind_then (found m w id) _ v h λ t found rest.
+    bind_then (receive_now t.now.phase) _ v rest λ receive receiving rest.
+    guard_then (may_fail m w t receive why) _ v rest λ may rest.
+    record { t = t; found = found; receive = receive; receiving = receiving; may = may; leads_to = some_is _ v rest }
+
 pub record SendTimeoutTaken (m : Machine) (w v : World) (s : Name) : Type 0 where
   pub p : Pending
   pub is_undecided : undecided m w s ≡ Some p
@@ -116,12 +148,11 @@ pub record SendTimeoutTaken (m : Machine) (w v : World) (s : Name) : Type 0 wher
   pub free : (not (must_wait w.owed s.thread p.send.to)) ≡ true
   pub leads_to : without_send w p (refused 2) ≡ v
 
-pub send_timeout_taken : (m : Machine) (w v : World) (s : Name) → after_send_timeout m w s ≡ Some v → SendTimeoutTaken m w v s
+pub send_timeout_taken : (m : Machine) (w v : World) (s : Name) → after_refusal m w s TimeOver ≡ Some v → SendTimeoutTaken m w v s
 send_timeout_taken m w v s h =
-    bind_then (undecided m w s) _ v h λ p is_undecided rest.
-    guard_then (is_timed_out m w p) _ v rest λ due rest.
-    guard_then (not (must_wait w.owed s.thread p.send.to)) _ v rest λ free rest.
-    record { p = p; is_undecided = is_undecided; due = due; free = free; leads_to = some_is _ v rest }
+    let k = send_failed m w v s TimeOver h in
+    let both = and_true (is_timed_out m w k.p) _ k.may in
+    record { p = k.p; is_undecided = k.is_undecided; due = both.0; free = both.1; leads_to = k.leads_to }
 
 pub record SendNobodyTaken (m : Machine) (w v : World) (s : Name) : Type 0 where
   pub p : Pending
@@ -130,12 +161,11 @@ pub record SendNobodyTaken (m : Machine) (w v : World) (s : Name) : Type 0 where
   pub free : (not (must_wait w.owed s.thread p.send.to)) ≡ true
   pub leads_to : without_send w p (refused 4) ≡ v
 
-pub send_nobody_taken : (m : Machine) (w v : World) (s : Name) → after_send_nobody m w s ≡ Some v → SendNobodyTaken m w v s
+pub send_nobody_taken : (m : Machine) (w v : World) (s : Name) → after_refusal m w s NobodyThere ≡ Some v → SendNobodyTaken m w v s
 send_nobody_taken m w v s h =
-    bind_then (undecided m w s) _ v h λ p is_undecided rest.
-    guard_then (is_no_destination p.send.to (receiver_of m w p)) _ v rest λ nobody rest.
-    guard_then (not (must_wait w.owed s.thread p.send.to)) _ v rest λ free rest.
-    record { p = p; is_undecided = is_undecided; nobody = nobody; free = free; leads_to = some_is _ v rest }
+    let k = send_failed m w v s NobodyThere h in
+    let both = and_true (is_no_destination k.p.send.to (receiver_of m w k.p)) _ k.may in
+    record { p = k.p; is_undecided = k.is_undecided; nobody = both.0; free = both.1; leads_to = k.leads_to }
 
 pub record SendCancelTaken (m : Machine) (w v : World) (s : Name) : Type 0 where
   pub p : Pending
@@ -144,12 +174,11 @@ pub record SendCancelTaken (m : Machine) (w v : World) (s : Name) : Type 0 where
   pub wish : (p.sender.now.cancel_send) ≡ true
   pub leads_to : without_send w p (refused 6) ≡ v
 
-pub send_cancel_taken : (m : Machine) (w v : World) (s : Name) → after_send_cancel m w s ≡ Some v → SendCancelTaken m w v s
+pub send_cancel_taken : (m : Machine) (w v : World) (s : Name) → after_refusal m w s CancelAsked ≡ Some v → SendCancelTaken m w v s
 send_cancel_taken m w v s h =
-    bind_then (undecided m w s) _ v h λ p is_undecided rest.
-    guard_then (is_waiting w p) _ v rest λ in_list rest.
-    guard_then (p.sender.now.cancel_send) _ v rest λ wish rest.
-    record { p = p; is_undecided = is_undecided; in_list = in_list; wish = wish; leads_to = some_is _ v rest }
+    let k = send_failed m w v s CancelAsked h in
+    let both = and_true (is_waiting w k.p) _ k.may in
+    record { p = k.p; is_undecided = k.is_undecided; in_list = both.0; wish = both.1; leads_to = k.leads_to }
 
 pub record DropTaken (m : Machine) (w v : World) (s : Name) : Type 0 where
   pub p : Pending
@@ -174,13 +203,19 @@ pub record ReceiveTimeoutTaken (m : Machine) (w v : World) (id : GlobalId) : Typ
   pub none_accepted : (is_none (first_accepted m w t receive.from)) ≡ true
   pub leads_to : change w t.at (fails 3) ≡ v
 
-pub receive_timeout_taken : (m : Machine) (w v : World) (id : GlobalId) → after_receive_timeout m w id ≡ Some v → ReceiveTimeoutTaken m w v id
+pub receive_timeout_taken : (m : Machine) (w v : World) (id : GlobalId) → after_failure m w id TimeOver ≡ Some v → ReceiveTimeoutTaken m w v id
 receive_timeout_taken m w v id h =
-    bind_then (found m w id) _ v h λ t found rest.
-    bind_then (receive_now t.now.phase) _ v rest λ receive receiving rest.
-    guard_then (receive_passed t t.now.phase) _ v rest λ due rest.
-    guard_then (is_none (first_accepted m w t receive.from)) _ v rest λ none_accepted rest.
-    record { t = t; found = found; receive = receive; receiving = receiving; due = due; none_accepted = none_accepted; leads_to = some_is _ v rest }
+    let k = receive_failed m w v id TimeOver h in
+    let both = and_true (receive_passed k.t k.t.now.phase) _ k.may in
+    record {
+      t = k.t;
+      found = k.found;
+      receive = k.receive;
+      receiving = k.receiving;
+      due = both.0;
+      none_accepted = both.1;
+      leads_to = k.leads_to;
+    }
 
 pub record ReceiveNobodyTaken (m : Machine) (w v : World) (id : GlobalId) : Type 0 where
   pub t : Found
@@ -191,13 +226,19 @@ pub record ReceiveNobodyTaken (m : Machine) (w v : World) (id : GlobalId) : Type
   pub none_accepted : (is_none (first_accepted m w t receive.from)) ≡ true
   pub leads_to : change w t.at (fails 5) ≡ v
 
-pub receive_nobody_taken : (m : Machine) (w v : World) (id : GlobalId) → after_receive_nobody m w id ≡ Some v → ReceiveNobodyTaken m w v id
+pub receive_nobody_taken : (m : Machine) (w v : World) (id : GlobalId) → after_failure m w id NobodyThere ≡ Some v → ReceiveNobodyTaken m w v id
 receive_nobody_taken m w v id h =
-    bind_then (found m w id) _ v h λ t found rest.
-    bind_then (receive_now t.now.phase) _ v rest λ receive receiving rest.
-    guard_then (is_nobody receive.from (found_by m w receive.from)) _ v rest λ nobody rest.
-    guard_then (is_none (first_accepted m w t receive.from)) _ v rest λ none_accepted rest.
-    record { t = t; found = found; receive = receive; receiving = receiving; nobody = nobody; none_accepted = none_accepted; leads_to = some_is _ v rest }
+    let k = receive_failed m w v id NobodyThere h in
+    let both = and_true (is_nobody k.receive.from (found_by m w k.receive.from)) _ k.may in
+    record {
+      t = k.t;
+      found = k.found;
+      receive = k.receive;
+      receiving = k.receiving;
+      nobody = both.0;
+      none_accepted = both.1;
+      leads_to = k.leads_to;
+    }
 
 pub record ReceiveCancelTaken (m : Machine) (w v : World) (id : GlobalId) : Type 0 where
   pub t : Found
@@ -207,12 +248,17 @@ pub record ReceiveCancelTaken (m : Machine) (w v : World) (id : GlobalId) : Type
   pub wish : (t.now.cancel_receive) ≡ true
   pub leads_to : change w t.at (fails 7) ≡ v
 
-pub receive_cancel_taken : (m : Machine) (w v : World) (id : GlobalId) → after_receive_cancel m w id ≡ Some v → ReceiveCancelTaken m w v id
+pub receive_cancel_taken : (m : Machine) (w v : World) (id : GlobalId) → after_failure m w id CancelAsked ≡ Some v → ReceiveCancelTaken m w v id
 receive_cancel_taken m w v id h =
-    bind_then (found m w id) _ v h λ t found rest.
-    bind_then (receive_now t.now.phase) _ v rest λ receive receiving rest.
-    guard_then (t.now.cancel_receive) _ v rest λ wish rest.
-    record { t = t; found = found; receive = receive; receiving = receiving; wish = wish; leads_to = some_is _ v rest }
+    let k = receive_failed m w v id CancelAsked h in
+    record {
+      t = k.t;
+      found = k.found;
+      receive = k.receive;
+      receiving = k.receiving;
+      wish = k.may;
+      leads_to = k.leads_to;
+    }
 
 pub record OrderTaken (m : Machine) (w v : World) (caller target : GlobalId) (what : OrderKind) : Type 0 where
   pub t : Found
@@ -271,3 +317,40 @@ retarget_taken m w v s h =
     bind_then (owed_of w.owed s) _ v h λ o is_owed rest.
     bind_then (found m w o.originator) _ v rest λ t found rest.
     record { o = o; is_owed = is_owed; t = t; found = found; leads_to = some_is _ v rest }
+
+-- A step changes nothing but threads.
+pub record ThreadsAlone (w v : World) : Type 0 where
+  pub waiting : v.waiting ≡ w.waiting
+  pub clocks : v.clocks ≡ w.clocks
+  pub owed : v.owed ≡ w.owed
+
+changes_alone : (w u v : World) → u ≡ v → ThreadsAlone w u → ThreadsAlone w v
+changes_alone w u v e h = subst (ThreadsAlone w) e h
+
+pub thread_alone : (m : Machine) (w v : World) (kind : ThreadStep) (id : GlobalId) →
+    after_thread m w id kind ≡ Some v → ThreadsAlone w v
+thread_alone m w v Runs id h =
+    changes_alone w _ v (local_taken m w v id h).leads_to (record { waiting = refl; clocks = refl; owed = refl })
+thread_alone m w v Waits id h =
+    changes_alone w _ v (wait_taken m w v id h).leads_to (record { waiting = refl; clocks = refl; owed = refl })
+thread_alone m w v (Fails why) id h =
+    changes_alone w _ v (receive_failed m w v id why h).leads_to (record { waiting = refl; clocks = refl; owed = refl })
+thread_alone m w v Obeys id h =
+    changes_alone w _ v (obey_taken m w v id h).leads_to (record { waiting = refl; clocks = refl; owed = refl })
+
+-- A step of a thread finds it.
+pub thread_found : (m : Machine) (w v : World) (kind : ThreadStep) (id : GlobalId) →
+    after_thread m w id kind ≡ Some v → (t : Found) × (found m w id ≡ Some t)
+thread_found m w v Runs id h = let k = local_taken m w v id h in (k.t, k.found)
+thread_found m w v Waits id h = let k = wait_taken m w v id h in (k.t, k.found)
+thread_found m w v (Fails why) id h = let k = receive_failed m w v id why h in (k.t, k.found)
+thread_found m w v Obeys id h = let k = obey_taken m w v id h in (k.t, k.found)
+
+-- A step of a send keeps the clocks.
+pub send_clocks : (m : Machine) (w v : World) (kind : SendStep) (s : Name) →
+    after_send m w s kind ≡ Some v → v.clocks ≡ w.clocks
+send_clocks m w v Begun s h = ap (λ (u : World). u.clocks) (sym (begin_taken m w v s h).leads_to)
+send_clocks m w v Queued s h = ap (λ (u : World). u.clocks) (sym (queue_taken m w v s h).leads_to)
+send_clocks m w v (Failed why) s h = ap (λ (u : World). u.clocks) (sym (send_failed m w v s why h).leads_to)
+send_clocks m w v Dropped s h = ap (λ (u : World). u.clocks) (sym (drop_taken m w v s h).leads_to)
+send_clocks m w v Retargeted s h = ap (λ (u : World). u.clocks) (sym (retarget_taken m w v s h).leads_to)

@@ -6,13 +6,13 @@ use Rattle.std.specs.Prelude.{slice_get, slice_set, slice_index, nat_lt, ◌⊎�
 use Rattle.l4_model.specs.Words.{GlobalId, Id, NilThread, AnyThread, AnyLocalThread, LocalThread, GlobalThread}
 use Rattle.l4_model.specs.Machine.{Machine, Declaration, OrderKind, CancelSend, CancelReceive, CancelBoth, Delete, place_of, is_declared, instruction_at}
 use Rattle.l4_model.specs.World.{World, Thread, Send, Receive, PendingOrder, changed, change, opening, opening_thread, is_ready, is_deleted, receive_now, unqueued, others_owed, Owed, Name}
-use Rattle.l4_model.specs.Rules.{act, received_tag, is_cross}
+use Rattle.l4_model.specs.Rules.{receive_code, send_code, act, received_tag, is_cross}
 use Rattle.l4_model.specs.Conditions.{Found, found, found_by, Pending, undecided, instruction}
-use Rattle.l4_model.specs.Steps.{Step, Local, Begin, Queue, Deliver, Wait, SendTimeout, ReceiveTimeout, SendNobody, ReceiveNobody, SendCancel, ReceiveCancel, Drop, Order, Obey, Tick, Retarget, send_of, without_send, next}
+use Rattle.l4_model.specs.Steps.{ThreadStep, Step, Deliver, Order, Tick, send_of, without_send, after_thread, next, OfThread, OfSend, Runs, Waits, Fails, Obeys, Begun, Queued, Failed, Dropped, Retargeted}
 use Rattle.l4_model.specs.Effects.{runs, begins, waits, fails, decided, refused, receives, delivered, asked, orders, obeyed, turns}
 use Rattle.l4_model.proofs.Chains.{some_is, part-changed}
 use Rattle.l4_model.proofs.Places.{and_true, known, known_send, sender_found, id_of}
-use Rattle.l4_model.proofs.Inversions.{local_taken, begin_taken, queue_taken, DeliverTaken, deliver_taken, wait_taken, send_timeout_taken, send_nobody_taken, send_cancel_taken, drop_taken, receive_timeout_taken, receive_nobody_taken, receive_cancel_taken, order_taken, ObeyTaken, obey_taken, TickTaken, tick_taken, retarget_taken}
+use Rattle.l4_model.proofs.Inversions.{local_taken, begin_taken, queue_taken, DeliverTaken, deliver_taken, wait_taken, drop_taken, order_taken, ObeyTaken, obey_taken, TickTaken, tick_taken, retarget_taken, send_failed, receive_failed}
 
 -- A fact of a thread, with what is declared of it and the clock of its processor.
 abbrev pub Fact : Type 1
@@ -148,51 +148,54 @@ tick_each m P w v cpu clock keeps k each =
     let later : k.now < clock = ltb-true k.now clock (and_true (nat_lt k.now clock) (nat_lt clock (2 ^ 62)) k.later).0 in
     keeps.at_tick d (slice_index w.clocks d.cpu) (slice_index (slice_set w.clocks cpu clock) d.cpu) t (clock_grows w.clocks cpu k.now clock d.cpu k.clock_is (omega (arith, later))) (each i d t declared now))
 
+thread_each : (m : Machine) (P : Fact) (w v : World) (kind : ThreadStep) (id : GlobalId) → Maintained m P →
+    after_thread m w id kind ≡ Some v → Each m P w → Each m P v
+thread_each m P w v Runs id keeps h each =
+    let k = local_taken m w v id h in
+    subst (Each m P) k.leads_to (found_each m P w id k.t (runs (instruction k.t)) k.found each
+    (keeps.at_run k.t.declared k.t.clock k.t.now k.ready))
+thread_each m P w v Waits id keeps h each =
+    let k = wait_taken m w v id h in
+    subst (Each m P) k.leads_to (found_each m P w id k.t (waits k.receive k.t.clock) k.found each
+    (keeps.at_wait k.t.declared k.t.clock k.t.now k.receive k.ready))
+thread_each m P w v (Fails why) id keeps h each =
+    let k = receive_failed m w v id why h in
+    subst (Each m P) k.leads_to (found_each m P w id k.t (fails (receive_code why)) k.found each
+    (keeps.at_failure k.t.declared k.t.clock k.t.now (receive_code why) k.receive k.receiving))
+thread_each m P w v Obeys id keeps h each = obey_each m P w v id keeps (obey_taken m w v id h) each
+
 -- Each step keeps the fact.
 pub step_each : (m : Machine) (P : Fact) (w v : World) (step : Step) → Maintained m P → next m w step ≡ Some v → Each m P w → Each m P v
-step_each m P w v (Local id) keeps h each =
-    let k = local_taken m w v id h in
-    subst (Each m P) k.leads_to (found_each m P w id k.t (runs (instruction k.t)) k.found each (keeps.at_run k.t.declared k.t.clock k.t.now k.ready))
-step_each m P w v (Begin s) keeps h each =
+step_each m P w v (OfThread kind id) keeps h each = thread_each m P w v kind id keeps h each
+step_each m P w v (OfSend Begun s) keeps h each =
     let k = begin_taken m w v s h in
-    subst (Each m P) k.leads_to
-    (found_each m P w s.thread k.t (begins k.send) k.found each (keeps.at_begin k.t.declared k.t.clock k.t.now k.send (declared_is m w s.thread k.t k.found) k.ready k.sends))
-step_each m P w v (Queue s) keeps h each = let k = queue_taken m w v s h in subst (Each m P) k.leads_to each
-step_each m P w v (Deliver s receiver shown actual tag words) keeps h each =
-    deliver_each m P w v s receiver shown actual tag words keeps (deliver_taken m w v s receiver shown actual tag words h) each
-step_each m P w v (Wait id) keeps h each =
-    let k = wait_taken m w v id h in
-    subst (Each m P) k.leads_to (found_each m P w id k.t (waits k.receive k.t.clock) k.found each (keeps.at_wait k.t.declared k.t.clock k.t.now k.receive k.ready))
-step_each m P w v (SendTimeout s) keeps h each =
-    let k = send_timeout_taken m w v s h in
-    subst (Each m P) k.leads_to (sender_each m P w s k.p (refused 2) k.is_undecided each (keeps.at_refusal k.p.sender.declared k.p.sender.clock k.p.sender.now 2 k.p.send (known_send m w s k.p k.is_undecided).send))
-step_each m P w v (SendNobody s) keeps h each =
-    let k = send_nobody_taken m w v s h in
-    subst (Each m P) k.leads_to (sender_each m P w s k.p (refused 4) k.is_undecided each (keeps.at_refusal k.p.sender.declared k.p.sender.clock k.p.sender.now 4 k.p.send (known_send m w s k.p k.is_undecided).send))
-step_each m P w v (SendCancel s) keeps h each =
-    let k = send_cancel_taken m w v s h in
-    subst (Each m P) k.leads_to (sender_each m P w s k.p (refused 6) k.is_undecided each (keeps.at_refusal k.p.sender.declared k.p.sender.clock k.p.sender.now 6 k.p.send (known_send m w s k.p k.is_undecided).send))
-step_each m P w v (Drop s) keeps h each =
+    subst (Each m P) k.leads_to (found_each m P w s.thread k.t (begins k.send) k.found each
+    (keeps.at_begin k.t.declared k.t.clock k.t.now k.send (declared_is m w s.thread k.t k.found) k.ready k.sends))
+step_each m P w v (OfSend Queued s) keeps h each = subst (Each m P) (queue_taken m w v s h).leads_to each
+step_each m P w v (OfSend (Failed why) s) keeps h each =
+    let k = send_failed m w v s why h in
+    let from : Found = k.p.sender in
+    subst (Each m P) k.leads_to (sender_each m P w s k.p (refused (send_code why)) k.is_undecided each
+    (keeps.at_refusal from.declared from.clock from.now (send_code why) k.p.send
+    (known_send m w s k.p k.is_undecided).send))
+step_each m P w v (OfSend Dropped s) keeps h each =
     let k = drop_taken m w v s h in
-    subst (Each m P) k.leads_to (sender_each m P w s k.p decided k.is_undecided each (keeps.at_drop k.p.sender.declared k.p.sender.clock k.p.sender.now k.gone))
-step_each m P w v (ReceiveTimeout id) keeps h each =
-    let k = receive_timeout_taken m w v id h in
-    subst (Each m P) k.leads_to (found_each m P w id k.t (fails 3) k.found each (keeps.at_failure k.t.declared k.t.clock k.t.now 3 k.receive k.receiving))
-step_each m P w v (ReceiveNobody id) keeps h each =
-    let k = receive_nobody_taken m w v id h in
-    subst (Each m P) k.leads_to (found_each m P w id k.t (fails 5) k.found each (keeps.at_failure k.t.declared k.t.clock k.t.now 5 k.receive k.receiving))
-step_each m P w v (ReceiveCancel id) keeps h each =
-    let k = receive_cancel_taken m w v id h in
-    subst (Each m P) k.leads_to (found_each m P w id k.t (fails 7) k.found each (keeps.at_failure k.t.declared k.t.clock k.t.now 7 k.receive k.receiving))
-step_each m P w v (Order caller target what) keeps h each =
-    let k = order_taken m w v caller target what h in
-    subst (Each m P) k.leads_to (found_each m P w caller k.t (orders k.order) k.found each (keeps.at_order k.t.declared k.t.clock k.t.now k.order k.ready))
-step_each m P w v (Obey caller) keeps h each = obey_each m P w v caller keeps (obey_taken m w v caller h) each
-step_each m P w v (Tick cpu clock) keeps h each = tick_each m P w v cpu clock keeps (tick_taken m w v cpu clock h) each
-step_each m P w v (Retarget s) keeps h each =
+    let from : Found = k.p.sender in
+    subst (Each m P) k.leads_to
+    (sender_each m P w s k.p decided k.is_undecided each (keeps.at_drop from.declared from.clock from.now k.gone))
+step_each m P w v (OfSend Retargeted s) keeps h each =
     let k = retarget_taken m w v s h in
     let u : World = record w { owed = others_owed w.owed s } in
-    subst (Each m P) k.leads_to (found_each m P u k.o.originator k.t (turns k.o) k.found each (keeps.at_turn k.t.declared k.t.clock k.t.now k.o))
+    subst (Each m P) k.leads_to (found_each m P u k.o.originator k.t (turns k.o) k.found each
+    (keeps.at_turn k.t.declared k.t.clock k.t.now k.o))
+step_each m P w v (Deliver s receiver shown actual tag words) keeps h each =
+    let k = deliver_taken m w v s receiver shown actual tag words h in
+    deliver_each m P w v s receiver shown actual tag words keeps k each
+step_each m P w v (Order caller target what) keeps h each =
+    let k = order_taken m w v caller target what h in
+    subst (Each m P) k.leads_to (found_each m P w caller k.t (orders k.order) k.found each
+    (keeps.at_order k.t.declared k.t.clock k.t.now k.order k.ready))
+step_each m P w v (Tick cpu clock) keeps h each = tick_each m P w v cpu clock keeps (tick_taken m w v cpu clock h) each
 
 -- Each thread at the opening is a fresh one.
 pub opening_is : (m : Machine) (i : ℕ) (t : Thread) → slice_get (opening m).threads i ≡ Some t → opening_thread ≡ t

@@ -7,13 +7,13 @@ use Rattle.std.specs.Prelude.{slice_get, ◌==◌, not, ◌||◌, ◌⊎◌, IsS
 use Rattle.std.specs.List.{filter}
 use Rattle.l4_model.specs.Machine.{Machine, Declaration, place_of}
 use Rattle.l4_model.specs.World.{World, Send, changed, opening, unqueued, is_queued, Name, is_in, list_at}
-use Rattle.l4_model.specs.Steps.{Step, Local, Begin, Queue, Deliver, Wait, SendTimeout, ReceiveTimeout, SendNobody, ReceiveNobody, SendCancel, ReceiveCancel, Drop, Order, Obey, Tick, Retarget, next}
+use Rattle.l4_model.specs.Steps.{Step, OfThread, OfSend, Begun, Queued, Failed, Dropped, Retargeted, Deliver, Order, Tick, next}
 use Rattle.l4_model.specs.Conditions.{Pending, undecided}
 use Rattle.l4_model.proofs.Chains.{some_is, get-map, get-changed_other}
 use Rattle.l4_model.proofs.Sends.{Status, status, statuses, with_begun, with_decided, Begins, Decides, Effect, effect}
 use Rattle.l4_model.proofs.Sound.{AreSound}
 use Rattle.l4_model.proofs.Accounted.{idle}
-use Rattle.l4_model.proofs.Inversions.{local_taken, begin_taken, QueueTaken, queue_taken, deliver_taken, wait_taken, send_timeout_taken, send_nobody_taken, send_cancel_taken, drop_taken, receive_timeout_taken, receive_nobody_taken, receive_cancel_taken, order_taken, obey_taken, tick_taken, retarget_taken}
+use Rattle.l4_model.proofs.Inversions.{begin_taken, QueueTaken, queue_taken, deliver_taken, send_failed, drop_taken, order_taken, tick_taken, retarget_taken, thread_alone}
 use Rattle.l4_model.proofs.Places.{known_send, found_place}
 use Rattle.l4_model.specs.Reached.{place_to, IsOnce}
 
@@ -39,12 +39,10 @@ pub record Unlists (m : Machine) (w v : World) (s : Name) : Type 0 where
   pub now : v.waiting ≡ map (filter (λ x. not (place == x))) w.waiting
 
 abbrev pub ListEffect : Machine → World → World → Step → Type 0
-ListEffect m w v (Queue s) = QueueTaken m w v s
+ListEffect m w v (OfSend Queued s) = QueueTaken m w v s
+ListEffect m w v (OfSend (Failed why) s) = Unlists m w v s
+ListEffect m w v (OfSend Dropped s) = Unlists m w v s
 ListEffect m w v (Deliver s receiver shown actual tag words) = Unlists m w v s
-ListEffect m w v (SendTimeout s) = Unlists m w v s
-ListEffect m w v (SendNobody s) = Unlists m w v s
-ListEffect m w v (SendCancel s) = Unlists m w v s
-ListEffect m w v (Drop s) = Unlists m w v s
 ListEffect m w v _ = v.waiting ≡ w.waiting
 
 unlists : (m : Machine) (w v : World) (s : Name) (p : Pending) → undecided m w s ≡ Some p → (unqueued w p.sender.at).waiting ≡ v.waiting → Unlists m w v s
@@ -54,22 +52,21 @@ abbrev lists_of : World → List (List ℕ)
 lists_of w = w.waiting
 
 pub list_effect : (m : Machine) (w v : World) (step : Step) → next m w step ≡ Some v → ListEffect m w v step
-list_effect m w v (Local id) h = let k = local_taken m w v id h in ap lists_of (sym k.leads_to)
-list_effect m w v (Begin s) h = let k = begin_taken m w v s h in ap lists_of (sym k.leads_to)
-list_effect m w v (Queue s) h = queue_taken m w v s h
-list_effect m w v (Deliver s receiver shown actual tag words) h = let k = deliver_taken m w v s receiver shown actual tag words h in unlists m w v s k.p k.is_undecided (ap lists_of k.leads_to)
-list_effect m w v (Wait id) h = let k = wait_taken m w v id h in ap lists_of (sym k.leads_to)
-list_effect m w v (SendTimeout s) h = let k = send_timeout_taken m w v s h in unlists m w v s k.p k.is_undecided (ap lists_of k.leads_to)
-list_effect m w v (SendNobody s) h = let k = send_nobody_taken m w v s h in unlists m w v s k.p k.is_undecided (ap lists_of k.leads_to)
-list_effect m w v (SendCancel s) h = let k = send_cancel_taken m w v s h in unlists m w v s k.p k.is_undecided (ap lists_of k.leads_to)
-list_effect m w v (Drop s) h = let k = drop_taken m w v s h in unlists m w v s k.p k.is_undecided (ap lists_of k.leads_to)
-list_effect m w v (ReceiveTimeout id) h = let k = receive_timeout_taken m w v id h in ap lists_of (sym k.leads_to)
-list_effect m w v (ReceiveNobody id) h = let k = receive_nobody_taken m w v id h in ap lists_of (sym k.leads_to)
-list_effect m w v (ReceiveCancel id) h = let k = receive_cancel_taken m w v id h in ap lists_of (sym k.leads_to)
-list_effect m w v (Order caller target what) h = let k = order_taken m w v caller target what h in ap lists_of (sym k.leads_to)
-list_effect m w v (Obey caller) h = let k = obey_taken m w v caller h in ap lists_of (sym k.leads_to)
-list_effect m w v (Tick cpu clock) h = let k = tick_taken m w v cpu clock h in ap lists_of (sym k.leads_to)
-list_effect m w v (Retarget s) h = let k = retarget_taken m w v s h in ap lists_of (sym k.leads_to)
+list_effect m w v (OfThread kind id) h = (thread_alone m w v kind id h).waiting
+list_effect m w v (OfSend Begun s) h = ap lists_of (sym (begin_taken m w v s h).leads_to)
+list_effect m w v (OfSend Queued s) h = queue_taken m w v s h
+list_effect m w v (OfSend (Failed why) s) h =
+    let k = send_failed m w v s why h in
+    unlists m w v s k.p k.is_undecided (ap lists_of k.leads_to)
+list_effect m w v (OfSend Dropped s) h =
+    let k = drop_taken m w v s h in
+    unlists m w v s k.p k.is_undecided (ap lists_of k.leads_to)
+list_effect m w v (OfSend Retargeted s) h = ap lists_of (sym (retarget_taken m w v s h).leads_to)
+list_effect m w v (Deliver s receiver shown actual tag words) h =
+    let k = deliver_taken m w v s receiver shown actual tag words h in
+    unlists m w v s k.p k.is_undecided (ap lists_of k.leads_to)
+list_effect m w v (Order caller target what) h = ap lists_of (sym (order_taken m w v caller target what h).leads_to)
+list_effect m w v (Tick cpu clock) h = ap lists_of (sym (tick_taken m w v cpu clock h).leads_to)
 
 -- A sender has an undecided send to the thread at a place.
 abbrev pub GoesTo : Machine → ℕ → Option Status → Type 0
@@ -224,13 +221,11 @@ pub step_listed : (m : Machine) (w v : World) (step : Step) → next m w step �
 step_listed m w v step h sound = by step (effect m w v step h) (list_effect m w v step h)
   where
     by : (step : Step) → Effect m w v step → ListEffect m w v step → Listed m w → Listed m v
-    by (Begin s) e l = begins_listed m w v s l e sound
-    by (Queue s) e l = queue_listed m w v s l
+    by (OfSend Begun s) e l = begins_listed m w v s l e sound
+    by (OfSend Queued s) e l = queue_listed m w v s l
+    by (OfSend (Failed why) s) e l = decides_listed m w v s l e
+    by (OfSend Dropped s) e l = decides_listed m w v s l e
     by (Deliver s receiver shown actual tag words) e l = decides_listed m w v s l e
-    by (SendTimeout s) e l = decides_listed m w v s l e
-    by (SendNobody s) e l = decides_listed m w v s l e
-    by (SendCancel s) e l = decides_listed m w v s l e
-    by (Drop s) e l = decides_listed m w v s l e
     by _ e l = keeps_listed m w v l e
 
 pub opening_listed : (m : Machine) → Listed m (opening m)

@@ -7,7 +7,7 @@ use Rattle.std.proofs.lemmas.List.Sums.{sum_by-cons}
 use Rattle.std.specs.Option.{option_map}
 use Rattle.l4_model.specs.Machine.{Machine, place_of}
 use Rattle.l4_model.specs.World.{World, Send, changed, opening, Name}
-use Rattle.l4_model.specs.Steps.{Step, Begin, Deliver, SendTimeout, SendNobody, SendCancel, Drop, next}
+use Rattle.l4_model.specs.Steps.{Step, Begin, Deliver, Drop, next, OfSend, Failed}
 use Rattle.l4_model.specs.Conditions.{◌>>=◌}
 use Rattle.l4_model.specs.History.{run, reached}
 use Rattle.l4_model.specs.Laws.{same_name, names, delivered_name, deliveries_of}
@@ -98,9 +98,7 @@ delivered_left m w v s t d = by (same_name s t) refl
 step_left : (m : Machine) (w v : World) (s : Name) (step : Step) → Effect m w v step → cond (names s (delivered_name step)) 1 0 + left_of m v s ≤ left_of m w s
 step_left m w v s (Begin t) e = let h = begun_left m w v s t e in omega arith
 step_left m w v s (Deliver t receiver shown actual tag words) e = delivered_left m w v s t e
-step_left m w v s (SendTimeout t) e = let h = decided_left m w v s t e in omega arith
-step_left m w v s (SendNobody t) e = let h = decided_left m w v s t e in omega arith
-step_left m w v s (SendCancel t) e = let h = decided_left m w v s t e in omega arith
+step_left m w v s (OfSend (Failed why) t) e = let h = decided_left m w v s t e in omega arith
 step_left m w v s (Drop t) e = let h = decided_left m w v s t e in omega arith
 step_left m w v s _ e = let h = kept_left m w v s e in omega arith
 

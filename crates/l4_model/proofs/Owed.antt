@@ -9,12 +9,12 @@ use Rattle.l4_model.specs.Machine.{Machine, place_of, is_declared}
 use Rattle.l4_model.specs.World.{World, Message, Owed, Name, same_name, opening, is_in, list_at, changed, others_owed, one_more, must_wait}
 use Rattle.l4_model.specs.Rules.{owed_by}
 use Rattle.l4_model.specs.Conditions.{Found, found_by}
-use Rattle.l4_model.specs.Steps.{Step, Local, Begin, Queue, Deliver, Wait, SendTimeout, ReceiveTimeout, SendNobody, ReceiveNobody, SendCancel, ReceiveCancel, Drop, Order, Obey, Tick, Retarget, next}
+use Rattle.l4_model.specs.Steps.{Step, OfThread, OfSend, Begun, Queued, Failed, Dropped, Retargeted, Deliver, Order, Tick, Retarget, next}
 use Rattle.l4_model.specs.History.{run, reached}
 use Rattle.l4_model.specs.Laws.{names, delivered_name, deliveries_of}
 use Rattle.l4_model.specs.Reached.{IsOwedAmong, AreNamedOnce, IsOwedApart, ThreadFacts, IsSendOf}
 use Rattle.l4_model.proofs.Chains.{bind_then, some_is, get-map}
-use Rattle.l4_model.proofs.Inversions.{local_taken, begin_taken, QueueTaken, queue_taken, DeliverTaken, deliver_taken, wait_taken, send_timeout_taken, send_nobody_taken, send_cancel_taken, drop_taken, receive_timeout_taken, receive_nobody_taken, receive_cancel_taken, order_taken, obey_taken, tick_taken, retarget_taken}
+use Rattle.l4_model.proofs.Inversions.{begin_taken, QueueTaken, queue_taken, DeliverTaken, deliver_taken, send_failed, drop_taken, order_taken, tick_taken, retarget_taken, thread_alone}
 use Rattle.l4_model.proofs.Places.{same_id_is, same_name_is, same_name_refl, known, known_send, sender_found, one_place, eqb_same, receiver_place, receiver_there, id_of}
 use Rattle.l4_model.proofs.Once.{at_most_once}
 use Rattle.l4_model.proofs.Sends.{status, statuses}
@@ -71,22 +71,15 @@ abbrev owed_in : World → List Owed
 owed_in w = w.owed
 
 pub owed_effect : (m : Machine) (w v : World) (step : Step) → next m w step ≡ Some v → OwedEffect m w v step
-owed_effect m w v (Local id) h = let k = local_taken m w v id h in ap owed_in (sym k.leads_to)
-owed_effect m w v (Begin s) h = let k = begin_taken m w v s h in ap owed_in (sym k.leads_to)
-owed_effect m w v (Queue s) h = let k = queue_taken m w v s h in ap owed_in (sym k.leads_to)
+owed_effect m w v (OfThread kind id) h = (thread_alone m w v kind id h).owed
+owed_effect m w v (OfSend Begun s) h = ap owed_in (sym (begin_taken m w v s h).leads_to)
+owed_effect m w v (OfSend Queued s) h = ap owed_in (sym (queue_taken m w v s h).leads_to)
+owed_effect m w v (OfSend (Failed why) s) h = ap owed_in (sym (send_failed m w v s why h).leads_to)
+owed_effect m w v (OfSend Dropped s) h = ap owed_in (sym (drop_taken m w v s h).leads_to)
+owed_effect m w v (OfSend Retargeted s) h = ap owed_in (sym (retarget_taken m w v s h).leads_to)
 owed_effect m w v (Deliver s receiver shown actual tag words) h = deliver_taken m w v s receiver shown actual tag words h
-owed_effect m w v (Wait id) h = let k = wait_taken m w v id h in ap owed_in (sym k.leads_to)
-owed_effect m w v (SendTimeout s) h = let k = send_timeout_taken m w v s h in ap owed_in (sym k.leads_to)
-owed_effect m w v (SendNobody s) h = let k = send_nobody_taken m w v s h in ap owed_in (sym k.leads_to)
-owed_effect m w v (SendCancel s) h = let k = send_cancel_taken m w v s h in ap owed_in (sym k.leads_to)
-owed_effect m w v (Drop s) h = let k = drop_taken m w v s h in ap owed_in (sym k.leads_to)
-owed_effect m w v (ReceiveTimeout id) h = let k = receive_timeout_taken m w v id h in ap owed_in (sym k.leads_to)
-owed_effect m w v (ReceiveNobody id) h = let k = receive_nobody_taken m w v id h in ap owed_in (sym k.leads_to)
-owed_effect m w v (ReceiveCancel id) h = let k = receive_cancel_taken m w v id h in ap owed_in (sym k.leads_to)
-owed_effect m w v (Order caller target what) h = let k = order_taken m w v caller target what h in ap owed_in (sym k.leads_to)
-owed_effect m w v (Obey caller) h = let k = obey_taken m w v caller h in ap owed_in (sym k.leads_to)
-owed_effect m w v (Tick cpu clock) h = let k = tick_taken m w v cpu clock h in ap owed_in (sym k.leads_to)
-owed_effect m w v (Retarget s) h = let k = retarget_taken m w v s h in ap owed_in (sym k.leads_to)
+owed_effect m w v (Order caller target what) h = ap owed_in (sym (order_taken m w v caller target what h).leads_to)
+owed_effect m w v (Tick cpu clock) h = ap owed_in (sym (tick_taken m w v cpu clock h).leads_to)
 
 delivered_owed : (m : Machine) (w v : World) (s : Name) (receiver shown actual : GlobalId) (tag : ℕ) (words : List ℕ) →
     (k : DeliverTaken m w v s receiver shown actual tag words) → v.owed ≡ one_more (owed_by m s k.p.send.message receiver) w.owed
@@ -293,7 +286,7 @@ step_apart m w v step h sound listed all = by step (owed_effect m w v step h) (l
     unlisted s e u = subst (λ os. AllByRecursion (IsOwedApart m v.waiting) os) (sym e) (subst (λ ls. AllByRecursion (IsOwedApart m ls) w.owed) (sym u.now) (left u.place))
 
     by : (step : Step) → OwedEffect m w v step → ListEffect m w v step → AllByRecursion (IsOwedApart m v.waiting) v.owed
-    by (Queue s) e k = subst (λ os. AllByRecursion (IsOwedApart m v.waiting) os) (sym e)
+    by (OfSend Queued s) e k = subst (λ os. AllByRecursion (IsOwedApart m v.waiting) os) (sym e)
         (subst (λ (u : World). AllByRecursion (IsOwedApart m u.waiting) w.owed) k.leads_to
         (queued_apart m w v s k w.owed (not-true (must_wait w.owed s.thread k.p.send.to) k.free) all))
     by (Deliver s receiver shown actual tag words) k u =
@@ -305,10 +298,8 @@ step_apart m w v step h sound listed all = by step (owed_effect m w v step h) (l
         let receiver_is : receiver ≡ k.r.declared.id = same_id_is receiver k.r.declared.id k.same_receiver in
         let place : k.r.at ≡ new_partner = some_is _ _ (sym (receiver_place m w k.p.send.to k.r k.to) ∙ ap (place_of m) (sym receiver_is) ∙ at_n) in
         ap (λ i. is_in i (list_at w.waiting originator)) (sym place) ∙ receiver_apart m w v s receiver shown actual tag words k sound listed originator)))))
-    by (SendTimeout s) e u = unlisted s e u
-    by (SendNobody s) e u = unlisted s e u
-    by (SendCancel s) e u = unlisted s e u
-    by (Drop s) e u = unlisted s e u
-    by (Retarget s) e l = subst (λ os. AllByRecursion (IsOwedApart m v.waiting) os) (sym e)
+    by (OfSend (Failed why) s) e u = unlisted s e u
+    by (OfSend Dropped s) e u = unlisted s e u
+    by (OfSend Retargeted s) e l = subst (λ os. AllByRecursion (IsOwedApart m v.waiting) os) (sym e)
         (subst (λ ls. AllByRecursion (IsOwedApart m ls) (others_owed w.owed s)) (sym l) (all_filter (IsOwedApart m w.waiting) (λ o. not (same_name s o.send)) w.owed all))
     by _ e l = same e l

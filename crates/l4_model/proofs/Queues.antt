@@ -10,7 +10,7 @@ use Rattle.std.specs.Option.{option_map}
 use Rattle.l4_model.specs.Words.{GlobalId}
 use Rattle.l4_model.specs.Machine.{Machine, Declaration, place_of}
 use Rattle.l4_model.specs.World.{World, Send, changed, opening, Name, list_at}
-use Rattle.l4_model.specs.Steps.{Step, Begin, Queue, Deliver, SendTimeout, SendNobody, SendCancel, Drop, next}
+use Rattle.l4_model.specs.Steps.{Step, Begin, Queue, Deliver, Drop, next, OfSend, Failed}
 use Rattle.l4_model.specs.Conditions.{Pending, undecided, ◌>>=◌, ◌>>◌}
 use Rattle.l4_model.specs.History.{run}
 use Rattle.l4_model.specs.Laws.{queued_name}
@@ -250,9 +250,7 @@ step_makes : (m : Machine) (w v : World) (step : Step) (names : List Name) → E
 step_makes m w v (Begin s) names e l sized sound h = begins_makes m w v s names l e sound h
 step_makes m w v (Queue s) names e l sized sound h = queue_makes m w v s names l sized h
 step_makes m w v (Deliver s receiver shown actual tag words) names e l sized sound h = decides_makes m w v s names l e h
-step_makes m w v (SendTimeout s) names e l sized sound h = decides_makes m w v s names l e h
-step_makes m w v (SendNobody s) names e l sized sound h = decides_makes m w v s names l e h
-step_makes m w v (SendCancel s) names e l sized sound h = decides_makes m w v s names l e h
+step_makes m w v (OfSend (Failed why) s) names e l sized sound h = decides_makes m w v s names l e h
 step_makes m w v (Drop s) names e l sized sound h = decides_makes m w v s names l e h
 step_makes m w v _ names e l sized sound h = keeps_makes m w v names l e h
 

@@ -5,7 +5,7 @@ use Rattle.std.proofs.lemmas.List.{length-take}
 use Rattle.std.specs.Prelude.{◌==◌, ◌/◌, ◌^◌, not, nat_lt, is_some, unwrap_or, find, position}
 use Rattle.std.specs.List.{position_or_len}
 use Rattle.l4_model.specs.Words.{GlobalId, Id, NilThread, AnyThread, AnyLocalThread, LocalThread, GlobalThread, Period, same_id}
-use Rattle.l4_model.specs.Machine.{Machine, Declaration, OrderKind, Instr, Set, Copy, Add, Tag, Vs, Ipc, Ask, Jump, OnErr, End, declaration_of, is_declared, agree, same_space}
+use Rattle.l4_model.specs.Machine.{Machine, Declaration, OrderKind, Instr, Run, Ipc, Ask, End, declaration_of, is_declared, agree, same_space}
 use Rattle.l4_model.specs.World.{Context, Receive, Send}
 use Rattle.l4_model.specs.Rules.{act, ipc_act, ask_act, is_admitted, message_of, destination, receive_phase, register, originator, permitted}
 use Rattle.l4_model.specs.Steps.{send_of}
@@ -37,18 +37,12 @@ ask_sends_nothing m id (GlobalThread t) what = by (is_admitted m id t what) refl
     by false e = rw e
 
 pub act_request : (m : Machine) (id : GlobalId) (now : ℕ) (c : Context) (i : Instr) (send : Send) → send_of (act m id now c i) ≡ Some send → IsRequest m id now c send
-act_request m id now c (Set a word) send h = cc
-act_request m id now c (Copy a b) send h = cc
-act_request m id now c (Add format a word) send h = cc
-act_request m id now c (Tag word) send h = cc
-act_request m id now c (Vs other) send h = cc
+act_request m id now c (Run own) send h = cc
 act_request m id now c (Ipc to from send_period receive_period) send h = ipc_request m id now c (destination c to) send_period (receive_phase from receive_period) send h
 act_request m id now c (Ask target what) send h = let none = ask_sends_nothing m id target what in absurd (no_send (send_of (ask_act m id target what)) send none h)
   where
     no_send : (o : Option Send) (send : Send) → o ≡ None → o ≡ Some send → ⊥
     no_send o send e f = cc
-act_request m id now c (Jump place) send h = cc
-act_request m id now c (OnErr place) send h = cc
 act_request m id now c End send h = cc
 
 -- A message has at most 63 words.

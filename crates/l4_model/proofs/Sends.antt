@@ -1,17 +1,17 @@
 -- What each step does to the numbers of begun sends and to the undecided sends.
 use Rattle.std.proofs.Common.{subst, ◌≡◌, ℕ, ◌+◌, true, Option, Some, None, List, map, refl, ap, sym, ◌∙◌}
 use Rattle.std.proofs.lemmas.Bool.{eqb-true}
-use Rattle.std.specs.Prelude.{slice_get, ◌==◌}
+use Rattle.std.specs.Prelude.{slice_get}
 use Rattle.std.specs.Option.{option_map}
 use Rattle.l4_model.specs.Words.{GlobalId}
-use Rattle.l4_model.specs.Machine.{Machine, Instr, Set, Copy, Add, Tag, Vs, Ipc, Ask, Jump, OnErr, End, OrderKind, CancelSend, CancelReceive, CancelBoth, Delete, place_of}
+use Rattle.l4_model.specs.Machine.{Machine, Instr, Run, Ipc, Ask, End, OrderKind, CancelSend, CancelReceive, CancelBoth, Delete, place_of}
 use Rattle.l4_model.specs.World.{Context, Thread, World, Send, Receive, Owed, Phase, Ready, Sending, Receiving, Ordering, Ended, Deleted, changed, change, is_alive, is_ready, unqueued, others_owed, Name}
-use Rattle.l4_model.specs.Rules.{ran}
-use Rattle.l4_model.specs.Steps.{Step, Local, Begin, Queue, Deliver, Wait, SendTimeout, ReceiveTimeout, SendNobody, ReceiveNobody, SendCancel, ReceiveCancel, Drop, Order, Obey, Tick, Retarget, without_send, next}
+use Rattle.l4_model.specs.Rules.{receive_code, send_code, ran}
+use Rattle.l4_model.specs.Steps.{Step, ThreadStep, OfThread, Runs, Waits, Fails, Obeys, OfSend, Begun, Queued, Failed, Dropped, Retargeted, Deliver, Order, Tick, after_thread, without_send, next}
 use Rattle.l4_model.specs.Conditions.{Found, Pending, undecided, instruction}
 use Rattle.l4_model.specs.Effects.{runs, begins, waits, fails, decided, refused, receives, goes_on, delivered, asked, orders, obeyed, turned_send, turns_in, turns}
 use Rattle.l4_model.proofs.Chains.{map-changed_same, map-changed, get-map, cond_both}
-use Rattle.l4_model.proofs.Inversions.{local_taken, BeginTaken, begin_taken, queue_taken, DeliverTaken, deliver_taken, wait_taken, send_timeout_taken, send_nobody_taken, send_cancel_taken, drop_taken, receive_timeout_taken, receive_nobody_taken, receive_cancel_taken, order_taken, ObeyTaken, obey_taken, tick_taken, RetargetTaken, retarget_taken}
+use Rattle.l4_model.proofs.Inversions.{local_taken, BeginTaken, begin_taken, queue_taken, DeliverTaken, deliver_taken, wait_taken, send_failed, drop_taken, receive_failed, order_taken, ObeyTaken, obey_taken, tick_taken, RetargetTaken, retarget_taken}
 use Rattle.l4_model.proofs.Places.{Known, known, known_send}
 
 -- What stays of a send while it is undecided: all but its receive phase, which a retarget may change.
@@ -74,15 +74,9 @@ status-asked CancelBoth t = refl
 status-asked Delete t = refl
 
 pub begun-ran : (i : Instr) (c : Context) → (ran i c).begun ≡ c.begun
-begun-ran (Set a word) c = refl
-begun-ran (Copy a b) c = refl
-begun-ran (Add format a word) c = refl
-begun-ran (Tag word) c = refl
-begun-ran (Vs id) c = refl
+begun-ran (Run own) c = refl
 begun-ran (Ipc to from send_period receive_period) c = refl
 begun-ran (Ask target what) c = refl
-begun-ran (Jump place) c = refl
-begun-ran (OnErr place) c = cond_both (λ (x : Context). x.begun) c.begun (c.error == 0) _ _ refl refl
 begun-ran End c = refl
 
 -- What a step does to the statuses: it begins this send, it decides this send, or it keeps them.
@@ -113,12 +107,10 @@ abbrev pub Keeps : World → World → Type 0
 Keeps w v = statuses v ≡ statuses w
 
 abbrev pub Effect : Machine → World → World → Step → Type 0
-Effect m w v (Begin s) = Begins m w v s
+Effect m w v (OfSend Begun s) = Begins m w v s
+Effect m w v (OfSend (Failed why) s) = Decides m w v s
+Effect m w v (OfSend Dropped s) = Decides m w v s
 Effect m w v (Deliver s receiver shown actual tag words) = Decides m w v s
-Effect m w v (SendTimeout s) = Decides m w v s
-Effect m w v (SendNobody s) = Decides m w v s
-Effect m w v (SendCancel s) = Decides m w v s
-Effect m w v (Drop s) = Decides m w v s
 Effect m w v _ = Keeps w v
 
 -- one thread changed, and its status kept
@@ -181,22 +173,35 @@ obey_effect m w v caller k =
 retarget_effect : (m : Machine) (w v : World) (s : Name) → RetargetTaken m w v s → Keeps w v
 retarget_effect m w v s k = subst (Keeps w) k.leads_to (kept (record w { owed = others_owed w.owed s }) k.t.at (turns k.o) (status-turns k.o))
 
+thread_effect : (m : Machine) (w v : World) (kind : ThreadStep) (id : GlobalId) → after_thread m w id kind ≡ Some v → Keeps w v
+thread_effect m w v Runs id h =
+    let k = local_taken m w v id h in
+    let i = instruction k.t in
+    subst (Keeps w) k.leads_to (kept w k.t.at (runs i)
+    (λ x. ap (λ n. record { begun = n; send = option_map lasting x.send }) (begun-ran i x.context)))
+thread_effect m w v Waits id h =
+    let k = wait_taken m w v id h in
+    subst (Keeps w) k.leads_to (kept w k.t.at (waits k.receive k.t.clock) (λ x. refl))
+thread_effect m w v (Fails why) id h =
+    let k = receive_failed m w v id why h in
+    subst (Keeps w) k.leads_to (kept w k.t.at (fails (receive_code why)) (status-fails (receive_code why)))
+thread_effect m w v Obeys id h = obey_effect m w v id (obey_taken m w v id h)
+
 pub effect : (m : Machine) (w v : World) (step : Step) → next m w step ≡ Some v → Effect m w v step
-effect m w v (Local t) h =
-    let k = local_taken m w v t h in
-    subst (Keeps w) k.leads_to (kept w k.t.at (runs (instruction k.t)) (λ x. ap (λ n. record { begun = n; send = option_map lasting x.send }) (begun-ran (instruction k.t) x.context)))
-effect m w v (Begin s) h = begin_effect m w v s (begin_taken m w v s h)
-effect m w v (Queue s) h = let k = queue_taken m w v s h in subst (Keeps w) k.leads_to refl
-effect m w v (Deliver s receiver shown actual tag words) h = deliver_effect m w v s receiver shown actual tag words (deliver_taken m w v s receiver shown actual tag words h)
-effect m w v (Wait t) h = let k = wait_taken m w v t h in subst (Keeps w) k.leads_to (kept w k.t.at (waits k.receive k.t.clock) (λ x. refl))
-effect m w v (SendTimeout s) h = let k = send_timeout_taken m w v s h in subst (λ u. Decides m w u s) k.leads_to (refuses m w s k.p (refused 2) k.is_undecided (status-refused 2))
-effect m w v (ReceiveTimeout t) h = let k = receive_timeout_taken m w v t h in subst (Keeps w) k.leads_to (kept w k.t.at (fails 3) (status-fails 3))
-effect m w v (SendNobody s) h = let k = send_nobody_taken m w v s h in subst (λ u. Decides m w u s) k.leads_to (refuses m w s k.p (refused 4) k.is_undecided (status-refused 4))
-effect m w v (ReceiveNobody t) h = let k = receive_nobody_taken m w v t h in subst (Keeps w) k.leads_to (kept w k.t.at (fails 5) (status-fails 5))
-effect m w v (SendCancel s) h = let k = send_cancel_taken m w v s h in subst (λ u. Decides m w u s) k.leads_to (refuses m w s k.p (refused 6) k.is_undecided (status-refused 6))
-effect m w v (ReceiveCancel t) h = let k = receive_cancel_taken m w v t h in subst (Keeps w) k.leads_to (kept w k.t.at (fails 7) (status-fails 7))
-effect m w v (Drop s) h = let k = drop_taken m w v s h in subst (λ u. Decides m w u s) k.leads_to (refuses m w s k.p decided k.is_undecided (λ t. refl))
-effect m w v (Order caller target what) h = let k = order_taken m w v caller target what h in subst (Keeps w) k.leads_to (kept w k.t.at (orders k.order) (λ x. refl))
-effect m w v (Obey caller) h = obey_effect m w v caller (obey_taken m w v caller h)
-effect m w v (Tick cpu clock) h = let k = tick_taken m w v cpu clock h in subst (Keeps w) k.leads_to refl
-effect m w v (Retarget s) h = retarget_effect m w v s (retarget_taken m w v s h)
+effect m w v (OfThread kind id) h = thread_effect m w v kind id h
+effect m w v (OfSend Begun s) h = begin_effect m w v s (begin_taken m w v s h)
+effect m w v (OfSend Queued s) h = subst (Keeps w) (queue_taken m w v s h).leads_to refl
+effect m w v (OfSend (Failed why) s) h =
+    let k = send_failed m w v s why h in
+    subst (λ u. Decides m w u s) k.leads_to
+    (refuses m w s k.p (refused (send_code why)) k.is_undecided (status-refused (send_code why)))
+effect m w v (OfSend Dropped s) h =
+    let k = drop_taken m w v s h in
+    subst (λ u. Decides m w u s) k.leads_to (refuses m w s k.p decided k.is_undecided (λ t. refl))
+effect m w v (OfSend Retargeted s) h = retarget_effect m w v s (retarget_taken m w v s h)
+effect m w v (Deliver s receiver shown actual tag words) h =
+    deliver_effect m w v s receiver shown actual tag words (deliver_taken m w v s receiver shown actual tag words h)
+effect m w v (Order caller target what) h =
+    let k = order_taken m w v caller target what h in
+    subst (Keeps w) k.leads_to (kept w k.t.at (orders k.order) (λ x. refl))
+effect m w v (Tick cpu clock) h = subst (Keeps w) (tick_taken m w v cpu clock h).leads_to refl

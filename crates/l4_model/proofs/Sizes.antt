@@ -6,11 +6,11 @@ use Rattle.std.specs.Prelude.{slice_set, nat_lt}
 use Rattle.std.specs.List.{AllByRecursion}
 use Rattle.l4_model.specs.Machine.{Machine}
 use Rattle.l4_model.specs.World.{World, changed, opening, Name}
-use Rattle.l4_model.specs.Steps.{Step, Local, Begin, Queue, Deliver, Wait, SendTimeout, ReceiveTimeout, SendNobody, ReceiveNobody, SendCancel, ReceiveCancel, Drop, Order, Obey, Tick, Retarget, next}
+use Rattle.l4_model.specs.Steps.{Step, OfThread, OfSend, Begun, Queued, Failed, Dropped, Deliver, Order, Tick, next}
 use Rattle.l4_model.proofs.Chains.{length-changed}
 use Rattle.l4_model.proofs.Sends.{Status, status, statuses, with_begun, with_decided, Effect, effect}
 use Rattle.l4_model.proofs.Lists.{ListEffect, Unlists, list_effect}
-use Rattle.l4_model.proofs.Inversions.{local_taken, begin_taken, queue_taken, deliver_taken, wait_taken, send_timeout_taken, send_nobody_taken, send_cancel_taken, drop_taken, receive_timeout_taken, receive_nobody_taken, receive_cancel_taken, order_taken, obey_taken, TickTaken, tick_taken, retarget_taken}
+use Rattle.l4_model.proofs.Inversions.{deliver_taken, order_taken, TickTaken, tick_taken, thread_alone, send_clocks}
 use Rattle.l4_model.proofs.Places.{and_true}
 
 -- how many threads a step leaves
@@ -21,12 +21,10 @@ threads_changed : (w v : World) (f : Status → Status) (i : ℕ) → statuses v
 threads_changed w v f i e = sym (length-map v.threads status) ∙ ap length e ∙ length-changed f (statuses w) i ∙ length-map w.threads status
 
 threads_after : (m : Machine) (w v : World) (step : Step) → Effect m w v step → length v.threads ≡ length w.threads
-threads_after m w v (Begin s) e = threads_changed w v (with_begun e.send) e.place e.now
+threads_after m w v (OfSend Begun s) e = threads_changed w v (with_begun e.send) e.place e.now
+threads_after m w v (OfSend (Failed why) s) e = threads_changed w v with_decided e.place e.now
+threads_after m w v (OfSend Dropped s) e = threads_changed w v with_decided e.place e.now
 threads_after m w v (Deliver s receiver shown actual tag words) e = threads_changed w v with_decided e.place e.now
-threads_after m w v (SendTimeout s) e = threads_changed w v with_decided e.place e.now
-threads_after m w v (SendNobody s) e = threads_changed w v with_decided e.place e.now
-threads_after m w v (SendCancel s) e = threads_changed w v with_decided e.place e.now
-threads_after m w v (Drop s) e = threads_changed w v with_decided e.place e.now
 threads_after m w v _ e = threads_kept w v e
 
 -- how many lists it leaves
@@ -34,12 +32,11 @@ unlisted_size : (m : Machine) (w v : World) (s : Name) → Unlists m w v s → l
 unlisted_size m w v s u = ap length u.now ∙ length-map w.waiting _
 
 lists_after : (m : Machine) (w v : World) (step : Step) → ListEffect m w v step → length v.waiting ≡ length w.waiting
-lists_after m w v (Queue s) l = sym (ap (λ (u : World). length u.waiting) l.leads_to) ∙ length-changed _ w.waiting l.r.at
+lists_after m w v (OfSend Queued s) l =
+    sym (ap (λ (u : World). length u.waiting) l.leads_to) ∙ length-changed _ w.waiting l.r.at
+lists_after m w v (OfSend (Failed why) s) l = unlisted_size m w v s l
+lists_after m w v (OfSend Dropped s) l = unlisted_size m w v s l
 lists_after m w v (Deliver s receiver shown actual tag words) l = unlisted_size m w v s l
-lists_after m w v (SendTimeout s) l = unlisted_size m w v s l
-lists_after m w v (SendNobody s) l = unlisted_size m w v s l
-lists_after m w v (SendCancel s) l = unlisted_size m w v s l
-lists_after m w v (Drop s) l = unlisted_size m w v s l
 lists_after m w v _ l = ap length l
 
 -- what it does to the clocks
@@ -51,22 +48,12 @@ abbrev clocks_of : World → List ℕ
 clocks_of w = w.clocks
 
 clock_effect : (m : Machine) (w v : World) (step : Step) → next m w step ≡ Some v → ClockEffect m w v step
-clock_effect m w v (Local id) h = let k = local_taken m w v id h in ap clocks_of (sym k.leads_to)
-clock_effect m w v (Begin s) h = let k = begin_taken m w v s h in ap clocks_of (sym k.leads_to)
-clock_effect m w v (Queue s) h = let k = queue_taken m w v s h in ap clocks_of (sym k.leads_to)
-clock_effect m w v (Deliver s receiver shown actual tag words) h = let k = deliver_taken m w v s receiver shown actual tag words h in ap clocks_of (sym k.leads_to)
-clock_effect m w v (Wait id) h = let k = wait_taken m w v id h in ap clocks_of (sym k.leads_to)
-clock_effect m w v (SendTimeout s) h = let k = send_timeout_taken m w v s h in ap clocks_of (sym k.leads_to)
-clock_effect m w v (SendNobody s) h = let k = send_nobody_taken m w v s h in ap clocks_of (sym k.leads_to)
-clock_effect m w v (SendCancel s) h = let k = send_cancel_taken m w v s h in ap clocks_of (sym k.leads_to)
-clock_effect m w v (Drop s) h = let k = drop_taken m w v s h in ap clocks_of (sym k.leads_to)
-clock_effect m w v (ReceiveTimeout id) h = let k = receive_timeout_taken m w v id h in ap clocks_of (sym k.leads_to)
-clock_effect m w v (ReceiveNobody id) h = let k = receive_nobody_taken m w v id h in ap clocks_of (sym k.leads_to)
-clock_effect m w v (ReceiveCancel id) h = let k = receive_cancel_taken m w v id h in ap clocks_of (sym k.leads_to)
-clock_effect m w v (Order caller target what) h = let k = order_taken m w v caller target what h in ap clocks_of (sym k.leads_to)
-clock_effect m w v (Obey caller) h = let k = obey_taken m w v caller h in ap clocks_of (sym k.leads_to)
+clock_effect m w v (OfThread kind id) h = (thread_alone m w v kind id h).clocks
+clock_effect m w v (OfSend kind s) h = send_clocks m w v kind s h
+clock_effect m w v (Deliver s receiver shown actual tag words) h =
+    ap clocks_of (sym (deliver_taken m w v s receiver shown actual tag words h).leads_to)
+clock_effect m w v (Order caller target what) h = ap clocks_of (sym (order_taken m w v caller target what h).leads_to)
 clock_effect m w v (Tick cpu clock) h = tick_taken m w v cpu clock h
-clock_effect m w v (Retarget s) h = let k = retarget_taken m w v s h in ap clocks_of (sym k.leads_to)
 
 -- The sizes of a world, and how high its clocks are.
 pub record Sized (m : Machine) (w : World) : Type 0 where

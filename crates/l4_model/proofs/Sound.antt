@@ -2,16 +2,17 @@
 use Rattle.std.proofs.Common.{subst, ◌≡◌, ℕ, ◌+◌, ◌<◌, ◌≤◌, true, false, Option, Some, None, List, ◌∷◌, ◌++◌, length, drop, refl, ap, sym, ◌∙◌, arith, ⊎_elim}
 use Rattle.std.proofs.lemmas.Bool.{or_cases}
 use Rattle.std.proofs.lemmas.List.{length-set, length-append, length-drop}
-use Rattle.std.specs.Prelude.{◌==◌, is_some, IfSome}
+use Rattle.std.specs.Prelude.{is_some, IfSome}
 use Rattle.std.specs.Option.{option_map}
 use Rattle.l4_model.specs.Words.{GlobalId}
-use Rattle.l4_model.specs.Machine.{Machine, Declaration, Instr, Set, Copy, Add, Tag, Vs, Ipc, Ask, Jump, OnErr, End, OrderKind, CancelSend, CancelReceive, CancelBoth, Delete, is_declared, instruction_at}
+use Rattle.l4_model.specs.Machine.{Machine, Declaration, Instr, Run, Ipc, Ask, End, OrderKind, CancelSend, CancelReceive, CancelBoth, Delete, is_declared, instruction_at}
 use Rattle.l4_model.specs.World.{Context, Thread, World, Message, Send, Receive, PendingOrder, Owed, Phase, Ready, Sending, Receiving, Ordering, Ended, Deleted, opening, is_alive, is_ready, is_sending, is_deleted, receive_now}
 use Rattle.l4_model.specs.Rules.{act, ran, received_tag}
 use Rattle.l4_model.specs.Steps.{Step, send_of, next}
 use Rattle.l4_model.specs.Effects.{phase_after, runs, begins, waits, fails, decided, refused, receives, goes_on, delivered, has_receive_phase, asked, asked_send, asked_receive, orders, obeyed, calls_to_receive, turned_receive, turned_send, turns_in, turns}
 use Rattle.l4_model.specs.Reached.{Suits, BeganBy, IsSendOf, ThreadFacts}
-use Rattle.l4_model.proofs.Chains.{cond_keeps, cond_both}
+use Rattle.l4_model.proofs.Chains.{cond_keeps}
+use Rattle.l4_model.proofs.Own.{own_sets}
 use Rattle.l4_model.proofs.Requests.{act_request, message_short, shown_declared}
 use Rattle.l4_model.proofs.Keeping.{Each, Maintained, step_each, opening_each}
 
@@ -76,15 +77,9 @@ suits_gone Deleted send order h = tt
 
 -- An instruction leaves as many registers as there were.
 registers_ran : (i : Instr) (c : Context) → length (ran i c).words ≡ length c.words
-registers_ran (Set a word) c = length-set c.words a word
-registers_ran (Copy a b) c = length-set c.words a _
-registers_ran (Add format a word) c = length-set c.words a _
-registers_ran (Tag word) c = length-set c.words 0 word
-registers_ran (Vs id) c = refl
+registers_ran (Run own) c = own_sets (λ words. length words ≡ length c.words) own c.words refl (length-set c.words)
 registers_ran (Ipc to from send_period receive_period) c = length-set c.words 0 0
 registers_ran (Ask target what) c = refl
-registers_ran (Jump place) c = refl
-registers_ran (OnErr place) c = cond_both (λ (x : Context). length x.words) (length c.words) (c.error == 0) _ _ refl refl
 registers_ran End c = refl
 
 registers_received : (message : Message) (mr0 : ℕ) (words : List ℕ) → length message.words < 64 → length words ≡ 64 → length (mr0 ∷ message.words ++ drop (1 + length message.words) words) ≡ 64

@@ -9,16 +9,16 @@ use Rattle.std.specs.List.{AllByRecursion, list_all}
 use Rattle.l4_model.specs.Words.{GlobalId, same_id}
 use Rattle.l4_model.specs.Machine.{Machine, Declaration, OrderKind, CancelSend, CancelReceive, CancelBoth, Delete}
 use Rattle.l4_model.specs.World.{World, PendingOrder, Owed, same_name, Name}
-use Rattle.l4_model.specs.Rules.{received_tag, is_cross}
+use Rattle.l4_model.specs.Rules.{Failure, TimeOver, NobodyThere, CancelAsked, received_tag, is_cross}
 use Rattle.l4_model.specs.Conditions.{Found, found, Pending, undecided, receiver_of, act_of}
-use Rattle.l4_model.specs.Steps.{Step, Local, Begin, Queue, Deliver, Wait, SendTimeout, ReceiveTimeout, SendNobody, ReceiveNobody, SendCancel, ReceiveCancel, Drop, Order, Obey, Tick, Retarget, order_kind_code, order_of, next}
+use Rattle.l4_model.specs.Steps.{SendStep, ThreadStep, Step, Deliver, Order, Tick, Retarget, order_kind_code, order_of, next, OfThread, OfSend, Runs, Waits, Fails, Obeys, Begun, Queued, Failed, Dropped, Retargeted}
 use Rattle.l4_model.specs.History.{run, reached}
 use Rattle.l4_model.specs.Still.{is_tick, IsStill, deliveries, orders, candidates, late, is_still_thread, is_still}
 use Rattle.l4_model.proofs.Chains.{bind_then, some_is}
 use Rattle.l4_model.proofs.Sizes.{Sized, step_sized}
 use Rattle.l4_model.proofs.Worlds.{standing}
 use Rattle.l4_model.proofs.Clocks.{with_clocks, AreLater, possible_later}
-use Rattle.l4_model.proofs.Inversions.{local_taken, begin_taken, queue_taken, DeliverTaken, deliver_taken, wait_taken, send_timeout_taken, send_nobody_taken, send_cancel_taken, drop_taken, receive_timeout_taken, receive_nobody_taken, receive_cancel_taken, OrderTaken, order_taken, obey_taken, tick_taken, retarget_taken}
+use Rattle.l4_model.proofs.Inversions.{begin_taken, queue_taken, DeliverTaken, deliver_taken, drop_taken, OrderTaken, order_taken, tick_taken, retarget_taken, send_failed, thread_found}
 use Rattle.l4_model.proofs.Places.{and_true, same_id_is, same_name_is, known, known_send, sender_found, id_of}
 
 -- Ticks
@@ -219,46 +219,76 @@ retarget_tried m w v s none h =
     let both = find_all (λ o. is_none (next m w (Retarget o.send))) (λ o. same_name s o.send) w.owed k.o k.is_owed none in
     none_some (next m w (Retarget k.o.send)) v both.1 (ap (λ x. next m w (Retarget x)) (sym (same_name_is s k.o.send both.0)) ∙ h)
 
-tried_all : (m : Machine) (w v : World) (step : Step) → ((id : GlobalId) (t : Found) → found m w id ≡ Some t → NoneTried m w t) → NoneOwed m w → is_tick step ≡ false → next m w step ≡ Some v → ⊥
-tried_all m w v (Local id) none owed tick h =
-    let k = local_taken m w v id h in
-    not_tried m w v k.t (Local id) (Local k.t.declared.id) 0 (none id k.t k.found) refl (ap Local (thread_is m w id k.t k.found)) h
-tried_all m w v (Begin s) none owed tick h =
+-- Each step of a thread is tried, and each of its last send.
+
+thread_place : ThreadStep → ℕ
+thread_place Runs = 0
+thread_place Waits = 2
+thread_place Obeys = 3
+thread_place (Fails TimeOver) = 4
+thread_place (Fails NobodyThere) = 5
+thread_place (Fails CancelAsked) = 6
+
+thread_tried : (m : Machine) (w : World) (t : Found) (kind : ThreadStep) →
+    slice_get (candidates m w (Some t)) (thread_place kind) ≡ Some (OfThread kind t.declared.id)
+unfolding thread_place
+thread_tried m w t Runs = refl
+thread_tried m w t Waits = refl
+thread_tried m w t Obeys = refl
+thread_tried m w t (Fails TimeOver) = refl
+thread_tried m w t (Fails NobodyThere) = refl
+thread_tried m w t (Fails CancelAsked) = refl
+
+failure_place : Failure → ℕ
+failure_place TimeOver = 8
+failure_place NobodyThere = 9
+failure_place CancelAsked = 10
+
+failure_tried : (m : Machine) (w : World) (t : Found) (why : Failure) →
+    slice_get (candidates m w (Some t)) (failure_place why) ≡ Some (OfSend (Failed why) (last_of t))
+unfolding failure_place
+failure_tried m w t TimeOver = refl
+failure_tried m w t NobodyThere = refl
+failure_tried m w t CancelAsked = refl
+
+abbrev NoThreadTried : Machine → World → Type 0
+NoThreadTried m w = (id : GlobalId) (t : Found) → found m w id ≡ Some t → NoneTried m w t
+
+last_tried : (m : Machine) (w v : World) (kind : SendStep) (s : Name) (p : Pending) (i : ℕ) → NoThreadTried m w →
+    undecided m w s ≡ Some p → slice_get (candidates m w (Some p.sender)) i ≡ Some (OfSend kind (last_of p.sender)) →
+    next m w (OfSend kind s) ≡ Some v → ⊥
+last_tried m w v kind s p i none is at h =
+    not_tried m w v p.sender (OfSend kind s) (OfSend kind (last_of p.sender)) i
+    (none s.thread p.sender (sender_found m w s p is)) at (ap (OfSend kind) (last_is m w s p is)) h
+
+begin_tried : (m : Machine) (w v : World) (s : Name) → NoThreadTried m w → next m w (OfSend Begun s) ≡ Some v → ⊥
+begin_tried m w v s none h =
     let k = begin_taken m w v s h in
     let next_k : s.k ≡ k.t.now.context.begun + 1 = eqb-true s.k (k.t.now.context.begun + 1) k.next_k in
-    let same : s ≡ record { thread = k.t.declared.id; k = k.t.now.context.begun + 1 } =
-    ap (λ x. record { thread = x; k = s.k }) (thread_is m w s.thread k.t k.found) ∙ ap (λ n. record { thread = k.t.declared.id; k = n }) next_k in
-    not_tried m w v k.t (Begin s) (Begin (record { thread = k.t.declared.id; k = k.t.now.context.begun + 1 })) 1 (none s.thread k.t k.found) refl (ap Begin same) h
-tried_all m w v (Wait id) none owed tick h =
-    let k = wait_taken m w v id h in
-    not_tried m w v k.t (Wait id) (Wait k.t.declared.id) 2 (none id k.t k.found) refl (ap Wait (thread_is m w id k.t k.found)) h
-tried_all m w v (Obey id) none owed tick h =
-    let k = obey_taken m w v id h in
-    not_tried m w v k.t (Obey id) (Obey k.t.declared.id) 3 (none id k.t k.found) refl (ap Obey (thread_is m w id k.t k.found)) h
-tried_all m w v (ReceiveTimeout id) none owed tick h =
-    let k = receive_timeout_taken m w v id h in
-    not_tried m w v k.t (ReceiveTimeout id) (ReceiveTimeout k.t.declared.id) 4 (none id k.t k.found) refl (ap ReceiveTimeout (thread_is m w id k.t k.found)) h
-tried_all m w v (ReceiveNobody id) none owed tick h =
-    let k = receive_nobody_taken m w v id h in
-    not_tried m w v k.t (ReceiveNobody id) (ReceiveNobody k.t.declared.id) 5 (none id k.t k.found) refl (ap ReceiveNobody (thread_is m w id k.t k.found)) h
-tried_all m w v (ReceiveCancel id) none owed tick h =
-    let k = receive_cancel_taken m w v id h in
-    not_tried m w v k.t (ReceiveCancel id) (ReceiveCancel k.t.declared.id) 6 (none id k.t k.found) refl (ap ReceiveCancel (thread_is m w id k.t k.found)) h
-tried_all m w v (Queue s) none owed tick h =
+    let tried : Name = record { thread = k.t.declared.id; k = k.t.now.context.begun + 1 } in
+    let same : s ≡ tried =
+    ap (λ x. record { thread = x; k = s.k }) (thread_is m w s.thread k.t k.found)
+    ∙ ap (λ n. record { thread = k.t.declared.id; k = n }) next_k in
+    not_tried m w v k.t (OfSend Begun s) (OfSend Begun tried) 1 (none s.thread k.t k.found) refl
+    (ap (OfSend Begun) same) h
+
+tried_all : (m : Machine) (w v : World) (step : Step) → NoThreadTried m w → NoneOwed m w →
+    is_tick step ≡ false → next m w step ≡ Some v → ⊥
+tried_all m w v (OfThread kind id) none owed tick h =
+    let k = thread_found m w v kind id h in
+    not_tried m w v k.0 (OfThread kind id) (OfThread kind k.0.declared.id) (thread_place kind) (none id k.0 k.1)
+    (thread_tried m w k.0 kind) (ap (OfThread kind) (thread_is m w id k.0 k.1)) h
+tried_all m w v (OfSend Begun s) none owed tick h = begin_tried m w v s none h
+tried_all m w v (OfSend Queued s) none owed tick h =
     let k = queue_taken m w v s h in
-    not_tried m w v k.p.sender (Queue s) (Queue (last_of k.p.sender)) 7 (none s.thread k.p.sender (sender_found m w s k.p k.is_undecided)) refl (ap Queue (last_is m w s k.p k.is_undecided)) h
-tried_all m w v (SendTimeout s) none owed tick h =
-    let k = send_timeout_taken m w v s h in
-    not_tried m w v k.p.sender (SendTimeout s) (SendTimeout (last_of k.p.sender)) 8 (none s.thread k.p.sender (sender_found m w s k.p k.is_undecided)) refl (ap SendTimeout (last_is m w s k.p k.is_undecided)) h
-tried_all m w v (SendNobody s) none owed tick h =
-    let k = send_nobody_taken m w v s h in
-    not_tried m w v k.p.sender (SendNobody s) (SendNobody (last_of k.p.sender)) 9 (none s.thread k.p.sender (sender_found m w s k.p k.is_undecided)) refl (ap SendNobody (last_is m w s k.p k.is_undecided)) h
-tried_all m w v (SendCancel s) none owed tick h =
-    let k = send_cancel_taken m w v s h in
-    not_tried m w v k.p.sender (SendCancel s) (SendCancel (last_of k.p.sender)) 10 (none s.thread k.p.sender (sender_found m w s k.p k.is_undecided)) refl (ap SendCancel (last_is m w s k.p k.is_undecided)) h
-tried_all m w v (Drop s) none owed tick h =
+    last_tried m w v Queued s k.p 7 none k.is_undecided refl h
+tried_all m w v (OfSend (Failed why) s) none owed tick h =
+    let k = send_failed m w v s why h in
+    last_tried m w v (Failed why) s k.p (failure_place why) none k.is_undecided (failure_tried m w k.p.sender why) h
+tried_all m w v (OfSend Dropped s) none owed tick h =
     let k = drop_taken m w v s h in
-    not_tried m w v k.p.sender (Drop s) (Drop (last_of k.p.sender)) 11 (none s.thread k.p.sender (sender_found m w s k.p k.is_undecided)) refl (ap Drop (last_is m w s k.p k.is_undecided)) h
+    last_tried m w v Dropped s k.p 11 none k.is_undecided refl h
+tried_all m w v (OfSend Retargeted s) none owed tick h = retarget_tried m w v s owed h
 tried_all m w v (Deliver s receiver shown actual tag words) none owed tick h =
     let k = deliver_taken m w v s receiver shown actual tag words h in
     delivery_tried m w v s receiver shown actual tag words k (none s.thread k.p.sender (sender_found m w s k.p k.is_undecided)) h
@@ -266,7 +296,6 @@ tried_all m w v (Order caller target what) none owed tick h =
     let k = order_taken m w v caller target what h in
     order_tried m w v caller target what k (none caller k.t k.found) h
 tried_all m w v (Tick cpu clock) none owed tick h = cc
-tried_all m w v (Retarget s) none owed tick h = retarget_tried m w v s owed h
 
 -- The test finds it
 

@@ -12,7 +12,7 @@ use Rattle.l4_model.specs.World.{World, Message, Send, changed, opening, Name}
 use Rattle.l4_model.specs.Rules.{message_of, received_tag, is_cross, bit}
 use Rattle.l4_model.specs.Conditions.{Pending, instruction, undecided}
 use Rattle.l4_model.specs.Effects.{begins}
-use Rattle.l4_model.specs.Steps.{Step, Begin, Deliver, SendTimeout, SendNobody, SendCancel, Drop, next}
+use Rattle.l4_model.specs.Steps.{Step, Begin, Deliver, Drop, next, OfSend, Failed}
 use Rattle.l4_model.specs.History.{run, reached, begun_name}
 use Rattle.l4_model.specs.Laws.{names, message_at, message_begun, Carries, IsUnaltered}
 use Rattle.l4_model.proofs.Chains.{bind_then, some_is, get-map, get-changed_same}
@@ -69,9 +69,7 @@ keeps_hold w v j k send e h x at = h x (ap (λ xs. slice_get xs j) (sym e) ∙ a
 step_holds : (m : Machine) (w v : World) (step : Step) (j k : ℕ) (send : Send) → Effect m w v step → HoldsAt j k send w → HoldsAt j k send v
 step_holds m w v (Begin t) j k send e = begins_hold m w v t j k send e
 step_holds m w v (Deliver t receiver shown actual tag words) j k send e = decides_hold m w v t j k send e
-step_holds m w v (SendTimeout t) j k send e = decides_hold m w v t j k send e
-step_holds m w v (SendNobody t) j k send e = decides_hold m w v t j k send e
-step_holds m w v (SendCancel t) j k send e = decides_hold m w v t j k send e
+step_holds m w v (OfSend (Failed why) t) j k send e = decides_hold m w v t j k send e
 step_holds m w v (Drop t) j k send e = decides_hold m w v t j k send e
 step_holds m w v _ j k send e = keeps_hold w v j k send e
 

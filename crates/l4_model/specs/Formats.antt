@@ -3,16 +3,22 @@
 use Rattle.std.specs.Prelude.{ℕ, ◌≡◌, Bool, true, ◌&&◌, Some, List, slice_get}
 use Rattle.std.specs.List.{list_all}
 use Rattle.l4_model.specs.Words.{Format, is_word_in, same_format}
-use Rattle.l4_model.specs.Machine.{Instr, Set, Add, Tag, Declaration, Machine}
+use Rattle.l4_model.specs.Machine.{Value, Word, Register, Sum, Instr, Run, Assign, AssignTag, Declaration, Machine}
 use Rattle.l4_model.specs.World.{Thread, World}
 use Rattle.l4_model.specs.Steps.{Step, Deliver}
 
--- Whether an instruction writes only words of the format: `set` and `tag` write one, `add` adds in
--- the format. All others write what is in a register already, or the tag of an ipc.
+-- Whether a value is a word of the format: a sum where the format counts it. What is in a register
+-- is one already.
+abbrev pub gives_words : Format → Value → Bool
+gives_words f (Word word) = is_word_in f word
+gives_words f (Register b) = true
+gives_words f (Sum format word) = same_format format f
+
+-- Whether an instruction writes only words of the format. Beside values and tags, it writes the tag
+-- of an ipc at most.
 abbrev pub writes_words : Format → Instr → Bool
-writes_words f (Set a word) = is_word_in f word
-writes_words f (Add format a word) = same_format format f
-writes_words f (Tag word) = is_word_in f word
+writes_words f (Run (Assign a value)) = gives_words f value
+writes_words f (Run (AssignTag word)) = is_word_in f word
 writes_words f _ = true
 
 abbrev pub is_of_format : Format → Machine → Bool

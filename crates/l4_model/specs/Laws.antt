@@ -6,7 +6,7 @@ use Rattle.l4_model.specs.Machine.{Machine, Delete, is_declared}
 pub use Rattle.l4_model.specs.World.{same_name}
 use Rattle.l4_model.specs.World.{World, opening, PendingOrder, Message, receive_now, Name}
 use Rattle.l4_model.specs.Rules.{accepts, message_of}
-use Rattle.l4_model.specs.Steps.{Step, Queue, Deliver, SendTimeout, SendNobody, SendCancel, Drop, Obey, next}
+use Rattle.l4_model.specs.Steps.{Step, Begin, Queue, Deliver, Drop, Obey, next, OfSend, Failed}
 use Rattle.l4_model.specs.Conditions.{found, undecided, receiver_of, ◌>>=◌, ◌>>◌}
 use Rattle.l4_model.specs.History.{reached, waiting, begun_name}
 
@@ -21,9 +21,7 @@ delivered_name (Deliver s receiver shown actual tag words) = Some s
 delivered_name _ = None
 
 abbrev pub refused_name : Step → Option Name
-refused_name (SendTimeout s) = Some s
-refused_name (SendNobody s) = Some s
-refused_name (SendCancel s) = Some s
+refused_name (OfSend (Failed why) s) = Some s
 refused_name _ = None
 
 abbrev pub dropped_name : Step → Option Name
@@ -99,6 +97,20 @@ IsUnaltered m h =
     h ≡ before ++ Deliver s receiver shown actual tag words ∷ after →
     IsSomeAnd (message_begun m (opening m) s before) (λ message.
     Carries message shown actual tag words)
+
+-- A step, if it delivers this send, delivers this message.
+abbrev pub DeliversAs : Name → Message → Step → Type 0
+DeliversAs s message (Deliver t receiver shown actual tag words) =
+    same_name s t ≡ true → Carries message shown actual tag words
+DeliversAs s message _ = Unit {0}
+
+-- The same told from the step that begins a send: what stands in the sender's registers there is
+-- what is delivered behind it.
+abbrev pub IsUnalteredFromBegin : Machine → List Step → Type 0
+IsUnalteredFromBegin m h =
+    (before after : List Step) (s : Name) (w : World) →
+    h ≡ before ++ Begin s ∷ after → reached m before ≡ Some w →
+    IsSomeAnd (message_at m w s.thread) (λ message. AllByRecursion (DeliversAs s message) after)
 
 -- The sends that were queued before this one.
 abbrev pub queued_before : Name → List Step → List Name

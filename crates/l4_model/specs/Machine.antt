@@ -15,19 +15,51 @@ pub data OrderKind : Type 0 where
   CancelBoth : OrderKind
   Delete : OrderKind
 
--- One instruction of a script. `Add` has the format of its text, whose words it counts by. `Vs`
--- writes VirtualSender, `Ask` is an ExchangeRegisters or a deletion.
+-- What a register becomes: a word, what another one has, or the sum of what it has and a word, as a
+-- format counts it.
+pub data Value : Type 0 where
+  Word : (word : ℕ) → Value
+  Register : (b : ℕ) → Value
+  Sum : (format : Format) (word : ℕ) → Value
+
+-- An instruction that concerns its thread alone. A register becomes a value, MR0 a tag, and
+-- VirtualSender an id; or the script goes on elsewhere, at once or where ErrorCode is not 0.
+pub data Own : Type 0 where
+  Assign : (a : ℕ) → Value → Own
+  AssignTag : (word : ℕ) → Own
+  AssignVs : Id → Own
+  GoTo : (place : ℕ) → Own
+  GoToOnErr : (place : ℕ) → Own
+
+-- One instruction of a script. `Ask` is an ExchangeRegisters or a deletion.
 pub data Instr : Type 0 where
-  Set : (a word : ℕ) → Instr
-  Copy : (a b : ℕ) → Instr
-  Add : (format : Format) (a word : ℕ) → Instr
-  Tag : (word : ℕ) → Instr
-  Vs : Id → Instr
+  Run : Own → Instr
   Ipc : (to : To) (from : Id) (send_period receive_period : Period) → Instr
   Ask : (target : Id) (what : OrderKind) → Instr
-  Jump : (place : ℕ) → Instr
-  OnErr : (place : ℕ) → Instr
   End : Instr
+
+-- Instructions that concern their thread alone, by the words of a machine text.
+
+pattern abbrev pub Set : (a word : ℕ) → Instr
+Set a word = Run (Assign a (Word word))
+
+pattern abbrev pub Copy : (a b : ℕ) → Instr
+Copy a b = Run (Assign a (Register b))
+
+pattern abbrev pub Add : (format : Format) (a word : ℕ) → Instr
+Add format a word = Run (Assign a (Sum format word))
+
+pattern abbrev pub Tag : (word : ℕ) → Instr
+Tag word = Run (AssignTag word)
+
+pattern abbrev pub Vs : Id → Instr
+Vs id = Run (AssignVs id)
+
+pattern abbrev pub Jump : (place : ℕ) → Instr
+Jump place = Run (GoTo place)
+
+pattern abbrev pub OnErr : (place : ℕ) → Instr
+OnErr place = Run (GoToOnErr place)
 
 -- A declared thread: its id, its processor, its address space by a number, and its script.
 pub record Declaration : Type 0 where

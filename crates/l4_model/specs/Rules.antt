@@ -1,8 +1,8 @@
 -- What an instruction, a message and a failure do to the registers of a thread, and what an
 -- instruction asks for.
-use Rattle.std.specs.Prelude.{ℕ, ◌+◌, ◌*◌, ◌/◌, ◌%◌, ◌^◌, Bool, if◌then◌else◌, ◌==◌, not, ◌&&◌, false, Option, Some, None, is_some, unwrap_or, true, ◌∷◌, ◌++◌, take, drop, length, slice_index, slice_set}
+use Rattle.std.specs.Prelude.{ℕ, ◌+◌, ◌*◌, ◌/◌, ◌%◌, ◌^◌, Bool, if◌then◌else◌, ◌==◌, not, ◌&&◌, false, Option, Some, None, is_some, unwrap_or, true, ◌∷◌, ◌++◌, List, take, drop, length, slice_index, slice_set}
 use Rattle.l4_model.specs.Words.{word_limit, GlobalId, Id, NilThread, AnyThread, AnyLocalThread, LocalThread, GlobalThread, same_id, Period}
-use Rattle.l4_model.specs.Machine.{Tag, To, ToId, ToLast, OrderKind, Delete, Instr, Set, Copy, Add, Vs, Ipc, Ask, Jump, OnErr, End, Machine, is_declared, same_space, same_cpu}
+use Rattle.l4_model.specs.Machine.{To, ToId, ToLast, OrderKind, Delete, Value, Word, Register, Sum, Own, Assign, AssignTag, AssignVs, GoTo, GoToOnErr, Instr, Run, Ipc, Ask, End, Machine, is_declared, same_space, same_cpu}
 use Rattle.l4_model.specs.World.{Name, Context, Receive, Message, Send, PendingOrder, Owed}
 
 -- Who is accepted (manual: Ipc, `FromSpecifier`): anythread takes every sender, anylocalthread
@@ -28,9 +28,6 @@ accepts m from shown receiver = takes from shown (same_space m shown receiver)
 abbrev pub register : Context → ℕ → ℕ
 register c a = slice_index c.words a
 
-abbrev pub with_register : ℕ → ℕ → Context → Context
-with_register a word c = record c { words = slice_set c.words a word }
-
 -- The script goes on at the next instruction.
 abbrev pub advanced : Context → Context
 advanced c = record c { place = c.place + 1 }
@@ -55,6 +52,22 @@ send_cancelled_code = 6
 
 abbrev pub receive_cancelled_code : ℕ
 receive_cancelled_code = 7
+
+-- Why a phase fails: its time is over, nobody is there, or a thread asked for its cancellation.
+pub data Failure : Type 0 where
+  TimeOver : Failure
+  NobodyThere : Failure
+  CancelAsked : Failure
+
+abbrev pub send_code : Failure → ℕ
+send_code TimeOver = send_timeout_code
+send_code NobodyThere = send_nobody_code
+send_code CancelAsked = send_cancelled_code
+
+abbrev pub receive_code : Failure → ℕ
+receive_code TimeOver = receive_timeout_code
+receive_code NobodyThere = receive_nobody_code
+receive_code CancelAsked = receive_cancelled_code
 
 -- The ErrorCode of an order that is not admitted (own).
 abbrev pub order_refused_code : ℕ
@@ -85,18 +98,44 @@ received message mr0 c =
 abbrev pub ordered : ℕ → Context → Context
 ordered code c = advanced (record c { error = code })
 
--- An instruction was run that concerns nobody else. An ipc is then one without phases (manual:
--- Ipc), and an order is refused.
+-- What an instruction that concerns its thread alone leaves: in the message registers, in
+-- VirtualSender, and as the place where the script goes on.
+
+-- What is assigned to MR a.
+abbrev pub assigned : Value → (a : ℕ) → (words : List ℕ) → ℕ
+assigned (Word word) a words = word
+assigned (Register b) a words = slice_index words b
+assigned (Sum format word) a words = (slice_index words a + word) % word_limit format
+
+abbrev pub words_after : Own → List ℕ → List ℕ
+words_after (Assign a value) words = slice_set words a (assigned value a words)
+words_after (AssignTag word) words = slice_set words 0 word
+words_after _ words = words
+
+abbrev pub actual_after : Own → Id → Id
+actual_after (AssignVs id) actual = id
+actual_after _ actual = actual
+
+abbrev pub place_after : Own → (error place : ℕ) → ℕ
+place_after (GoTo target) error place = target
+place_after (GoToOnErr target) error place = if error == 0 then place + 1 else target
+place_after _ error place = place + 1
+
+-- The register that an instruction assigns a value.
+abbrev pub assigned_by : Instr → Option ℕ
+assigned_by (Run (Assign a value)) = Some a
+assigned_by _ = None
+
+-- An instruction was run for itself. An ipc is then one without phases (manual: Ipc), and an order
+-- is refused.
 abbrev pub ran : Instr → Context → Context
-ran (Set a word) c = advanced (with_register a word c)
-ran (Copy a b) c = advanced (with_register a (register c b) c)
-ran (Add format a word) c = advanced (with_register a ((register c a + word) % word_limit format) c)
-ran (Tag word) c = advanced (with_register 0 word c)
-ran (Vs id) c = advanced (record c { actual = id })
+ran (Run own) c = record c {
+  words = words_after own c.words;
+  actual = actual_after own c.actual;
+  place = place_after own c.error c.place;
+}
 ran (Ipc to from send_period receive_period) c = advanced (sent c)
 ran (Ask target what) c = ordered order_refused_code c
-ran (Jump place) c = record c { place = place }
-ran (OnErr place) c = if c.error == 0 then advanced c else record c { place = place }
 ran End c = c
 
 -- What the instruction at hand asks for

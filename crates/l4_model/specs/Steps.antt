@@ -4,29 +4,75 @@ use Rattle.std.specs.Str.{bytes_eq}
 use Rattle.l4_model.specs.Words.{GlobalId, same_id, clock_limit}
 use Rattle.l4_model.specs.Machine.{OrderKind, CancelSend, CancelReceive, CancelBoth, Delete, Machine, place_of}
 use Rattle.l4_model.specs.World.{Name, Receive, Send, PendingOrder, Owed, Phase, Receiving, Thread, World, change, queued, unqueued, owed_of, others_owed, one_more, must_wait, is_ready, is_deleted, is_alive, receive_now}
-use Rattle.l4_model.specs.Rules.{Act, RunsAlone, Sends, Receives, Orders, received_tag, is_cross, owed_by, send_timeout_code, receive_timeout_code, send_nobody_code, receive_nobody_code, send_cancelled_code, receive_cancelled_code}
+use Rattle.l4_model.specs.Rules.{Failure, TimeOver, NobodyThere, CancelAsked, Act, RunsAlone, Sends, Receives, Orders, received_tag, is_cross, owed_by, send_code, receive_code}
 use Rattle.l4_model.specs.Effects.{runs, begins, waits, fails, decided, refused, receives, delivered, asked, orders, obeyed, turns}
 use Rattle.l4_model.specs.Conditions.{◌>>=◌, ◌>>◌, Found, found, found_by, Pending, undecided, receiver_of, instruction, act_of, is_waiting, first_accepted, is_nobody, is_no_destination, has_passed, is_timed_out}
+
+-- What a thread does: it runs an instruction that has no other step, it waits for a message, its
+-- receive phase fails, or what it asked for is done.
+pub data ThreadStep : Type 0 where
+  Runs : ThreadStep
+  Waits : ThreadStep
+  Fails : Failure → ThreadStep
+  Obeys : ThreadStep
+
+-- What becomes of a send, but for its delivery. A send that was delivered may be retargeted.
+pub data SendStep : Type 0 where
+  Begun : SendStep
+  Queued : SendStep
+  Failed : Failure → SendStep
+  Dropped : SendStep
+  Retargeted : SendStep
 
 -- What a history tells: a step for each change of a phase, a send, an order or a clock, and `Local`
 -- where a thread runs an instruction that has none of these.
 pub data Step : Type 0 where
-  Local : GlobalId → Step
-  Begin : Name → Step
-  Queue : Name → Step
+  OfThread : ThreadStep → GlobalId → Step
+  OfSend : SendStep → Name → Step
   Deliver : Name → (receiver shown actual : GlobalId) → (tag : ℕ) → (words : List ℕ) → Step
-  Wait : GlobalId → Step
-  SendTimeout : Name → Step
-  ReceiveTimeout : GlobalId → Step
-  SendNobody : Name → Step
-  ReceiveNobody : GlobalId → Step
-  SendCancel : Name → Step
-  ReceiveCancel : GlobalId → Step
-  Drop : Name → Step
   Order : (caller target : GlobalId) → OrderKind → Step
-  Obey : GlobalId → Step
   Tick : (cpu clock : ℕ) → Step
-  Retarget : Name → Step
+
+-- The steps of threads and of sends, by the words of a trace.
+
+pattern abbrev pub Local : GlobalId → Step
+Local t = OfThread Runs t
+
+pattern abbrev pub Wait : GlobalId → Step
+Wait t = OfThread Waits t
+
+pattern abbrev pub ReceiveTimeout : GlobalId → Step
+ReceiveTimeout t = OfThread (Fails TimeOver) t
+
+pattern abbrev pub ReceiveNobody : GlobalId → Step
+ReceiveNobody t = OfThread (Fails NobodyThere) t
+
+pattern abbrev pub ReceiveCancel : GlobalId → Step
+ReceiveCancel t = OfThread (Fails CancelAsked) t
+
+pattern abbrev pub Obey : GlobalId → Step
+Obey t = OfThread Obeys t
+
+pattern abbrev pub Begin : Name → Step
+Begin s = OfSend Begun s
+
+pattern abbrev pub Queue : Name → Step
+Queue s = OfSend Queued s
+
+pattern abbrev pub SendTimeout : Name → Step
+SendTimeout s = OfSend (Failed TimeOver) s
+
+pattern abbrev pub SendNobody : Name → Step
+SendNobody s = OfSend (Failed NobodyThere) s
+
+pattern abbrev pub SendCancel : Name → Step
+SendCancel s = OfSend (Failed CancelAsked) s
+
+pattern abbrev pub Drop : Name → Step
+Drop s = OfSend Dropped s
+
+pattern abbrev pub Retarget : Name → Step
+Retarget s = OfSend Retargeted s
 
 -- A number for each demand, to compare them by.
 abbrev pub order_kind_code : OrderKind → ℕ
@@ -115,30 +161,21 @@ after_wait m w id = do
 abbrev pub without_send : World → Pending → (Thread → Thread) → World
 without_send w p f = change (unqueued w p.sender.at) p.sender.at f
 
--- A send is refused since its time is over (manual: Ipc, Time). Like `queue`, not while a retarget
--- holds it back (own, profile 2).
-abbrev pub after_send_timeout : Machine → World → Name → Option World
-after_send_timeout m w s = do
-  p ← undecided m w s
-  is_timed_out m w p
-  not (must_wait w.owed s.thread p.send.to)
-  Some (without_send w p (refused send_timeout_code))
+-- A send may be refused: its time is over (manual: Ipc, Time) or nobody is there, and like `queue`,
+-- not while a retarget holds it back (own, profile 2); or it waits, and is to be cancelled (manual:
+-- ExchangeRegisters, `S`).
+abbrev pub may_refuse : Machine → World → Name → Pending → Failure → Bool
+may_refuse m w s p TimeOver = is_timed_out m w p && not (must_wait w.owed s.thread p.send.to)
+may_refuse m w s p NobodyThere = is_no_destination p.send.to (receiver_of m w p) &&
+    not (must_wait w.owed s.thread p.send.to)
+may_refuse m w s p CancelAsked = is_waiting w p && p.sender.now.cancel_send
 
--- A send is refused since nobody is there. Not while a retarget holds it back (own, profile 2).
-abbrev pub after_send_nobody : Machine → World → Name → Option World
-after_send_nobody m w s = do
+-- A send is refused.
+abbrev pub after_refusal : Machine → World → Name → Failure → Option World
+after_refusal m w s why = do
   p ← undecided m w s
-  is_no_destination p.send.to (receiver_of m w p)
-  not (must_wait w.owed s.thread p.send.to)
-  Some (without_send w p (refused send_nobody_code))
-
--- A waiting send is cancelled (manual: ExchangeRegisters, `S`).
-abbrev pub after_send_cancel : Machine → World → Name → Option World
-after_send_cancel m w s = do
-  p ← undecided m w s
-  is_waiting w p
-  p.sender.now.cancel_send
-  Some (without_send w p (refused send_cancelled_code))
+  may_refuse m w s p why
+  Some (without_send w p (refused (send_code why)))
 
 -- The waiting send of a deleted thread is dropped (own).
 abbrev pub after_drop : Machine → World → Name → Option World
@@ -153,32 +190,23 @@ abbrev pub receive_passed : Found → Phase → Bool
 receive_passed t (Receiving receive since) = has_passed receive.period since t.clock
 receive_passed t _ = false
 
--- A receive phase is over since its time is (manual: Ipc, Time), and no message that it accepts
--- waits (own).
-abbrev pub after_receive_timeout : Machine → World → GlobalId → Option World
-after_receive_timeout m w id = do
-  t ← found m w id
-  receive ← receive_now t.now.phase
-  receive_passed t t.now.phase
-  is_none (first_accepted m w t receive.from)
-  Some (change w t.at (fails receive_timeout_code))
+-- A receive phase may fail: its time is over (manual: Ipc, Time) or nobody has the id that it names,
+-- and no message that it accepts waits (own); or it is to be cancelled (manual: ExchangeRegisters,
+-- `R`).
+abbrev pub may_fail : Machine → World → Found → Receive → Failure → Bool
+may_fail m w t receive TimeOver = receive_passed t t.now.phase &&
+    is_none (first_accepted m w t receive.from)
+may_fail m w t receive NobodyThere = is_nobody receive.from (found_by m w receive.from) &&
+    is_none (first_accepted m w t receive.from)
+may_fail m w t receive CancelAsked = t.now.cancel_receive
 
--- A receive phase is closed for an id that nobody has.
-abbrev pub after_receive_nobody : Machine → World → GlobalId → Option World
-after_receive_nobody m w id = do
+-- A receive phase fails.
+abbrev pub after_failure : Machine → World → GlobalId → Failure → Option World
+after_failure m w id why = do
   t ← found m w id
   receive ← receive_now t.now.phase
-  is_nobody receive.from (found_by m w receive.from)
-  is_none (first_accepted m w t receive.from)
-  Some (change w t.at (fails receive_nobody_code))
-
--- A receive phase is cancelled (manual: ExchangeRegisters, `R`).
-abbrev pub after_receive_cancel : Machine → World → GlobalId → Option World
-after_receive_cancel m w id = do
-  t ← found m w id
-  receive ← receive_now t.now.phase
-  t.now.cancel_receive
-  Some (change w t.at (fails receive_cancelled_code))
+  may_fail m w t receive why
+  Some (change w t.at (fails (receive_code why)))
 
 -- A thread asks for a cancellation or a deletion (manual: ExchangeRegisters, ThreadControl), and
 -- waits until it is done.
@@ -213,22 +241,24 @@ after_tick m w cpu clock = do
   nat_lt now clock && nat_lt clock clock_limit
   Some (record w { clocks = slice_set w.clocks cpu clock })
 
+abbrev pub after_thread : Machine → World → GlobalId → ThreadStep → Option World
+after_thread m w t Runs = after_local m w t
+after_thread m w t Waits = after_wait m w t
+after_thread m w t (Fails why) = after_failure m w t why
+after_thread m w t Obeys = after_obey m w t
+
+abbrev pub after_send : Machine → World → Name → SendStep → Option World
+after_send m w s Begun = after_begin m w s
+after_send m w s Queued = after_queue m w s
+after_send m w s (Failed why) = after_refusal m w s why
+after_send m w s Dropped = after_drop m w s
+after_send m w s Retargeted = after_retarget m w s
+
 -- The world after a step. None exactly where it is not possible.
 abbrev pub next : Machine → World → Step → Option World
-next m w (Local t) = after_local m w t
-next m w (Begin s) = after_begin m w s
-next m w (Queue s) = after_queue m w s
+next m w (OfThread kind t) = after_thread m w t kind
+next m w (OfSend kind s) = after_send m w s kind
 next m w (Deliver s receiver shown actual tag words) =
     after_deliver m w s receiver shown actual tag words
-next m w (Wait t) = after_wait m w t
-next m w (SendTimeout s) = after_send_timeout m w s
-next m w (ReceiveTimeout t) = after_receive_timeout m w t
-next m w (SendNobody s) = after_send_nobody m w s
-next m w (ReceiveNobody t) = after_receive_nobody m w t
-next m w (SendCancel s) = after_send_cancel m w s
-next m w (ReceiveCancel t) = after_receive_cancel m w t
-next m w (Drop s) = after_drop m w s
 next m w (Order caller target what) = after_order m w caller target what
-next m w (Obey caller) = after_obey m w caller
 next m w (Tick cpu clock) = after_tick m w cpu clock
-next m w (Retarget s) = after_retarget m w s

@@ -4,9 +4,9 @@ use Rattle.std.specs.List.{list_all, AllByRecursion}
 use Rattle.l4_model.specs.Words.{GlobalId, clock_limit}
 use Rattle.l4_model.specs.Machine.{Machine}
 use Rattle.l4_model.specs.World.{World, PendingOrder, Name}
-use Rattle.l4_model.specs.Steps.{Step, Local, Begin, Queue, Deliver, Wait, SendTimeout, ReceiveTimeout, SendNobody, ReceiveNobody, SendCancel, ReceiveCancel, Drop, Order, Obey, Tick, Retarget, order_of, next}
+use Rattle.l4_model.specs.Steps.{Step, OfThread, OfSend, Fails, Failed, Local, Begin, Queue, Deliver, Wait, Drop, Order, Obey, Tick, Retarget, order_of, next}
 use Rattle.l4_model.specs.Conditions.{Pending, Found, found, undecided, receiver_of, act_of}
-use Rattle.l4_model.specs.Rules.{received_tag, is_cross}
+use Rattle.l4_model.specs.Rules.{Failure, TimeOver, NobodyThere, CancelAsked, received_tag, is_cross}
 use Rattle.l4_model.specs.History.{run}
 
 abbrev pub is_tick : Step → Bool
@@ -38,6 +38,9 @@ abbrev pub orders : GlobalId → Option PendingOrder → List Step
 orders caller None = []
 orders caller (Some order) = Order caller order.target order.what ∷ []
 
+abbrev pub failures : List Failure
+failures = TimeOver ∷ NobodyThere ∷ CancelAsked ∷ []
+
 abbrev pub candidates : Machine → World → Option Found → List Step
 candidates m w None = []
 candidates m w (Some t) = all t.declared.id (record {
@@ -47,10 +50,11 @@ candidates m w (Some t) = all t.declared.id (record {
   where
     all : GlobalId → Name → List Step
     all id last =
-        Local id ∷ Begin (record { thread = id; k = last.k + 1 }) ∷ Wait id ∷ Obey id
-        ∷ ReceiveTimeout id ∷ ReceiveNobody id ∷ ReceiveCancel id
-        ∷ Queue last ∷ SendTimeout last ∷ SendNobody last ∷ SendCancel last ∷ Drop last
-        ∷ deliveries m w (undecided m w last) last ++ orders id (order_of (act_of m t))
+        (Local id ∷ Begin (record { thread = id; k = last.k + 1 }) ∷ Wait id ∷ Obey id
+        ∷ map (λ why. OfThread (Fails why) id) failures)
+        ++ (Queue last ∷ map (λ why. OfSend (Failed why) last) failures)
+        ++ (Drop last ∷ deliveries m w (undecided m w last) last)
+        ++ orders id (order_of (act_of m t))
 
 abbrev pub late : World → World
 late w = record w { clocks = map (λ clock. clock_limit - 1) w.clocks }

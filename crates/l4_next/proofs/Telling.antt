@@ -1,9 +1,10 @@
 -- What one more entry makes of a replay, and what is told of it.
-use Rattle.std.proofs.Common.{◌≡◌, ℕ, ◌+◌, ◌<◌, ◌≤◌, Bool, true, Option, Some, None, List, [], ◌∷◌, ◌++◌, length, map, drop, codes, refl, ap, sym, ◌∙◌, subst, arith, append-nil, append_assoc}
+use Rattle.std.proofs.Common.{◌≡◌, ℕ, ◌+◌, ◌-◌, ◌<◌, Bool, true, false, cond, Option, Some, None, List, [], ◌∷◌, ◌++◌, length, drop, refl, ap, sym, ◌∙◌, arith, append-nil, append_assoc}
 use Rattle.std.proofs.Math.Seq.{drop-append_seam}
-use Rattle.std.specs.Prelude.{◌&&◌, is_some, filter_map, flat_map}
+use Rattle.std.specs.Prelude.{◌&&◌, is_some, filter_map}
 use Rattle.std.specs.List.{cons_option, list_all}
 use Rattle.std.specs.Option.{option_map}
+use Rattle.std.proofs.lemmas.Bool.{le-ltb}
 use Rattle.std.proofs.lemmas.List.{length-append}
 use Rattle.std.proofs.lemmas.List.Elements.{filter_map-append}
 use Rattle.std.proofs.lemmas.List.Concat.{flat_map-append}
@@ -13,15 +14,15 @@ use Rattle.l4_model.specs.Machine.{Machine}
 use Rattle.l4_model.specs.Steps.{Step}
 use Rattle.l4_model.specs.Conditions.{◌>>=◌}
 use Rattle.l4_core_model.specs.Runs.{Action, Happened, Run, System, happens, opening_run, told}
-use Rattle.l4_core_model.specs.Schedules.{or_stays}
+use Rattle.l4_core_model.specs.Schedules.{or_stays, Entry, entry_event, replay_entries}
 use Rattle.l4_core_model.proofs.Telling.{told-last}
-use Rattle.l4_choices.specs.Entries.{Entry, entry_event, replay_entries}
 use Rattle.l4_machine.specs.Entries.{entries_fault, first_stranger, is_entry, most_events}
 use Rattle.l4_rounds.proofs.Faults.{no_fault}
 use Rattle.l4_rounds.proofs.Rounds.{lawful_more, replays_more}
 use Rattle.l4_states.specs.Choices.{after_entry, choice}
 use Rattle.l4_trace.specs.Lines.{has_line, trace_of}
-use Rattle.l4_next.specs.Nexts.{Next, are_spelled, choices, item_line, listed, next_by, next_text, nexts_text}
+use Rattle.l4_machine.specs.declared.outcome.RunFault.TheVariants.{Turns, Schedule}
+use Rattle.l4_next.specs.Nexts.{Next, are_spelled, choices, item_line, listed, next_by, next_text, nexts_fault, nexts_text}
 
 -- What happens by an entry
 abbrev happened : Machine → Run → Entry → Option Happened
@@ -30,42 +31,22 @@ happened m r e = entry_event m r.system e >>= happens m r.system
 abbrev next_of : Entry → Happened → Next
 next_of e h = record { entry = e; steps = h.event.steps }
 
--- Where the longer replay has no further event, nothing is told of the entry.
-pub none_next : (m : Machine) (es : List Entry) (e : Entry) →
-    length (replay_entries m (es ++ e ∷ [])).events ≤ length (replay_entries m es).events →
-    next_by m (replay_entries m es).system e ≡ None
-none_next m es e few = by (happened m r e) refl
-  where
-    r : Run
-    r = replay_entries m es
-
-    by : (o : Option Happened) → happened m r e ≡ o → option_map (next_of e) (happened m r e) ≡ None
-    by None is = ap (option_map (next_of e)) is
-    by (Some h) is =
-        let same : replay_entries m (es ++ e ∷ []) ≡ or_stays r (Some h) = replays_more m (opening_run m) es e ∙ ap (or_stays r) is in
-        let count = ap (λ (s : Run). length s.events) same in
-        let longer = length-append r.events (h.event ∷ []) in
-        absurd (omega (arith, count, longer, few))
-
--- Where it has one, the steps behind those of the shorter replay are told.
+-- Of an entry that can be done the steps behind those of the shorter replay are told.
 pub record IsNext (m : Machine) (es : List Entry) (e : Entry) : Type 0 where
   pub steps : List Step
   pub is : next_by m (replay_entries m es).system e ≡ Some (record { entry = e; steps = steps })
   pub told : told (replay_entries m (es ++ e ∷ [])).events ≡ told (replay_entries m es).events ++ steps
 
 pub one_next : (m : Machine) (es : List Entry) (e : Entry) →
-    length (replay_entries m es).events < length (replay_entries m (es ++ e ∷ [])).events → IsNext m es e
-one_next m es e more = by (happened m r e) refl
+    is_some (next_by m (replay_entries m es).system e) ≡ true → IsNext m es e
+one_next m es e possible = by (happened m r e) refl (ap is_some refl ∙ possible)
   where
     r : Run
     r = replay_entries m es
 
-    by : (o : Option Happened) → happened m r e ≡ o → IsNext m es e
-    by None is =
-        let same : replay_entries m (es ++ e ∷ []) ≡ or_stays r None = replays_more m (opening_run m) es e ∙ ap (or_stays r) is in
-        let count = ap (λ (s : Run). length s.events) same in
-        absurd (omega (arith, count, more))
-    by (Some h) is = record {
+    by : (o : Option Happened) → happened m r e ≡ o → is_some (option_map (next_of e) (happened m r e)) ≡ true → IsNext m es e
+    by None is some = absurd (let no = ap (λ p. is_some (option_map (next_of e) p)) (sym is) ∙ some in cc)
+    by (Some h) is some = record {
       steps = h.event.steps;
       is = ap (option_map (next_of e)) is;
       told = ap (λ (s : Run). told s.events) (replays_more m (opening_run m) es e ∙ ap (or_stays r) is) ∙ told-last r.events h.event;
@@ -77,27 +58,29 @@ behind : (m : Machine) (es : List Entry) (e : Entry) (n : IsNext m es e) (before
 behind m es e n before after is more =
     ap (drop (length before)) (more ∙ n.told ∙ ap (λ steps. steps ++ n.steps) (sym is)) ∙ drop-append_seam before n.steps
 
--- Nothing is written.
-pub none_written : (m : Machine) (es : List Entry) (e : Entry) (lines : List ℕ) →
-    length (replay_entries m (es ++ e ∷ [])).events ≤ length (replay_entries m es).events →
-    lines ≡ lines ++ nexts_text (listed (next_by m (replay_entries m es).system e))
-none_written m es e lines few = sym (ap (λ o. lines ++ nexts_text (listed o)) (none_next m es e few) ∙ append-nil lines)
+-- Of an entry that can't be done nothing is written.
 
-pub none_spelled : (m : Machine) (es : List Entry) (e : Entry) → length (replay_entries m (es ++ e ∷ [])).events ≤ length (replay_entries m es).events →
-    are_spelled (listed (next_by m (replay_entries m es).system e)) ≡ true
-none_spelled m es e few = ap (λ o. are_spelled (listed o)) (none_next m es e few)
+none_of : (o : Option Next) → is_some o ≡ false → listed o ≡ []
+none_of None none = refl
+none_of (Some next) none = cc
+
+pub none_written : (o : Option Next) (lines : List ℕ) → is_some o ≡ false → lines ≡ lines ++ nexts_text (listed o)
+none_written o lines none = sym (ap (λ next. lines ++ nexts_text next) (none_of o none) ∙ append-nil lines)
+
+pub none_spelled : (o : Option Next) → is_some o ≡ false → are_spelled (listed o) ≡ true
+none_spelled o none = ap are_spelled (none_of o none)
 
 -- An item and its steps are written.
 one_text : (n : Next) → nexts_text (n ∷ []) ≡ item_line n.entry ++ trace_of n.steps
 one_text n = append-nil (next_text n)
 
 pub one_written : (m : Machine) (es : List Entry) (e : Entry) (before after : List Step) (old between new : List ℕ) →
-    length (replay_entries m es).events < length (replay_entries m (es ++ e ∷ [])).events →
+    is_some (next_by m (replay_entries m es).system e) ≡ true →
     before ≡ told (replay_entries m es).events → after ≡ told (replay_entries m (es ++ e ∷ [])).events →
     between ≡ old ++ item_line e → new ≡ between ++ trace_of (drop (length before) after) →
     new ≡ old ++ nexts_text (listed (next_by m (replay_entries m es).system e))
-one_written m es e before after old between new more is longer item steps =
-    let n = one_next m es e more in
+one_written m es e before after old between new possible is longer item steps =
+    let n = one_next m es e possible in
     let next : Next = record { entry = e; steps = n.steps } in
     steps
     ∙ ap (λ told. between ++ trace_of told) (behind m es e n before after is longer)
@@ -110,12 +93,12 @@ one_all : (next : Next) → list_all has_line next.steps ≡ true → are_spelle
 one_all next is = rw is refl
 
 pub one_spelled : (m : Machine) (es : List Entry) (e : Entry) (before after : List Step) →
-    length (replay_entries m es).events < length (replay_entries m (es ++ e ∷ [])).events →
+    is_some (next_by m (replay_entries m es).system e) ≡ true →
     before ≡ told (replay_entries m es).events → after ≡ told (replay_entries m (es ++ e ∷ [])).events →
     list_all has_line (drop (length before) after) ≡ true →
     are_spelled (listed (next_by m (replay_entries m es).system e)) ≡ true
-one_spelled m es e before after more is longer spelled =
-    let n = one_next m es e more in
+one_spelled m es e before after possible is longer spelled =
+    let n = one_next m es e possible in
     ap (λ o. are_spelled (listed o)) n.is
     ∙ one_all (record { entry = e; steps = n.steps }) (ap (list_all has_line) (sym (behind m es e n before after is longer)) ∙ spelled)
 
@@ -172,3 +155,12 @@ as_goes_on m g e = by (entry_event m g e)
     by : (o : Option Action) → is_some (option_map (next_of e) (o >>= happens m g)) ≡ is_some (o >>= λ a. option_map (λ (h : Happened). h.system) (happens m g a))
     by None = refl
     by (Some a) = here (happens m g a)
+
+-- Where the list is lawful and has room for an entry more, there is something to tell.
+pub none_faulty : (m : Machine) (es : List Entry) → length es < most_events → entries_fault m es ≡ None →
+    nexts_fault m es ≡ None
+none_faulty m es few lawful =
+    ap (λ b. cond b (Some Turns) (option_map Schedule (first_stranger m 1 es)))
+    (le-ltb (most_events - 1) (length es) (omega (arith, few))
+    ∙ sym (le-ltb most_events (length es) (omega (arith, few))))
+    ∙ lawful

@@ -6,7 +6,7 @@ use Rattle.l4_model.specs.Machine.{Machine}
 use Rattle.l4_model.specs.Steps.{Step}
 use Rattle.l4_model.specs.Conditions.{◌>>=◌}
 use Rattle.l4_core_model.specs.Runs.{System, happens}
-use Rattle.l4_choices.specs.Entries.{Entry, entry_event}
+use Rattle.l4_core_model.specs.Schedules.{Entry, entry_event}
 use Rattle.l4_machine.specs.Entries.{fault_of, most_events}
 use Rattle.l4_machine.specs.declared.outcome.RunFault.{RunFault}
 use Rattle.l4_schedules.specs.Items.{item_of}

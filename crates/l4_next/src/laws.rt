@@ -2,7 +2,7 @@
 ghost use Rattle.std.specs.Prelude.{◌≡◌, is_some};
 ghost use Rattle.l4_model.specs.Machine.{Machine};
 ghost use Rattle.l4_core_model.specs.Runs.{System};
-ghost use Rattle.l4_choices.specs.Entries.{Entry};
+ghost use Rattle.l4_core_model.specs.Schedules.{Entry};
 ghost use Rattle.l4_states.specs.Choices.{after_entry};
 ghost use Rattle.l4_next.specs.Nexts.{next_by};
 

@@ -11,7 +11,6 @@
 //! ```
 #![tactic(auto)]
 
-mod choices;
 mod laws;
 pub mod nexts;
 

@@ -1,43 +1,37 @@
 //! What may happen next, in lines.
-ghost use Rattle.std.specs.Prelude.{◌≡◌, ◌<◌, ◌≤◌, ◌⊎◌, ◌++◌, ◌∷◌, [], IfErr, IfOk, None, OnOk, Some};
-ghost use Rattle.std.specs.Prelude.{drop, length, map, true};
+ghost use Rattle.std.specs.Prelude.{◌≡◌, ◌<◌, ◌≤◌, ◌⊎◌, ◌++◌, ◌∷◌, [], IfErr, IfOk, None, OnOk};
+ghost use Rattle.std.specs.Prelude.{Some};
+ghost use Rattle.std.specs.Prelude.{drop, is_some, length, map, true};
 ghost use Rattle.std.specs.List.{list_all};
-ghost use Rattle.l4_choices.specs.Entries.{replay_entries};
+ghost use Rattle.l4_core_model.specs.Runs.{told};
+ghost use Rattle.l4_core_model.specs.Schedules.{replay_entries};
 ghost use Rattle.l4_machine.specs.Entries.{entries_fault, entry_from, first_stranger, is_entry};
 ghost use Rattle.l4_machine.specs.Entries.{most_events};
 ghost use Rattle.l4_trace.specs.Lines.{has_line, trace_of};
 ghost use Rattle.l4_next.specs.Nexts.{are_spelled, item_line, listed, next_by, nexts, nexts_fault};
 ghost use Rattle.l4_next.specs.Nexts.{nexts_text};
-ghost use Rattle.l4_next.specs.Pasts.{IsPastOf};
 
-use crate::choices::{choice, choice_count};
 use l4_history::history::History;
 use l4_machine::{Entry, MOST_EVENTS, RunFault, replay_compact};
+use l4_rounds::choices::{choice, choice_count, is_possible};
+use l4_rounds::walk_behind;
 use l4_schedules::writing::write_schedule;
 use l4_script::machine::Machine;
 use l4_trace::traces::TraceWriter;
 use l4_types::errors::NoMemory;
 use std::alloc::Global;
 
-/// The history of a replay, and how many events it has.
-#[derive(Drop)]
-pub struct Past {
-    history: History,
-    events: u64,
-}
-
-// The replay of these entries.
-fn past_of(alloc: Global, machine: &Machine, entries: &[Entry]) -> Result<Past, RunFault>
-    ensures ok { IfOk result (IsPastOf machine.now (map entry_from entries.now)) }
-    ensures lawful { IfOk result (λ r.
+// The history of the replay of these entries.
+fn history_of(alloc: Global, machine: &Machine, entries: &[Entry]) -> Result<History, RunFault>
+    ensures ok { IfOk result (λ history. history.steps
+        ≡ told (replay_entries machine.now (map entry_from entries.now)).events) }
+    ensures lawful { IfOk result (λ _.
         entries_fault machine.now (map entry_from entries.now) ≡ None) }
     ensures err { IfErr result (λ fault. (fault ≡ RunFault.NoMemory) ⊎
         (entries_fault machine.now (map entry_from entries.now) ≡ Some fault)) }
 {
     let outcome = replay_compact(alloc, machine, entries)?;
-    let events = outcome.turns;
-    let history = outcome.history.into_history(alloc)?;
-    Ok(Past { history, events })
+    Ok(outcome.history.into_history(alloc)?)
 }
 
 // These entries, and one more.
@@ -51,22 +45,22 @@ fn with_entry(alloc: Global, entries: &[Entry], entry: Entry) -> Result<Vec<Entr
     Ok(all)
 }
 
-// The replay of these entries and one more, which are of the machine.
-fn past_with(
+// The history of the replay of these entries and one more, which are of the machine.
+fn history_with(
     alloc: Global,
     machine: &Machine,
     entries: &[Entry],
     entry: Entry,
-) -> Result<Past, NoMemory>
+) -> Result<History, NoMemory>
     requires few { length entries.now < most_events }
     requires lawful { first_stranger machine.now 1 (map entry_from entries.now) ≡ None }
     requires own { is_entry machine.now (entry_from entry) ≡ true }
-    ensures { IfOk result
-        (IsPastOf machine.now (map entry_from entries.now ++ entry_from entry ∷ [])) }
+    ensures { IfOk result (λ history. history.steps ≡ told (replay_entries machine.now
+        (map entry_from entries.now ++ entry_from entry ∷ [])).events) }
 {
     let all = with_entry(alloc, entries, entry)?;
-    match past_of(alloc, machine, all.as_slice()) {
-        Ok(past) => Ok(past),
+    match history_of(alloc, machine, all.as_slice()) {
+        Ok(history) => Ok(history),
         Err(_) => Err(NoMemory),
     }
 }
@@ -99,19 +93,22 @@ fn write_steps(
     Ok(())
 }
 
-// Appends what an entry does behind these, where it can be done.
+// Appends what an entry does behind these, which can be done.
 fn write_next(
     alloc: Global,
     machine: &Machine,
     entries: &[Entry],
-    before: &Past,
+    before: &History,
     entry: Entry,
     lines: &mut Vec<u8>,
 ) -> Result<(), NoMemory>
-    requires past { IsPastOf machine.now (map entry_from entries.now) before.now }
+    requires before { before.now.steps
+        ≡ told (replay_entries machine.now (map entry_from entries.now)).events }
     requires lawful { first_stranger machine.now 1 (map entry_from entries.now) ≡ None }
     requires few { length entries.now < most_events }
     requires own { is_entry machine.now (entry_from entry) ≡ true }
+    requires possible { is_some (next_by machine.now (replay_entries machine.now
+        (map entry_from entries.now)).system (entry_from entry)) ≡ true }
     ensures lines { OnOk result (lines.new.items ≡ lines.old.items ++ nexts_text (listed
         (next_by machine.now (replay_entries machine.now (map entry_from entries.now)).system
         (entry_from entry)))) }
@@ -119,11 +116,9 @@ fn write_next(
         (next_by machine.now (replay_entries machine.now (map entry_from entries.now)).system
         (entry_from entry))) ≡ true) }
 {
-    let after = past_with(alloc, machine, entries, entry)?;
-    if after.events > before.events {
-        write_item(entry, lines)?;
-        write_steps(alloc, &after.history, before.history.len(), lines)?;
-    }
+    let after = history_with(alloc, machine, entries, entry)?;
+    write_item(entry, lines)?;
+    write_steps(alloc, &after, before.len(), lines)?;
     Ok(())
 }
 
@@ -149,12 +144,15 @@ pub fn next_lines(alloc: Global, machine: &Machine, entries: &[Entry]) -> Result
         return Err(RunFault::Turns);
     }
     machine.facts();
-    let before = past_of(alloc, machine, entries)?;
+    let before = history_of(alloc, machine, entries)?;
+    let walk = walk_behind(alloc, machine, entries)?;
     let cpus = machine.cpus();
     let mut lines = Vec::new(alloc);
     for number in 0..choice_count(cpus) {
-        let entry = choice(cpus, number);
-        write_next(alloc, machine, entries, &before, entry, &mut lines)?;
+        if is_possible(&walk, cpus, number) {
+            let entry = choice(cpus, number);
+            write_next(alloc, machine, entries, &before, entry, &mut lines)?;
+        }
     }
     Ok(lines)
 }

@@ -11,8 +11,8 @@ use Rattle.l4_model.proofs.Chains.{some_is}
 use Rattle.l4_worlds.specs.Late.{next_late}
 use Rattle.l4_first.specs.First.{stands_alone}
 use Rattle.l4_futures.specs.Choices.{Choice, choice_at, step_at, entry_count, possible, tried}
-use Rattle.l4_futures.specs.Ends.{is_end}
-use Rattle.l4_outlooks.specs.Named.{open_step}
+use Rattle.l4_futures.specs.Inner.Ends.{is_end}
+use Rattle.l4_outlooks.specs.Inner.Named.{open_step}
 
 abbrev one : (entry : ℕ) → Step → Choice
 one entry step = record { entry = entry; step = step }

@@ -7,11 +7,11 @@ use Rattle.l4_model.specs.Machine.{Machine}
 use Rattle.l4_model.specs.World.{Thread, World, is_deleted, is_in, opening_thread, opening_context}
 use Rattle.l4_model.specs.Conditions.{Found, found_at}
 use Rattle.l4_model.proofs.Chains.{bind_then, get-map, some_is}
-use Rattle.l4_states.specs.Codes.{chained, context_code, number_code, thread_code}
-use Rattle.l4_codes.specs.States.{standing_code}
-use Rattle.l4_codes.specs.Written.{Written, Writes, with_numbers}
+use Rattle.l4_states.specs.Inner.Codes.{chained, context_code, number_code, thread_code}
+use Rattle.l4_codes.specs.Inner.States.{standing_code}
+use Rattle.l4_codes.specs.Inner.Written.{Written, Writes, with_numbers}
 use Rattle.l4_codes.proofs.Writing.{first_told}
-use Rattle.l4_outlooks.specs.Named.{sender_code}
+use Rattle.l4_outlooks.specs.Inner.Named.{sender_code}
 use Rattle.l4_worlds.specs.Bare.{bare, bare_thread, forgotten, in_order}
 
 -- A thread that is found at a place

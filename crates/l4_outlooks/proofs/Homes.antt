@@ -5,7 +5,7 @@ use Rattle.std.specs.List.{AllByRecursion}
 use Rattle.l4_model.specs.Machine.{Machine, Declaration}
 use Rattle.l4_core_model.specs.Local.{undeclared}
 use Rattle.l4_core_model.specs.Runs.{IsMachine}
-use Rattle.l4_worlds.specs.Room.{HaveProcessors}
+use Rattle.l4_worlds.specs.Inner.Room.{HaveProcessors}
 
 pub homes : (m : Machine) → IsMachine m → HaveProcessors m
 homes m h = by m.threads h.homed

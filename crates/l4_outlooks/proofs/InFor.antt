@@ -15,7 +15,7 @@ use Rattle.l4_core_model.specs.Runs.{IsMachine}
 use Rattle.l4_worlds.specs.Late.{next_late}
 use Rattle.l4_worlds.proofs.Taken.{late_send_timeout, late_receive_timeout}
 use Rattle.l4_futures.specs.Choices.{in_order, coming_name, last_name, delivery, order_step, step_of}
-use Rattle.l4_outlooks.specs.Named.{in_for}
+use Rattle.l4_outlooks.specs.Inner.Named.{in_for}
 
 -- Where this step is possible, this is so.
 abbrev NeedsIt : Machine → World → Option Step → Bool → Type 0

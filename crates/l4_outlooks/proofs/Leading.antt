@@ -18,10 +18,10 @@ use Rattle.l4_worlds.specs.Histories.{IsTimed}
 use Rattle.l4_worlds.proofs.LateWorlds.{late_facts}
 use Rattle.l4_worlds.proofs.Taken.{late_send_timeout}
 use Rattle.l4_futures.specs.Choices.{step_at, after_entry, after_entries}
-use Rattle.l4_audit.specs.Audited.{Audited, IsPlaced}
+use Rattle.l4_audit.specs.Inner.Audited.{Audited, IsPlaced}
 use Rattle.l4_audit.specs.Possible.{is_number, has_number}
 use Rattle.l4_audit.proofs.Placing.{Placed, opening_placed, placed_at, late_placed}
-use Rattle.l4_outlooks.specs.Foreseen.{Foreseen, IsLed, IsBehind, IsForeseen}
+use Rattle.l4_outlooks.specs.Inner.Foreseen.{Foreseen, IsLed, IsBehind, IsForeseen}
 use Rattle.l4_outlooks.proofs.Counting.{AreCounted, step_counted, opening_counted, counted_at}
 
 pub record Knows (m : Machine) (w : World) (n : ℕ) : Type 0 where

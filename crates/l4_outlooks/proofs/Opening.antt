@@ -11,7 +11,7 @@ use Rattle.l4_worlds.specs.Late.{next_late}
 use Rattle.l4_futures.specs.Choices.{after_entry, retarget_of, step_at, step_of}
 use Rattle.l4_audit.specs.Possible.{has_number}
 use Rattle.l4_core_model.specs.Runs.{IsMachine}
-use Rattle.l4_outlooks.specs.Named.{if_told, in_for, named_step, open_step, own_step}
+use Rattle.l4_outlooks.specs.Inner.Named.{if_told, in_for, named_step, open_step, own_step}
 use Rattle.l4_outlooks.proofs.Counting.{AreCounted}
 use Rattle.l4_outlooks.proofs.InFor.{is_in_for}
 use Rattle.l4_outlooks.proofs.Leading.{numbered}

@@ -12,8 +12,8 @@ use Rattle.l4_model.proofs.Chains.{bind_then, guard_then, some_is, get-map}
 use Rattle.l4_worlds.specs.Late.{next_late}
 use Rattle.l4_first.specs.First.{stands_alone}
 use Rattle.l4_futures.specs.Choices.{in_order, coming_name, last_name, delivery, order_step, step_of, step_at, retarget_of}
-use Rattle.l4_outlooks.specs.Named.{open_step}
-use Rattle.l4_outlooks.specs.Standing.{spared_of, left_alone, stands_by}
+use Rattle.l4_outlooks.specs.Inner.Named.{open_step}
+use Rattle.l4_outlooks.specs.Inner.Standing.{spared_of, left_alone, stands_by}
 use Rattle.l4_outlooks.specs.declared.alone.Spared.{Spared}
 
 -- What may be said of a step, where there is one

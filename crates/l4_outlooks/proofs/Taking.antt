@@ -3,10 +3,10 @@ use Rattle.std.proofs.Common.{subst, ◌≡◌, ℕ, ◌+◌, ◌<◌, Bool, tru
 use Rattle.std.specs.Prelude.{is_some}
 use Rattle.l4_model.specs.Steps.{Step}
 use Rattle.l4_worlds.specs.Late.{next_late}
-use Rattle.l4_audit.specs.Audited.{Audited}
-use Rattle.l4_audit.specs.Taking.{IsTakenLate, JudgedLate}
-use Rattle.l4_outlooks.specs.Foreseen.{IsForeseen}
-use Rattle.l4_outlooks.specs.Named.{open_step}
+use Rattle.l4_audit.specs.Inner.Audited.{Audited}
+use Rattle.l4_audit.specs.Inner.Taking.{IsTakenLate, JudgedLate}
+use Rattle.l4_outlooks.specs.Inner.Foreseen.{IsForeseen}
+use Rattle.l4_outlooks.specs.Inner.Named.{open_step}
 use Rattle.l4_outlooks.proofs.Leading.{one_behind}
 use Rattle.l4_outlooks.proofs.Opening.{goes, leads}
 

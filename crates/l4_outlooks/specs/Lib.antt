@@ -1,4 +1,1 @@
-pub mod Touches
-pub mod Standing
-pub mod Foreseen
-pub mod Named
+pub mod Inner

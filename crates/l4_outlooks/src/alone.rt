@@ -2,7 +2,7 @@
 ghost use Rattle.std.specs.Prelude.{◌≡◌, IfOk, slice_get};
 ghost use Rattle.l4_first.specs.First.{is_deletable, is_undisturbed};
 ghost use Rattle.l4_types.specs.StepView.{seen};
-ghost use Rattle.l4_outlooks.specs.Standing.{left_alone, spared_of, stands_by};
+ghost use Rattle.l4_outlooks.specs.Inner.Standing.{left_alone, spared_of, stands_by};
 
 use crate::scripts::{Touch, is_touched, may_turn};
 use l4_script::machine::Machine;

@@ -1,14 +1,15 @@
 //! The code of a world.
-ghost use Rattle.std.specs.Prelude.{◌≡◌, ◌<◌, Some, IfOk, OnOk, length, map, slice_get, slice_index_or};
+ghost use Rattle.std.specs.Prelude.{◌≡◌, ◌<◌, Some, IfOk, OnOk, length, map, slice_get};
+ghost use Rattle.std.specs.Prelude.{slice_index_or};
 ghost use Rattle.std.specs.Option.{option_map};
 ghost use Rattle.l4_model.specs.World.{is_deleted, is_in, list_at, opening_thread};
-ghost use Rattle.l4_states.specs.Bytes.{bytes_of};
-ghost use Rattle.l4_states.specs.Codes.{chained, number_code, owed_code, sized, thread_code};
-ghost use Rattle.l4_codes.specs.Written.{Writes};
+ghost use Rattle.l4_states.specs.Inner.Bytes.{bytes_of};
+ghost use Rattle.l4_states.specs.Inner.Codes.{chained, number_code, owed_code, sized, thread_code};
+ghost use Rattle.l4_codes.specs.Inner.Written.{Writes};
 ghost use Rattle.l4_worlds.specs.Bare.{bare, bare_thread, in_order};
-ghost use Rattle.l4_futures.specs.Codes.{code_of};
-ghost use Rattle.l4_types.specs.OwedView.{owed_of};
-ghost use Rattle.l4_outlooks.specs.Named.{sender_code};
+ghost use Rattle.l4_futures.specs.Inner.Codes.{code_of};
+ghost use Rattle.l4_types.specs.Inner.OwedView.{owed_of};
+ghost use Rattle.l4_outlooks.specs.Inner.Named.{sender_code};
 
 use l4_audit::world::World;
 use l4_codes::code::Code;

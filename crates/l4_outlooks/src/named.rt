@@ -6,7 +6,7 @@ ghost use Rattle.l4_model.specs.Steps.{order_of};
 ghost use Rattle.l4_types.specs.StepView.{seen};
 ghost use Rattle.l4_audit.specs.Possible.{coming_name, last_name};
 ghost use Rattle.l4_futures.specs.Choices.{kinds, order_step, step_of};
-ghost use Rattle.l4_outlooks.specs.Named.{if_told, in_for, named_step};
+ghost use Rattle.l4_outlooks.specs.Inner.Named.{if_told, in_for, named_step};
 
 use l4_audit::found::Found;
 use l4_audit::world::World;

@@ -1,15 +1,16 @@
 //! The world that entries lead to.
-ghost use Rattle.std.specs.Prelude.{◌≡◌, ◌+◌, ◌^◌, ◌<◌, ◌++◌, ◌∷◌, [], IfOk, IsSome, List, OnErr, OnOk, ℕ, map};
+ghost use Rattle.std.specs.Prelude.{◌≡◌, ◌+◌, ◌^◌, ◌<◌, ◌++◌, ◌∷◌, [], IfOk, IsSome, List, OnErr};
+ghost use Rattle.std.specs.Prelude.{OnOk, ℕ, map};
 ghost use Rattle.std.specs.Option.{option_map};
 ghost use Rattle.l4_model.specs.Machine.{Machine};
 ghost use Rattle.l4_types.specs.StepView.{seen, step_of};
-ghost use Rattle.l4_states.specs.Bytes.{bytes_of};
+ghost use Rattle.l4_states.specs.Inner.Bytes.{bytes_of};
 ghost use Rattle.l4_futures.specs.Choices.{after_entry, entry_count, tried};
-ghost use Rattle.l4_futures.specs.Codes.{code_of};
-ghost use Rattle.l4_futures.specs.Ends.{is_end};
-ghost use Rattle.l4_outlooks.specs.Foreseen.{Foreseen, IsBehind, IsLed, opens};
-ghost use Rattle.l4_outlooks.specs.Named.{open_step};
-ghost use Rattle.l4_outlooks.specs.Standing.{left_alone};
+ghost use Rattle.l4_futures.specs.Inner.Codes.{code_of};
+ghost use Rattle.l4_futures.specs.Inner.Ends.{is_end};
+ghost use Rattle.l4_outlooks.specs.Inner.Foreseen.{Foreseen, IsBehind, IsLed, opens};
+ghost use Rattle.l4_outlooks.specs.Inner.Named.{open_step};
+ghost use Rattle.l4_outlooks.specs.Inner.Standing.{left_alone};
 
 mod looks;
 
@@ -35,7 +36,7 @@ pub struct Outlook<'m> {
 }
 
 impl<'m> Model for Outlook<'m> {
-    ghost use Rattle.l4_outlooks.specs.Foreseen.{Foreseen, IsForeseen};
+    ghost use Rattle.l4_outlooks.specs.Inner.Foreseen.{Foreseen, IsForeseen};
 
     ghost Value = { Foreseen };
 

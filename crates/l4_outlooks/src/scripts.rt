@@ -3,11 +3,13 @@ ghost use Rattle.std.specs.Prelude.{◌≡◌, map};
 ghost use Rattle.std.specs.List.{list_any};
 ghost use Rattle.l4_model.specs.Conditions.{is_zero};
 ghost use Rattle.l4_model.specs.Words.{is_id_of};
-ghost use Rattle.l4_types.specs.PeriodView.{period_of};
+ghost use Rattle.l4_types.specs.Inner.PeriodView.{period_of};
 ghost use Rattle.l4_types.specs.StepView.{order_kind_of};
-ghost use Rattle.l4_script.specs.Scripts.{instr_of, to_of};
-ghost use Rattle.l4_first.specs.First.{is_delete, instruction_deletes, instruction_concerns, instruction_tries, may_ask, may_name, may_turn, is_among_others};
-ghost use Rattle.l4_outlooks.specs.Touches.{touches, script_asks};
+ghost use Rattle.l4_script.specs.Inner.Scripts.{instr_of, to_of};
+ghost use Rattle.l4_first.specs.First.{is_delete, instruction_deletes, instruction_concerns};
+ghost use Rattle.l4_first.specs.First.{instruction_tries, tag_asks, may_ask, may_name, may_turn};
+ghost use Rattle.l4_first.specs.First.{is_among_others};
+ghost use Rattle.l4_outlooks.specs.Inner.Touches.{touches, script_asks};
 
 use l4_script::instructions::{Instr, To};
 use l4_script::machine::Machine;
@@ -123,17 +125,23 @@ pub(crate) fn is_touched(machine: &Machine, touch: Touch, id: GlobalId) -> bool
     false
 }
 
+// Whether an instruction writes a tag that asks for propagation.
+fn tag_asks(instr: &Instr) -> bool
+    ensures { result ≡ tag_asks (instr_of instr.now) }
+{
+    match *instr {
+        Instr::Tag(tag) => (tag.raw() / 4096) % 2 == 1,
+        _ => false,
+    }
+}
+
 // Whether an instruction may make a tag that asks for propagation.
 fn may_ask(instr: &Instr) -> bool
     ensures { result ≡ may_ask (instr_of instr.now) }
 {
-    match *instr {
-        Instr::Tag(tag) => (tag.raw() / 4096) % 2 == 1,
-        Instr::Set(register, _) | Instr::Add(register, _) | Instr::ShortAdd(register, _) => {
-            register.number() == 0
-        }
-        Instr::Copy(register, _) => register.number() == 0,
-        _ => false,
+    match instr.assigned() {
+        Some(register) => register.number() == 0,
+        None => tag_asks(instr),
     }
 }
 

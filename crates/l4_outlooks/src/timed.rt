@@ -1,7 +1,7 @@
 //! What is known of the times of every machine.
 ghost use Rattle.std.specs.Prelude.{map};
 ghost use Rattle.std.specs.List.{AllByRecursion};
-ghost use Rattle.l4_script.specs.Scripts.{instr_of};
+ghost use Rattle.l4_script.specs.Inner.Scripts.{instr_of};
 ghost use Rattle.l4_worlds.specs.Histories.{IsShortIn, IsTimed};
 
 use l4_script::instructions::Instr;

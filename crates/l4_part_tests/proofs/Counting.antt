@@ -7,11 +7,11 @@ use Rattle.std.specs.Prelude.{IfOk}
 use Rattle.l4_explore.specs.declared.search.Explored.{Explored}
 use Rattle.l4_explore.proofs.Nearing.{all_ends}
 use Rattle.l4_explore.specs.Search.{Seen, IsExplored}
-use Rattle.l4_explore.specs.Ends.{AreAllEnds, AreEnough, AreKept}
-use Rattle.l4_explore.specs.Views.{next_from}
+use Rattle.l4_explore.specs.Inner.Ends.{AreAllEnds, AreEnough, AreKept}
+use Rattle.l4_explore.specs.Inner.Views.{next_from}
 use Rattle.l4_explore.specs.declared.tries.Choice.{Choice}
-use Rattle.l4_part_tests.specs.Coded.{guarded, is_at}
-use Rattle.l4_part_tests.specs.Counters.{after, at, state_after, EndsIn}
+use Rattle.l4_part_tests.specs.Inner.Coded.{guarded, is_at}
+use Rattle.l4_part_tests.specs.Inner.Counters.{after, at, state_after, EndsIn}
 
 passes : (l : ℕ) (o : Option State) → l < 2 → cond (nat_lt l 2) o None ≡ o
 passes l o less = by (nat_lt l 2) refl

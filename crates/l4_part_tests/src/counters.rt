@@ -1,11 +1,11 @@
 // A search that leaves out choices finds all ends. Two counters go up to 2, each by itself. Of nine
 // states it finds five, since the right one waits for the left one.
 ghost use Rattle.std.specs.Prelude.{ℕ, ◌≡◌, ◌+◌, ◌<◌, ◌≤◌, ◌∷◌, [], IfOk, List, Some, map};
-ghost use Rattle.l4_explore.specs.Ends.{AreAllEnds, AreEnough};
+ghost use Rattle.l4_explore.specs.Inner.Ends.{AreAllEnds, AreEnough};
 ghost use Rattle.l4_explore.specs.Search.{seen_at};
-ghost use Rattle.l4_explore.specs.Views.{next_from, state_from};
-ghost use Rattle.l4_part_tests.specs.Coded.{coded};
-ghost use Rattle.l4_part_tests.specs.Counters.{at, state_after, EndsIn};
+ghost use Rattle.l4_explore.specs.Inner.Views.{next_from, state_from};
+ghost use Rattle.l4_part_tests.specs.Inner.Coded.{coded};
+ghost use Rattle.l4_part_tests.specs.Inner.Counters.{at, state_after, EndsIn};
 
 use l4_explore::found::Found;
 use l4_explore::progress::Unheard;

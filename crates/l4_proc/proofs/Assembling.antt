@@ -8,11 +8,11 @@ use Rattle.l4_model.specs.Machine.{Machine}
 use Rattle.l4_core_model.specs.Local.{opening_local}
 use Rattle.l4_merge.specs.LocalTraces.{empty_past, Extends}
 use Rattle.l4_core.specs.Processor as cores
-use Rattle.l4_mail.specs.Fabrics.{HaveRooms, AreFresh}
+use Rattle.l4_mail.specs.Inner.Fabrics.{HaveRooms, AreFresh}
 use Rattle.l4_mail.specs.Ports.{AreOneFabric, place, kept_from, HasWayTo, IsApart}
 use Rattle.l4_mail.specs.declared.ports.Port.{Port}
 use Rattle.l4_proc.specs.declared.processor.Processor.{Processor}
-use Rattle.l4_proc.specs.Assembled.{AreAssembled, IsOpening}
+use Rattle.l4_proc.specs.Inner.Assembled.{AreAssembled, IsOpening}
 use Rattle.l4_proc.specs.Logs.{events}
 use Rattle.l4_proc.specs.Whole.{has_way, IsFreshPort, IsPortOf}
 use Rattle.l4_proc.specs.Working.{past, turns_of}

@@ -7,7 +7,7 @@ use Rattle.std.proofs.Math.Seq.{get_or-append_seam}
 use Rattle.l4_proc.specs.declared.end_rows.End.{End}
 use Rattle.l4_proc.specs.declared.end_rows.Row.{Row}
 use Rattle.l4_proc.specs.declared.end_rows.Row.TheVariants.{Short, Wide}
-use Rattle.l4_proc.specs.EndRows.{HasBases, IsRow, IsShort, end_of, ends_from}
+use Rattle.l4_proc.specs.Inner.EndRows.{HasBases, IsRow, IsShort, end_of, ends_from}
 
 pub as_many_ends : (bases : List ℕ) (wide : List End) (rows : List Row) (i : ℕ) → length (ends_from bases wide rows i) ≡ length rows
 as_many_ends bases wide [] i = refl

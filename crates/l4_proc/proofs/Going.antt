@@ -13,7 +13,7 @@ use Rattle.l4_merge.specs.Transitions.{Transition, Ticked, letters_with}
 use Rattle.l4_merge.specs.LocalTraces.{AreDeedsBetween, empty_past, Extends, HasTurned}
 use Rattle.l4_merge.proofs.Worked.{worked_none, worked_one, worked_trans, turned_none, turned_trans, transitions_of_none, transitions_of_both}
 use Rattle.l4_core.specs.Processor.{Processor as Core}
-use Rattle.l4_core.specs.Turning.{work}
+use Rattle.l4_core.specs.Inner.Turning.{work}
 use Rattle.l4_mail.specs.Ports.{posted_to, place}
 use Rattle.l4_mail.specs.declared.ports.Port.{Port}
 use Rattle.l4_proc.specs.Logs.{all_steps, events, actions, IsClosed}

@@ -13,7 +13,7 @@ use Rattle.l4_merge.proofs.Worked.{IsNext, turned_one, transitions_of_one}
 use Rattle.l4_merge.proofs.Destinations.{letters_go_elsewhere, at_most_two_letters}
 use Rattle.l4_core_model.specs.Letters.{Letter}
 use Rattle.l4_core.specs.Processor as cores
-use Rattle.l4_core.specs.Turning.{work}
+use Rattle.l4_core.specs.Inner.Turning.{work}
 use Rattle.l4_mail.specs.Ends.{RingId}
 use Rattle.l4_mail.specs.Ports.{posted_to, taken_from, kept_from, room_to, place, only, HasWayTo, IsAsBefore}
 use Rattle.l4_mail.specs.declared.ports.Port.{Port}
@@ -23,7 +23,7 @@ use Rattle.l4_proc.specs.declared.processor.Processor.{Processor}
 use Rattle.l4_proc.specs.declared.stops.Stop.{Stop}
 use Rattle.l4_proc.specs.declared.stops.Stop.TheVariants as stop
 use Rattle.l4_proc.specs.Choices.{action_in}
-use Rattle.l4_proc.specs.Events.{event_in_hand, HasPostedAll, IsRefused}
+use Rattle.l4_proc.specs.Inner.Events.{event_in_hand, HasPostedAll, IsRefused}
 use Rattle.l4_proc.specs.Logs.{all_steps, events, actions, HasBegun, HasEnded, HasLetters, IsSameLog}
 use Rattle.l4_proc.specs.Whole.{hand_from, handled_from, has_way, IsInHand, IsPortOf, IsWhole}
 use Rattle.l4_proc.specs.Working.{past, BeginWithMail, HasDone, HasTaken, HasTakenTurn, IsMailFirst, IsReady, IsSameWorker, IsStopped, IsUnready}

@@ -1,8 +1,6 @@
-pub mod Assembled
 pub mod Choices
-pub mod EndRows
 pub mod Ends
-pub mod Events
+pub mod Inner
 pub mod Logs
 pub mod Rests
 pub mod Whole

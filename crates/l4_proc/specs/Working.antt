@@ -6,11 +6,11 @@ use Rattle.l4_core_model.specs.Runs.{Ticks}
 use Rattle.l4_merge.specs.Transitions.{Transition, Handled, Turned, action_of, work_of}
 use Rattle.l4_merge.specs.LocalTraces as pasts
 use Rattle.l4_merge.specs.LocalTraces.{LocalTrace, Extends, HasTurned}
-use Rattle.l4_core.specs.Turning.{IsEvent}
+use Rattle.l4_core.specs.Inner.Turning.{IsEvent}
 use Rattle.l4_core_model.specs.Letters.{Letter}
 use Rattle.l4_mail.specs.declared.ports.Port.{Port}
 use Rattle.l4_mail.specs.Ports.{posted_to, taken_from, kept_from, room_to, place, HasWayTo}
-use Rattle.l4_proc.specs.Events.{event_in_hand, HasPostedAll, IsRefused}
+use Rattle.l4_proc.specs.Inner.Events.{event_in_hand, HasPostedAll, IsRefused}
 use Rattle.l4_proc.specs.Choices.{action_in}
 use Rattle.l4_proc.specs.Logs.{events, actions, HasBegun, HasEnded, HasLetters, IsSameLog}
 use Rattle.l4_proc.specs.Whole.{handled_from, past_with}

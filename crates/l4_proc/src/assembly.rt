@@ -1,7 +1,7 @@
 //! The processors of a machine, before they begin.
 ghost use Rattle.std.specs.Prelude.{◌≡◌, ◌<◌, ◌≤◌, IfOk};
-ghost use Rattle.l4_mail.specs.Fabrics.{most_room};
-ghost use Rattle.l4_proc.specs.Assembled.{AreAssembled};
+ghost use Rattle.l4_mail.specs.Inner.Fabrics.{most_room};
+ghost use Rattle.l4_proc.specs.Inner.Assembled.{AreAssembled};
 
 use crate::processor::Processor;
 use l4_core::processor::Core;

@@ -1,6 +1,6 @@
 //! The ends of the events of a log, most of them in 8 bytes.
 ghost use Rattle.std.specs.Prelude.{◌≡◌, ◌≤◌, ◌^◌, IfSome};
-ghost use Rattle.l4_proc.specs.EndRows.{IsShort};
+ghost use Rattle.l4_proc.specs.Inner.EndRows.{IsShort};
 
 use l4_types::errors::NoMemory;
 use std::alloc::Global;
@@ -72,7 +72,7 @@ pub(crate) struct Ends {
 impl Model for Ends {
     ghost use Rattle.std.specs.Prelude.{◌+◌, ◌^◌, ◌≤◌, All, length, vec_len};
     ghost use Rattle.std.specs.Vec.{vec_capacity};
-    ghost use Rattle.l4_proc.specs.EndRows.{HasBases, IsRow, ToldEnds, ends_from};
+    ghost use Rattle.l4_proc.specs.Inner.EndRows.{HasBases, IsRow, ToldEnds, ends_from};
 
     ghost Value = { ToldEnds };
 

@@ -4,7 +4,7 @@ ghost use Rattle.std.specs.Prelude.{OnErr};
 ghost use Rattle.l4_core_model.specs.Mail.{handle};
 ghost use Rattle.l4_core_model.specs.Turns.{can_stamp, turn};
 ghost use Rattle.l4_core.specs.EventBuffers.{IsOpen};
-ghost use Rattle.l4_core.specs.Turning.{IsEvent};
+ghost use Rattle.l4_core.specs.Inner.Turning.{IsEvent};
 
 use crate::choice::{CORE, letter_number, tick_number};
 use crate::log::Log;
@@ -110,10 +110,10 @@ impl<'m> Worker<'m> {
     ghost use Rattle.l4_core_model.specs.Runs.{IsMachine};
     ghost use Rattle.l4_core_model.specs.Turns.{advance, can_stamp};
     ghost use Rattle.l4_core.specs.EventBuffers.{IsOpen};
-    ghost use Rattle.l4_core.specs.Turning.{IsEvent};
+    ghost use Rattle.l4_core.specs.Inner.Turning.{IsEvent};
     ghost use Rattle.l4_merge.specs.Transitions.{action_of};
     ghost use Rattle.l4_proc.specs.Choices.{action_in};
-    ghost use Rattle.l4_proc.specs.Events.{event_in_hand, IsRefused};
+    ghost use Rattle.l4_proc.specs.Inner.Events.{event_in_hand, IsRefused};
     ghost use Rattle.l4_proc.specs.Logs.{all_steps, HasBegun, HasLetters, IsSameLog};
     ghost use Rattle.l4_proc.specs.Working.{HasDone, HasTakenTurn, HasTickedTo, IsSameWorker};
     ghost use Rattle.l4_proc.specs.Working.{with_in_hand};

@@ -4,6 +4,7 @@ use Rattle.std.specs.Prelude.{◌||◌, is_some, slice_index_or}
 use Rattle.std.specs.List.{list_any}
 use Rattle.std.specs.Option.{option_map}
 use Rattle.std.proofs.lemmas.Bool.{and_parts}
+use Rattle.std.proofs.Math.ListN.{get_or-map}
 use Rattle.l4_model.specs.Machine.{Machine}
 use Rattle.l4_model.specs.World.{Phase, Ready, Sending, Receiving, Ordering, Ended, Deleted, Send, Thread, World, opening_thread, receive_now}
 use Rattle.l4_model.specs.History.{reached}
@@ -12,13 +13,12 @@ use Rattle.l4_model.proofs.Worlds.{reached_facts}
 use Rattle.l4_core_model.specs.Laws.{IsCoreRun}
 use Rattle.l4_core_model.specs.Local.{Local}
 use Rattle.l4_core_model.specs.Runs.{IsMachine, Posted, Run, System, at_rest, is_empty, told}
-use Rattle.l4_similar.proofs.Threads.{at_map}
-use Rattle.l4_shifted.specs.Shifted.{IsShifted, relative_thread, timeless_phase, timeless_send}
-use Rattle.l4_shifted.proofs.OfSystems.{are_bare, bare_local}
-use Rattle.l4_split.proofs.Law.{RunFacts, run_facts}
-use Rattle.l4_split.proofs.Relation.Rows.{Agrees, AgreesIn, learned}
-use Rattle.l4_split.proofs.Relation.Views.{home, is_about, kept, locators, nowhere, scene}
-use Rattle.l4_in_common.specs.InCommon.{thread_at}
+use Rattle.l4_bisimilar.specs.Shifted.{IsShifted, relative_thread, timeless_phase, timeless_send}
+use Rattle.l4_bisimilar.proofs.Times.{are_bare, bare_local}
+use Rattle.l4_refines.proofs.Law.{RunFacts, run_facts}
+use Rattle.l4_refines.proofs.Relation.Rows.{Agrees, AgreesIn, learned}
+use Rattle.l4_refines.proofs.Relation.Views.{home, is_about, kept, locators, nowhere}
+use Rattle.l4_bisimilar.specs.InCommon.{thread_at}
 use Rattle.l4_futures.specs.Stuck.{is_closed, is_stuck_thread, is_stuck_world}
 
 -- A thread of the world is stuck as the one at home with which it agrees.
@@ -93,10 +93,10 @@ same_at_home m g h place similar =
     = λ k. (slice_index_or k.locals (home m place) nowhere).threads in
     sym (stuck_timeless (at_home m g place))
     ∙ ap is_stuck_thread
-    (sym (at_map relative_thread (at g) place opening_thread)
+    (sym (get_or-map relative_thread (at g) place opening_thread)
     ∙ ap (λ (ts : List Thread). slice_index_or ts place opening_thread)
     (home_like g.locals h.locals (home m place) (are_bare g h similar).locals)
-    ∙ at_map relative_thread (at h) place opening_thread)
+    ∙ get_or-map relative_thread (at h) place opening_thread)
     ∙ stuck_timeless (at_home m h place)
 
 any_alike : (ts us : List Thread) → length ts ≡ length us → ((i : ℕ) → i < length ts →

@@ -15,7 +15,7 @@ use Rattle.l4_common_lines.proofs.Lines.{lines_in_common}
 use Rattle.l4_expect.specs.Expected.{Expected}
 use Rattle.l4_expect.specs.Unmet.{are_met}
 use Rattle.l4_futures.specs.Stuck.{is_stuck_world}
-use Rattle.l4_in_common.specs.InCommon.{HaveInCommon}
+use Rattle.l4_bisimilar.specs.InCommon.{HaveInCommon}
 use Rattle.l4_lines.specs.Lines.{line_fault}
 use Rattle.l4_lines.specs.declared.lines.LineFault.{LineFault}
 use Rattle.l4_types.specs.declared.reports.Ending.TheVariants.{Quiet}

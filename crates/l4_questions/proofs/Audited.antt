@@ -1,6 +1,6 @@
 -- What an audit tells of the world that a trace comes to.
-use Rattle.std.proofs.Common.{◌≡◌, ℕ, ◌≤◌, Bool, true, false, Option, Some, None, Result, Ok, Err, List, [], ◌∷◌, ◌++◌, length, map, refl, ap, ap₂, sym, ◌∙◌, arith, take, subst}
-use Rattle.std.specs.Prelude.{◌||◌, OnOk, codes, decimal, is_some, filter_map, option_map, zip}
+use Rattle.std.proofs.Common.{◌≡◌, ℕ, ◌≤◌, Bool, true, false, Option, Some, None, List, [], ◌∷◌, length, map, refl, ap, ap₂, sym, ◌∙◌, arith, subst}
+use Rattle.std.specs.Prelude.{◌||◌, is_some, filter_map, option_map, zip}
 use Rattle.std.specs.List.{cons_option, list_any}
 use Rattle.std.proofs.lemmas.List.{length-map, take_all}
 use Rattle.l4_model.specs.Words.{GlobalId, Id}
@@ -8,21 +8,19 @@ use Rattle.l4_model.specs.Conditions.{found_by}
 use Rattle.l4_model.specs.Machine.{Declaration, Machine}
 use Rattle.l4_model.specs.World.{Receive, Send, Thread, World, receive_now}
 use Rattle.l4_model.specs.Steps.{Step}
-use Rattle.l4_model.specs.History.{IsFirstFault, IsHistory, reached, view}
+use Rattle.l4_model.specs.History.{IsFirstFault, IsHistory, view}
 use Rattle.l4_model.proofs.Worlds.{reached_facts}
-use Rattle.l4_audit.specs.Auditing.{Auditing, waiting_send}
+use Rattle.l4_audit.specs.Inner.Auditing.{Auditing, waiting_send}
 use Rattle.l4_audit.specs.Audits.{IsReached}
 use Rattle.l4_audit.specs.Waits.{is_expected, send_wait, wait_in, waiting_thread, waits_in}
 use Rattle.l4_audit.specs.declared.waits.Wait.{Wait}
 use Rattle.l4_audit.proofs.Auditing.{waiting_begun}
-use Rattle.l4_futures.specs.Endings.{length_of}
 use Rattle.l4_futures.specs.Stuck.{is_closed, is_stuck_thread, is_stuck_world}
 use Rattle.l4_reports.specs.ReportLines.{report_text}
 use Rattle.l4_types.specs.declared.reports.Ending.TheVariants.{Quiet}
 use Rattle.l4_waits.specs.Lines.{waits_text}
 use Rattle.l4_questions.specs.Answers.{ending_after, report_in}
-use Rattle.l4_questions.specs.Endings.{Ending}
-use Rattle.l4_questions.specs.Found.{is_stuck_wait, report_by}
+use Rattle.l4_questions.specs.Inner.Found.{is_stuck_wait, report_by}
 
 -- A thread that waits for ever is one of those that wait.
 
@@ -83,6 +81,8 @@ pub found_is : (m : Machine) (h : List Step) (a : Auditing) (head report : List 
       head = head;
       report = report;
       waits = waits_text a.at.machine a.at.world;
+      machine = m;
+      trace = h;
       is_stuck = stuck;
     } ≡ record (ending_after m h) { head = head }
 found_is m h a head report stuck waits is told found any =

@@ -4,11 +4,11 @@ use Rattle.std.specs.Prelude.{Vec}
 use Rattle.std.specs.List.{AllByRecursion}
 use Rattle.l4_model.specs.Machine.{Machine}
 use Rattle.l4_all_endings.specs.Tried.{schedules_from, AreLed}
-use Rattle.l4_endings.specs.Tried.{told}
+use Rattle.l4_endings.specs.Inner.Tried.{told}
 use Rattle.l4_machine.specs.declared.entries.Entry as code
 use Rattle.l4_questions.specs.Answers.{endings_after, last_lines, traces_along}
 use Rattle.l4_questions.specs.Endings.{Ending}
-use Rattle.l4_questions.specs.Found.{led_ending, placed_by, IsLed, IsReplayed}
+use Rattle.l4_questions.specs.Inner.Found.{led_ending, placed_by, IsLed, IsReplayed}
 use Rattle.l4_questions.specs.Placed.{placed_endings}
 
 pub endings_are : (m : Machine) (endings : List (Vec ℕ Global)) →

@@ -1,6 +1,6 @@
 -- A listed ending stands for each one that a history comes to, and for each core run that comes to
 -- rest.
-use Rattle.std.proofs.Common.{◌≡◌, ℕ, zero, suc, ◌<◌, Bool, true, false, cond, Some, List, [], ◌∷◌, length, map, refl, ap, sym, subst, ◌∙◌, arith}
+use Rattle.std.proofs.Common.{◌≡◌, ℕ, zero, suc, ◌<◌, Bool, true, false, cond, Some, List, [], ◌∷◌, length, refl, ap, sym, subst, arith}
 use Rattle.std.specs.Prelude.{filter, slice_get}
 use Rattle.std.specs.List.{AllByRecursion}
 use Rattle.std.proofs.lemmas.Option.{slice_get-get_or}
@@ -10,11 +10,11 @@ use Rattle.l4_model.specs.Steps.{Step}
 use Rattle.l4_model.proofs.Chains.{get-map}
 use Rattle.l4_core_model.specs.Laws.{IsCoreRun}
 use Rattle.l4_core_model.specs.Runs.{IsMachine, Run, told}
-use Rattle.l4_choices.specs.Entries.{Entry, replay_entries}
+use Rattle.l4_core_model.specs.Schedules.{Entry, replay_entries}
 use Rattle.l4_common_lines.proofs.AsGood.{in_common as as_good_in_common}
 use Rattle.l4_common_lines.proofs.Sends.{common_back}
-use Rattle.l4_in_common.proofs.InCommon.{in_common}
-use Rattle.l4_split.proofs.Law.{run_facts}
+use Rattle.l4_bisimilar.proofs.InCommon.{in_common}
+use Rattle.l4_refines.proofs.Law.{run_facts}
 use Rattle.l4_states.specs.Endings.{AreAllEndings, IsAmong, IsEnding, ending_at}
 use Rattle.l4_futures.specs.Endings.{AreAllEndings as AreAllWorldEndings, IsEnding as IsWorldEnding}
 use Rattle.l4_futures.proofs.Stuck.{stuck_same}

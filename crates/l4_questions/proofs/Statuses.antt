@@ -1,5 +1,5 @@
 -- What status 0 says, and what it says that nothing is told of what is not met.
-use Rattle.std.proofs.Common.{◌≡◌, ℕ, zero, suc, ◌+◌, Bool, true, false, Option, None, Some, List, [], ◌∷◌, ◌++◌, length, refl, ap, sym, subst, ◌∙◌, arith}
+use Rattle.std.proofs.Common.{◌≡◌, ℕ, zero, suc, ◌+◌, Bool, true, false, Option, None, Some, List, [], ◌∷◌, ◌++◌, length, refl, ap, sym, ◌∙◌, arith}
 use Rattle.std.specs.Prelude.{◌==◌, ◌&&◌, if◌then◌else◌}
 use Rattle.std.specs.List.{list_all}
 use Rattle.std.proofs.lemmas.Bool.Decides.{nat_tests}
@@ -13,6 +13,7 @@ use Rattle.l4_questions.specs.Stuck.{is_any, stuck_status}
 use Rattle.l4_questions.specs.declared.question.Question.{Question}
 use Rattle.l4_questions.specs.declared.question.Wanted.{Wanted}
 use Rattle.l4_questions.specs.declared.question.Wanted.TheVariants.{AnEnding, NoEnding, Whatever}
+use Rattle.l4_questions.specs.declared.beside.Shown.{Shown}
 use Rattle.l4_model.specs.Machine.{Machine}
 
 none : (met : Bool) (asked : List Ending) (is_whole : Bool) →
@@ -73,8 +74,8 @@ without Whatever is_any false zero is = refl
 without Whatever is_any false (suc status) is = is
 without AnEnding is_any is_whole status is = is
 
-pub status_told : {m : Machine} {q : Question} {waits : Bool} {expected : Option (List Expected)}
-    {lines unmet : List ℕ} → (a : IsAnswer m q waits expected lines unmet 0) →
+pub status_told : {m : Machine} {q : Question} {shown : Shown} {expected : Option (List Expected)}
+    {lines unmet : List ℕ} → (a : IsAnswer m q shown expected lines unmet 0) →
     0 ≡ answer_status expected q (endings_after m a.traces) a.is_whole
 status_told {m} {q} a =
     without q.wanted (is_any a.stuck) a.is_stuck_whole a.told_status a.status_is

@@ -1,29 +1,30 @@
 -- What is written of one ending more.
-use Rattle.std.proofs.Common.{◌≡◌, ℕ, ◌+◌, Bool, true, false, cond, Option, List, [], ◌∷◌, ◌++◌, length, refl, ap, ap₂, sym, ◌∙◌, arith, append-nil, append_assoc}
+use Rattle.std.proofs.Common.{◌≡◌, ℕ, ◌+◌, Bool, true, false, cond, Option, List, [], ◌∷◌, ◌++◌, length, ap, ap₂, sym, ◌∙◌, arith, append-nil, append_assoc}
 use Rattle.std.specs.Prelude.{◌==◌}
 use Rattle.l4_expect.specs.Expected.{Expected}
 use Rattle.l4_expect.specs.Unmet.{expected_status}
 use Rattle.l4_questions.specs.Asked.{asked_of, is_asked}
 use Rattle.l4_questions.specs.Endings.{Ending}
 use Rattle.l4_questions.specs.Printed.{ending_text, numbered_text, status_of_asked, unmet_of, IsTold}
-use Rattle.l4_questions.specs.Writing.{AreWritten}
+use Rattle.l4_questions.specs.Inner.Writing.{AreWritten}
 use Rattle.l4_questions.specs.declared.judged.Written.{Written}
 use Rattle.l4_questions.specs.declared.question.Question.{Question}
+use Rattle.l4_questions.specs.declared.beside.Shown.{Shown}
 use Rattle.l4_questions.proofs.Statuses.{none_told}
 
-module _ (q : Question) (waits : Bool) (expected : Option (List Expected)) (all : List Ending) where
+module _ (q : Question) (shown : Shown) (expected : Option (List Expected)) (all : List Ending) where
   -- The next ending is asked for or not.
   asked_next : (e : Ending) (left : List Ending) (b : Bool) → is_asked q e ≡ b →
       asked_of q (e ∷ left) ≡ cond b (e ∷ asked_of q left) (asked_of q left)
   asked_next e left b = ap (λ (b : Bool). cond b (e ∷ asked_of q left) (asked_of q left))
 
   pub passed : (e : Ending) (left : List Ending) (w : Written) → is_asked q e ≡ false →
-      AreWritten q waits expected all (e ∷ left) w → AreWritten q waits expected all left w
+      AreWritten q shown expected all (e ∷ left) w → AreWritten q shown expected all left w
   passed e left w not had =
       let same = sym (asked_next e left false not) in
       record {
         lines =
-            ap (λ es. w.lines.items ++ numbered_text (ending_text waits) (w.count + 1) es) same
+            ap (λ es. w.lines.items ++ numbered_text (ending_text shown) (w.count + 1) es) same
             ∙ had.lines;
         unmet =
             ap (λ es. w.unmet.items ++ numbered_text (unmet_of expected) (w.count + 1) es) same
@@ -32,14 +33,14 @@ module _ (q : Question) (waits : Bool) (expected : Option (List Expected)) (all 
       }
 
   pub written : (e : Ending) (left : List Ending) (old new : Written) → is_asked q e ≡ true →
-      new.lines.items ≡ old.lines.items ++ ending_text waits (old.count + 1) e →
+      new.lines.items ≡ old.lines.items ++ ending_text shown (old.count + 1) e →
       new.unmet.items ≡ old.unmet.items ++ unmet_of expected (old.count + 1) e →
-      new.count ≡ old.count + 1 → AreWritten q waits expected all (e ∷ left) old →
-      AreWritten q waits expected all left new
+      new.count ≡ old.count + 1 → AreWritten q shown expected all (e ∷ left) old →
+      AreWritten q shown expected all left new
   written e left old new asked lines unmet next had =
       let more = asked_next e left true asked in
       record {
-        lines = on (ending_text waits) old.lines.items new.lines.items lines ∙ had.lines;
+        lines = on (ending_text shown) old.lines.items new.lines.items lines ∙ had.lines;
         unmet = on (unmet_of expected) old.unmet.items new.unmet.items unmet ∙ had.unmet;
         count = omega (arith, next, ap length more, had.count);
       }
@@ -58,10 +59,10 @@ module _ (q : Question) (waits : Bool) (expected : Option (List Expected)) (all 
 
   -- What was written of all endings is the answer, with what the search says of itself.
   pub finished : (w : Written) (last lines unmet : List ℕ) (is_whole : Bool) (asked status : ℕ) →
-      AreWritten q waits expected all [] w → lines ≡ w.lines.items ++ last →
+      AreWritten q shown expected all [] w → lines ≡ w.lines.items ++ last →
       unmet ≡ w.unmet.items → asked ≡ status_of_asked q.wanted (asked_of q all) is_whole →
       status ≡ expected_status (length unmet == 0) asked →
-      IsTold q waits expected all last is_whole lines unmet status
+      IsTold q shown expected all last is_whole lines unmet status
   finished w last lines unmet is_whole asked status had text same by is =
       let told = same ∙ sym (append-nil w.unmet.items) ∙ had.unmet in
       record {

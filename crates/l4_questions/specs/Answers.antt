@@ -23,6 +23,7 @@ use Rattle.l4_questions.specs.Printed.{IsTold}
 use Rattle.l4_questions.specs.Stuck.{is_any, stuck_lines, stuck_status, stuck_traces, AreAskedStuck}
 use Rattle.l4_stuck.specs.Stuck.{Stuck}
 use Rattle.l4_questions.specs.declared.question.Question.{Question}
+use Rattle.l4_questions.specs.declared.beside.Shown.{Shown}
 
 -- The histories that entries stand for.
 abbrev pub traces_along : Machine → List (Vec ℕ Global) → List (List Step)
@@ -39,14 +40,23 @@ ending_in m trace w = record {
   head = codes " steps " ++ decimal (length_of trace);
   report = report_in m trace w;
   waits = waits_text m w;
+  machine = m;
+  trace = trace;
   is_stuck = is_stuck_world w;
 }
 
-abbrev pub no_ending : Ending
-no_ending = record { head = []; report = []; waits = []; is_stuck = false }
+abbrev pub no_ending : Machine → (trace : List Step) → Ending
+no_ending m trace = record {
+  head = [];
+  report = [];
+  waits = [];
+  machine = m;
+  trace = trace;
+  is_stuck = false;
+}
 
 abbrev pub ending_or_none : Machine → (trace : List Step) → Option World → Ending
-ending_or_none m trace None = no_ending
+ending_or_none m trace None = no_ending m trace
 ending_or_none m trace (Some w) = ending_in m trace w
 
 abbrev pub ending_after : Machine → (trace : List Step) → Ending
@@ -90,9 +100,9 @@ pub record AreFound (m : Machine) (q : Question) (traces : List (List Step)) (wo
   pub looked : HasLooked m q.depth q.states worlds depth is_whole
 
 -- These lines and this status are the answer: those of all endings that the question asks for, and of
--- the threads that may get stuck for ever. It may also ask who waits for whom, and expect something of
--- each ending.
-pub record IsAnswer (m : Machine) (q : Question) (waits : Bool)
+-- the threads that may get stuck for ever. It may also ask for a chart of the history that leads to each
+-- ending, and who waits for whom there, and expect something of each ending.
+pub record IsAnswer (m : Machine) (q : Question) (shown : Shown)
     (expected : Option (List Expected)) (lines unmet : List ℕ) (status : ℕ) : Type 0 where
   pub lawful : question_fault q ≡ None
   pub traces : List (List Step)
@@ -105,7 +115,7 @@ pub record IsAnswer (m : Machine) (q : Question) (waits : Bool)
   pub stuck_are : AreAskedStuck m q stuck is_stuck_whole
   pub told_status : ℕ
   pub told :
-      IsTold q waits expected (endings_after m traces)
+      IsTold q shown expected (endings_after m traces)
       (stuck_lines m stuck is_stuck_whole ++ last_lines traces worlds depth is_whole)
       is_whole lines unmet told_status
   pub status_is : status ≡ stuck_status q.wanted (is_any stuck) is_stuck_whole told_status

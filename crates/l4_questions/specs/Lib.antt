@@ -1,12 +1,11 @@
 pub mod Answers
 pub mod Asked
 pub mod Endings
-pub mod Found
+pub mod Inner
 pub mod Limits
 pub mod Met
 pub mod Placed
 pub mod Printed
 pub mod Quiet
 pub mod Runs
-pub mod Writing
 pub mod Stuck

@@ -3,7 +3,7 @@ use Rattle.std.specs.Prelude.{Bool, true, false, ◌≡◌, ◌<◌, ◌≤◌, 
 use Rattle.std.specs.List.{list_any}
 use Rattle.l4_model.specs.Machine.{Declaration, Machine}
 use Rattle.l4_core_model.specs.Runs.{Run, told}
-use Rattle.l4_choices.specs.Entries.{Entry, replay_entries}
+use Rattle.l4_core_model.specs.Schedules.{Entry, replay_entries}
 use Rattle.l4_states.specs.Endings.{AreAllEndings, AreEndings}
 use Rattle.l4_endings.specs.Deepest.{IsDeepest}
 use Rattle.l4_expect.specs.Expected.{Expected}
@@ -15,6 +15,7 @@ use Rattle.l4_questions.specs.Endings.{Ending}
 use Rattle.l4_questions.specs.Limits.{question_fault}
 use Rattle.l4_questions.specs.Printed.{IsTold}
 use Rattle.l4_questions.specs.declared.question.Question.{Question}
+use Rattle.l4_questions.specs.declared.beside.Shown.{Shown}
 
 -- The ending that a core run comes to at rest is that of the history that its events tell.
 
@@ -78,8 +79,8 @@ pub record ArePlaced (m : Machine) (q : Question) (endings : List (List Entry)) 
   pub whole : is_whole ≡ true → (depth < q.depth) × IsDeepest m depth
 
 -- These lines and this status are the answer: those of all endings that the question asks for. It
--- may also ask who waits for whom, and expect something of each ending.
-pub record IsPlacedAnswer (m : Machine) (q : Question) (waits : Bool)
+-- may also ask for charts and who waits for whom, and expect something of each ending.
+pub record IsPlacedAnswer (m : Machine) (q : Question) (shown : Shown)
     (expected : Option (List Expected)) (lines unmet : List ℕ) (status : ℕ) : Type 0 where
   pub lawful : question_fault q ≡ None
   pub endings : List (List Entry)
@@ -88,5 +89,5 @@ pub record IsPlacedAnswer (m : Machine) (q : Question) (waits : Bool)
   pub is_whole : Bool
   pub searched : ArePlaced m q endings states depth is_whole
   pub told :
-      IsTold q waits expected (placed_endings m endings) (states_line m states depth is_whole)
+      IsTold q shown expected (placed_endings m endings) (states_line m states depth is_whole)
       is_whole lines unmet status

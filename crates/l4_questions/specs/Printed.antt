@@ -1,6 +1,8 @@
 -- What is printed of endings, what of them is not met, and the exit status.
 use Rattle.std.specs.Prelude.{Bool, true, false, ◌≡◌, ◌+◌, ℕ, if◌then◌else◌, Option, None, Some, List, [], ◌∷◌, ◌++◌, codes, decimal}
 use Rattle.std.specs.List.{list_all}
+use Rattle.l4_chart.specs.Whole.{whole_text}
+use Rattle.l4_chart.specs.declared.whole.TextForm.{TextForm}
 use Rattle.l4_expect.specs.Expected.{Expected}
 use Rattle.l4_expect.specs.Unmet.{are_met, expected_status, unmet_text}
 use Rattle.l4_questions.specs.Asked.{asked_of}
@@ -8,15 +10,23 @@ use Rattle.l4_questions.specs.Endings.{Ending}
 use Rattle.l4_questions.specs.declared.question.Question.{Question}
 use Rattle.l4_questions.specs.declared.question.Wanted.{Wanted}
 use Rattle.l4_questions.specs.declared.question.Wanted.TheVariants.{Whatever, NoEnding, AnEnding}
+use Rattle.l4_questions.specs.declared.beside.Shown.{Shown}
 
 -- The first line of an ending has its number.
 abbrev pub head_line : (number : ℕ) → Ending → List ℕ
 head_line number e = codes "ending " ++ decimal number ++ e.head ++ codes "\n"
 
--- Then comes its report, and who waits for whom, where that is asked for.
-abbrev pub ending_text : (waits : Bool) → (number : ℕ) → Ending → List ℕ
-ending_text waits number e =
-    head_line number e ++ (e.report ++ (if waits then e.waits else []))
+-- Then come a chart of the history that leads to it, where one is asked for, its report, and who waits
+-- for whom, where that is.
+
+abbrev pub chart_in : Option TextForm → Ending → List ℕ
+chart_in None e = []
+chart_in (Some form) e = whole_text e.machine e.trace form
+
+abbrev pub ending_text : (shown : Shown) → (number : ℕ) → Ending → List ℕ
+ending_text shown number e =
+    head_line number e
+    ++ (chart_in shown.chart e ++ (e.report ++ (if shown.waits then e.waits else [])))
 
 -- The texts of endings in order, numbered from this one on.
 abbrev pub numbered_text : (text_of : (number : ℕ) → Ending → List ℕ) → (number : ℕ) →
@@ -25,8 +35,8 @@ numbered_text text_of number [] = []
 numbered_text text_of number (e ∷ endings) =
     text_of number e ++ numbered_text text_of (number + 1) endings
 
-abbrev pub endings_text : (waits : Bool) → Question → List Ending → List ℕ
-endings_text waits q endings = numbered_text (ending_text waits) 1 (asked_of q endings)
+abbrev pub endings_text : (shown : Shown) → Question → List Ending → List ℕ
+endings_text shown q endings = numbered_text (ending_text shown) 1 (asked_of q endings)
 
 -- Of an ending that does not meet what is expected of its report there is its first line, and then
 -- a line for each expectation that does not hold.
@@ -69,9 +79,9 @@ answer_status expected q endings is_whole =
 
 -- A search found these endings, and said so of itself last: these lines are the answer, with what
 -- is not met and the exit status.
-pub record IsTold (q : Question) (waits : Bool) (expected : Option (List Expected))
+pub record IsTold (q : Question) (shown : Shown) (expected : Option (List Expected))
     (endings : List Ending) (last : List ℕ) (is_whole : Bool) (lines unmet : List ℕ)
     (status : ℕ) : Type 0 where
-  pub lines_are : lines ≡ endings_text waits q endings ++ last
+  pub lines_are : lines ≡ endings_text shown q endings ++ last
   pub unmet_are : unmet ≡ all_unmet expected q endings
   pub status_is : status ≡ answer_status expected q endings is_whole

@@ -3,8 +3,8 @@ use Rattle.std.specs.Prelude.{Bool, true, false, ◌≡◌, ◌<◌, ℕ, Option
 use Rattle.std.specs.Option.{option_copied}
 use Rattle.l4_model.specs.Machine.{Machine}
 use Rattle.l4_core_model.specs.Runs.{Action, Run, at_rest, core_run, opening_run}
-use Rattle.l4_choices.specs.Entries.{Entry}
-use Rattle.l4_shifted.specs.Shifted.{IsShifted}
+use Rattle.l4_core_model.specs.Schedules.{Entry}
+use Rattle.l4_bisimilar.specs.Shifted.{IsShifted}
 use Rattle.l4_states.specs.Choices.{AreLeastTicks}
 use Rattle.l4_states.specs.Endings.{ending_at, led}
 use Rattle.l4_lines.specs.Lines.{line_fault}

@@ -1,18 +1,29 @@
-//! What an answer adds to the endings: who waits for whom, and which expectations are not met.
+//! What an answer adds to the endings: charts, who waits for whom, and which expectations are not
+//! met.
 ghost use Rattle.std.specs.Prelude.{◌≡◌, ◌==◌, ◌++◌, None, OnOk, false, length};
 ghost use Rattle.std.specs.Option.{option_copied};
 ghost use Rattle.l4_expect.specs.Unmet.{expected_status};
 ghost use Rattle.l4_questions.specs.Printed.{told_unmet, unmet_of};
 
 use crate::found::FoundEnding;
+use l4_chart::whole::TextForm;
 use l4_expect::expectations::Expectations;
 use l4_types::errors::NoMemory;
+
+/// What is printed of each ending beside its report.
+#[derive(Clone, Copy)]
+pub struct Shown {
+    /// The chart of a shortest history that comes to it, above the report, if one is.
+    pub chart: Option<TextForm>,
+    /// Whether behind the report it is told who waits for whom in its world.
+    pub waits: bool,
+}
 
 /// What an answer adds to the endings that a question asks for.
 #[derive(Clone, Copy)]
 pub struct Beside<'e, 't> {
-    /// Whether to print behind each report who waits for whom in its world.
-    pub waits: bool,
+    /// What is printed of each.
+    pub shown: Shown,
     /// What each report has to meet. The status is 4 where one does not.
     pub expected: Option<&'e Expectations<'t>>,
 }
@@ -20,10 +31,16 @@ pub struct Beside<'e, 't> {
 impl<'e, 't> Beside<'e, 't> {
     /// Adds nothing.
     pub fn nothing() -> Beside<'e, 't>
-        ensures { result ≡ record { waits = false; expected = None } }
+        ensures { result ≡ record {
+          shown = record { chart = None; waits = false };
+          expected = None;
+        } }
     {
         Beside {
-            waits: false,
+            shown: Shown {
+                chart: None,
+                waits: false,
+            },
             expected: None,
         }
     }

@@ -4,12 +4,13 @@ ghost use Rattle.std.specs.List.{list_any};
 ghost use Rattle.l4_futures.specs.Stuck.{names_one};
 ghost use Rattle.l4_model.specs.History.{IsHistory};
 ghost use Rattle.l4_questions.specs.Answers.{ending_after};
-ghost use Rattle.l4_questions.specs.Found.{is_stuck_wait, report_by};
-ghost use Rattle.l4_questions.specs.Printed.{head_line};
+ghost use Rattle.l4_questions.specs.Inner.Found.{is_stuck_wait, report_by};
+ghost use Rattle.l4_questions.specs.Printed.{chart_in, head_line};
 
 use l4_audit::audit::{AuditFault, audited};
 use l4_audit::auditor::Auditor;
 use l4_audit::waits::Wait;
+use l4_chart::whole::{TextForm, whole_text};
 use l4_history::history::History;
 use l4_reports::report_lines::write_report;
 use l4_script::machine::Machine;
@@ -27,6 +28,9 @@ pub(crate) struct FoundEnding<'m> {
     head: Vec<u8>,
     report: Vec<u8>,
     is_stuck: bool,
+    machine: &'m Machine,
+    // It is a history, and comes to this ending.
+    trace: History,
     // It has taken all steps of the trace.
     auditor: Auditor<'m>,
 }
@@ -41,6 +45,8 @@ impl<'m> Model for FoundEnding<'m> {
       head = f.head.items;
       report = f.report.items;
       waits = waits_text f.auditor.at.machine f.auditor.at.world;
+      machine = f.machine.now;
+      trace = f.trace.steps;
       is_stuck = f.is_stuck;
     } };
 }
@@ -52,14 +58,14 @@ impl<'m> FoundEnding<'m> {
     pub(crate) fn new(
         alloc: Global,
         machine: &'m Machine,
-        trace: &History,
+        trace: History,
         head: Vec<u8>,
     ) -> Result<FoundEnding<'m>, NoMemory>
-        requires { IsHistory machine.now trace.now.steps }
+        requires { IsHistory machine.now trace.steps }
         ensures { IfOk result (λ found. found ≡
-            record (ending_after machine.now trace.now.steps) { head = head.items }) }
+            record (ending_after machine.now trace.steps) { head = head.items }) }
     {
-        let auditor = match audited(alloc, machine, trace) {
+        let auditor = match audited(alloc, machine, &trace) {
             Ok(auditor) => auditor,
             Err(AuditFault::NoMemory) => return Err(NoMemory),
             Err(AuditFault::Refused { .. }) => unreachable!(),
@@ -71,6 +77,8 @@ impl<'m> FoundEnding<'m> {
             head,
             report,
             is_stuck,
+            machine,
+            trace,
             auditor,
         })
     }
@@ -101,6 +109,18 @@ impl<'m> FoundEnding<'m> {
         lines.extend_from_slice(&self.head)?;
         lines.push(b'\n')?;
         Ok(())
+    }
+
+    /// A chart of the history that comes to it, where one is asked for.
+    ///
+    /// `NoMemory`: memory was refused.
+    pub(crate) fn chart(&self, alloc: Global, form: Option<TextForm>) -> Result<Vec<u8>, NoMemory>
+        ensures { IfOk result (λ lines. lines.items ≡ chart_in form self.now) }
+    {
+        match form {
+            Some(form) => whole_text(alloc, self.machine, &self.trace, form),
+            None => Ok(Vec::new(alloc)),
+        }
     }
 
     /// Appends who waits for whom there.

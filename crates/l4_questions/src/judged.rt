@@ -1,13 +1,15 @@
 //! The answer to a question, ending by ending.
-ghost use Rattle.std.specs.Prelude.{◌≡◌, ◌++◌, ◌∷◌, ◌+◌, ◌^◌, ◌<◌, ◌≤◌, [], Bool, List, Option, IfOk, OnOk, length, map};
+ghost use Rattle.std.specs.Prelude.{◌≡◌, ◌++◌, ◌∷◌, ◌+◌, ◌^◌, ◌<◌, ◌≤◌, [], Bool, List, Option};
+ghost use Rattle.std.specs.Prelude.{IfOk, OnOk, length, map};
 ghost use Rattle.std.specs.List.{AllByRecursion};
 ghost use Rattle.std.specs.Option.{option_copied};
 ghost use Rattle.l4_expect.specs.Expected.{Expected};
 ghost use Rattle.l4_questions.specs.Endings.{Ending};
 ghost use Rattle.l4_questions.specs.Printed.{ending_text, status_of_asked, status_of_search};
 ghost use Rattle.l4_questions.specs.Printed.{unmet_of, IsTold};
-ghost use Rattle.l4_questions.specs.Writing.{AreWritten};
+ghost use Rattle.l4_questions.specs.Inner.Writing.{AreWritten};
 ghost use Rattle.l4_questions.specs.declared.question.Question.{Question as AskedQuestion};
+ghost use Rattle.l4_questions.specs.declared.beside.Shown.{Shown};
 
 use crate::asked::is_asked;
 use crate::beside::{Beside, status_beside, write_unmet};
@@ -45,8 +47,8 @@ pub(crate) struct Written {
 impl Written {
     // What is written before the first ending.
     fn new(alloc: Global) -> Written
-        ensures written { (q : AskedQuestion) (waits : Bool) (expected : Option (List Expected))
-            (all : List Ending) → AreWritten q waits expected all all result }
+        ensures written { (q : AskedQuestion) (shown : Shown) (expected : Option (List Expected))
+            (all : List Ending) → AreWritten q shown expected all all result }
         ensures count { result.count ≡ 0 }
     {
         Written {
@@ -65,17 +67,19 @@ impl Written {
     ) -> Result<(), NoMemory>
         requires room { self.old.count + 1 < 2 ^ 64 }
         ensures lines { OnOk result (self.new.lines.items ≡ self.old.lines.items ++
-            ending_text beside.entry.waits (self.old.count + 1) found.entry) }
+            ending_text beside.entry.shown (self.old.count + 1) found.entry) }
         ensures unmet { OnOk result (self.new.unmet.items ≡ self.old.unmet.items ++
             unmet_of (option_copied beside.entry.expected) (self.old.count + 1) found.entry) }
         ensures count { OnOk result (self.new.count ≡ self.old.count + 1) }
     {
         let number = self.count + 1;
         found.write_head(number, &mut self.lines)?;
+        let chart = found.chart(alloc, beside.shown.chart)?;
+        self.lines.extend_from_slice(&chart)?;
         self.lines.extend_from_slice(found.report())?;
         write_unmet(beside.expected, number, &found, &mut self.unmet)?;
         self.count = number;
-        if !beside.waits {
+        if !beside.shown.waits {
             return Ok(());
         }
         found.write_waits(alloc, &mut self.lines)
@@ -91,9 +95,9 @@ impl Written {
     ) -> Result<(), NoMemory>
         requires room { self.old.count + 1 < 2 ^ 64 }
         ensures written { OnOk result ((all left : List Ending) →
-            AreWritten question.now beside.entry.waits (option_copied beside.entry.expected)
+            AreWritten question.now beside.entry.shown (option_copied beside.entry.expected)
             all (found.entry ∷ left) self.old →
-            AreWritten question.now beside.entry.waits (option_copied beside.entry.expected)
+            AreWritten question.now beside.entry.shown (option_copied beside.entry.expected)
             all left self.new) }
         ensures count { OnOk result (self.new.count ≤ self.old.count + 1) }
     {
@@ -113,10 +117,10 @@ impl Written {
         last: &[u8],
         is_whole: bool,
     ) -> Result<Answer, NoMemory>
-        ensures { IfOk result (λ answer. (waits : Bool) (expected : Option (List Expected))
+        ensures { IfOk result (λ answer. (shown : Shown) (expected : Option (List Expected))
             (endings : List Ending) →
-            AreWritten question.now waits expected endings [] self →
-            IsTold question.now waits expected endings last.now is_whole answer.lines.items
+            AreWritten question.now shown expected endings [] self →
+            IsTold question.now shown expected endings last.now is_whole answer.lines.items
             answer.unmet.items answer.status) }
     {
         let mut lines = self.lines;
@@ -141,7 +145,7 @@ pub(crate) fn written_endings<E: Listed>(
     endings: &[E],
 ) -> Result<Written, NoMemory>
     requires { AllByRecursion (E.leads machine.now) endings.now }
-    ensures { IfOk result (AreWritten question.now beside.entry.waits
+    ensures { IfOk result (AreWritten question.now beside.entry.shown
         (option_copied beside.entry.expected) (map (E.ending machine.now) endings.now) []) }
 {
     let mut written = Written::new(alloc);

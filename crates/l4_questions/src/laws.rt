@@ -9,8 +9,8 @@
 ghost use Rattle.std.specs.Prelude.{ℕ, ◌≡◌, ◌<◌, Bool, true, List, Option, length};
 ghost use Rattle.l4_model.specs.Machine.{Machine};
 ghost use Rattle.l4_core_model.specs.Runs.{IsMachine, Run};
+ghost use Rattle.l4_core_model.specs.Schedules.{Entry, replay_entries};
 ghost use Rattle.l4_model.specs.Steps.{Step};
-ghost use Rattle.l4_choices.specs.Entries.{Entry, replay_entries};
 ghost use Rattle.l4_expect.specs.Expected.{Expected};
 ghost use Rattle.l4_states.specs.Endings.{AreAllEndings};
 ghost use Rattle.l4_questions.specs.Answers.{IsAnswer, NoneIsReached, OneIsReached};
@@ -25,32 +25,33 @@ ghost use Rattle.l4_questions.specs.Stuck.{asks_who_is_stuck};
 ghost use Rattle.l4_questions.specs.Runs.{AsksForLines, ComesToRest, NoneIsAsked, StandsFor};
 ghost use Rattle.l4_questions.specs.declared.question.Question.{Question as AskedQuestion};
 ghost use Rattle.l4_questions.specs.declared.question.Wanted.TheVariants.{AnEnding, NoEnding};
+ghost use Rattle.l4_questions.specs.declared.beside.Shown.{Shown};
 
 /// Status 0, where a question asks that no such ending exist, says that none does: no history of the
 /// machine comes to an ending that is asked for, whatever the scheduler does and whatever time
 /// passes. Where the question has lines, they have to be lines that may be asked for.
 pub fn law_none_is_reached()
-    ensures { (m : Machine) (q : AskedQuestion) (waits : Bool)
+    ensures { (m : Machine) (q : AskedQuestion) (shown : Shown)
         (expected : Option (List Expected)) (lines unmet : List ℕ) → AsksForLines q →
-        q.wanted ≡ NoEnding → IsAnswer m q waits expected lines unmet 0 → NoneIsReached m q }
+        q.wanted ≡ NoEnding → IsAnswer m q shown expected lines unmet 0 → NoneIsReached m q }
 {}
 
 /// Status 0, where a question asks that nothing be stuck, says that no history makes a thread stuck
 /// for ever, whether the text comes to rest or not.
 pub fn law_nobody_is_stuck()
-    ensures { (m : Machine) (q : AskedQuestion) (waits : Bool)
+    ensures { (m : Machine) (q : AskedQuestion) (shown : Shown)
         (expected : Option (List Expected)) (lines unmet : List ℕ) →
         asks_who_is_stuck q ≡ true → q.wanted ≡ NoEnding →
-        IsAnswer m q waits expected lines unmet 0 → (thread : ℕ) → thread < length m.threads →
+        IsAnswer m q shown expected lines unmet 0 → (thread : ℕ) → thread < length m.threads →
         IsNeverStuck m thread }
 {}
 
 /// Status 0, where a question asks that such an ending exist, says that one does: a history of the
 /// machine comes to it.
 pub fn law_one_is_reached()
-    ensures { (m : Machine) (q : AskedQuestion) (waits : Bool)
+    ensures { (m : Machine) (q : AskedQuestion) (shown : Shown)
         (expected : Option (List Expected)) (lines unmet : List ℕ) →
-        q.wanted ≡ AnEnding → IsAnswer m q waits expected lines unmet 0 → OneIsReached m q }
+        q.wanted ≡ AnEnding → IsAnswer m q shown expected lines unmet 0 → OneIsReached m q }
 {}
 
 /// Where a search is whole, what a run comes to at rest is a listed ending: of each run, replay or
@@ -95,8 +96,8 @@ pub fn law_asked_of_all()
 /// Status 0 of a search of placed runs, where no such ending should exist, says that no core run
 /// that comes to rest, and whose ticks go to least deadlines, is asked for.
 pub fn law_none_is_asked()
-    ensures { (m : Machine) (q : AskedQuestion) (waits : Bool)
+    ensures { (m : Machine) (q : AskedQuestion) (shown : Shown)
         (expected : Option (List Expected)) (lines unmet : List ℕ) → IsMachine m →
         AsksForLines q → q.wanted ≡ NoEnding →
-        IsPlacedAnswer m q waits expected lines unmet 0 → NoneIsAsked m q }
+        IsPlacedAnswer m q shown expected lines unmet 0 → NoneIsAsked m q }
 {}

@@ -2,8 +2,8 @@
 //!
 //! `answer` searches for all endings of a machine, whatever its scheduler does and whatever time
 //! passes, and `placed_answer` for those of the runs that a replay makes by schedules. Of each that
-//! is asked for they tell the number and the report, and last how far the search went and whether
-//! there are no more. `asked_trace` is the trace of one of them.
+//! is asked for they tell the number and the report, a chart where one is wanted, and last how far the
+//! search went and whether there are no more. `asked_trace` is the trace of one of them.
 //!
 //! Contracts see the bytes: they are those of all endings that the question asks for, and of no
 //! others. What is asked of an ending, and what is told of it, is the same for both searches. `laws`

@@ -3,7 +3,7 @@ ghost use Rattle.std.specs.Prelude.{◌≡◌, IfOk, map};
 ghost use Rattle.l4_machine.specs.Entries.{entry_from};
 ghost use Rattle.l4_model.specs.Machine.{Machine as ModelMachine};
 ghost use Rattle.l4_questions.specs.Endings.{Ending};
-ghost use Rattle.l4_questions.specs.Found.{led_ending, placed_by, IsLed, IsReplayed};
+ghost use Rattle.l4_questions.specs.Inner.Found.{led_ending, placed_by, IsLed, IsReplayed};
 ghost use Rattle.l4_questions.specs.Placed.{list_head};
 
 use crate::found::FoundEnding;
@@ -43,7 +43,7 @@ impl Listed for Vec<u32> {
         let trace = trace_of(alloc, machine, self)?;
         let mut head = String::new(alloc);
         write!(head, " steps {}", self.len())?;
-        let found = FoundEnding::new(alloc, machine, &trace, head.into_bytes())?;
+        let found = FoundEnding::new(alloc, machine, trace, head.into_bytes())?;
         Ok(found)
     }
 }
@@ -60,7 +60,7 @@ impl Listed for Vec<Entry> {
         };
         let trace = outcome.history.into_history(alloc)?;
         let head = list_head(alloc, self)?;
-        FoundEnding::new(alloc, machine, &trace, head)
+        FoundEnding::new(alloc, machine, trace, head)
     }
 }
 

@@ -12,7 +12,7 @@
 ghost use Rattle.std.specs.Prelude.{ℕ, ◌≡◌, Bool, true, List, Some, []};
 ghost use Rattle.l4_model.specs.Machine.{Machine};
 ghost use Rattle.l4_core_model.specs.Runs.{IsMachine};
-ghost use Rattle.l4_choices.specs.Entries.{Entry, replay_entries};
+ghost use Rattle.l4_core_model.specs.Schedules.{Entry, replay_entries};
 ghost use Rattle.l4_common_lines.specs.CommonLines.{may_be_asked};
 ghost use Rattle.l4_expect.specs.Expected.{Expected};
 ghost use Rattle.l4_proc.specs.declared.processor.Processor.{Processor};
@@ -24,19 +24,20 @@ ghost use Rattle.l4_questions.specs.Placed.{IsPlacedAnswer};
 ghost use Rattle.l4_questions.specs.Runs.{AsksForLines};
 ghost use Rattle.l4_questions.specs.declared.question.Question.{Question as AskedQuestion};
 ghost use Rattle.l4_questions.specs.declared.question.Wanted.TheVariants.{Whatever};
+ghost use Rattle.l4_questions.specs.declared.beside.Shown.{Shown};
 
 /// Where a search is whole, and each of its endings that is asked for meets what is expected, each
 /// that any history of the machine comes to meets it, whatever the scheduler does and whatever time
 /// passes. Status 0 says both, where it is not asked how many there are.
 pub fn law_each_is_met()
-    ensures by_status { (m : Machine) (q : AskedQuestion) (waits : Bool)
+    ensures by_status { (m : Machine) (q : AskedQuestion) (shown : Shown)
         (expected : List Expected) (lines unmet : List ℕ) → AsksForLines q →
         may_be_asked expected ≡ true → q.wanted ≡ Whatever →
-        IsAnswer m q waits (Some expected) lines unmet 0 → EachIsMet m q expected }
-    ensures whole { (m : Machine) (q : AskedQuestion) (waits : Bool)
+        IsAnswer m q shown (Some expected) lines unmet 0 → EachIsMet m q expected }
+    ensures whole { (m : Machine) (q : AskedQuestion) (shown : Shown)
         (expected : List Expected) (lines : List ℕ) (status : ℕ) → AsksForLines q →
         may_be_asked expected ≡ true →
-        (a : IsAnswer m q waits (Some expected) lines [] status) → a.is_whole ≡ true →
+        (a : IsAnswer m q shown (Some expected) lines [] status) → a.is_whole ≡ true →
         EachIsMet m q expected }
 {}
 
@@ -57,13 +58,13 @@ pub fn law_each_run_is_met()
 /// The same of a search of placed runs, and of each core run that comes to rest and whose ticks go
 /// to least deadlines.
 pub fn law_each_placed_is_met()
-    ensures by_status { (m : Machine) (q : AskedQuestion) (waits : Bool)
+    ensures by_status { (m : Machine) (q : AskedQuestion) (shown : Shown)
         (expected : List Expected) (lines unmet : List ℕ) → IsMachine m → AsksForLines q →
         may_be_asked expected ≡ true → q.wanted ≡ Whatever →
-        IsPlacedAnswer m q waits (Some expected) lines unmet 0 → EachRunIsMet m q expected }
-    ensures whole { (m : Machine) (q : AskedQuestion) (waits : Bool)
+        IsPlacedAnswer m q shown (Some expected) lines unmet 0 → EachRunIsMet m q expected }
+    ensures whole { (m : Machine) (q : AskedQuestion) (shown : Shown)
         (expected : List Expected) (lines : List ℕ) (status : ℕ) → IsMachine m →
         AsksForLines q → may_be_asked expected ≡ true →
-        (a : IsPlacedAnswer m q waits (Some expected) lines [] status) → a.is_whole ≡ true →
+        (a : IsPlacedAnswer m q shown (Some expected) lines [] status) → a.is_whole ≡ true →
         EachRunIsMet m q expected }
 {}

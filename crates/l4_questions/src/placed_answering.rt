@@ -28,7 +28,7 @@ pub fn placed_answer<P: Progress>(
     beside: Beside<'_, '_>,
     progress: &mut P,
 ) -> Result<Answer, QuestionFault>
-    ensures ok { IfOk result (λ answer. IsPlacedAnswer machine.now question.now beside.entry.waits
+    ensures ok { IfOk result (λ answer. IsPlacedAnswer machine.now question.now beside.entry.shown
         (option_copied beside.entry.expected) answer.lines.items answer.unmet.items answer.status) }
     ensures err { IfErr result (λ fault. (fault ≡ OutOfMemory) ⊎
         (question_fault question.now ≡ Some fault)) }

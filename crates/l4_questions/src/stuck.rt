@@ -2,7 +2,8 @@
 ghost use Rattle.std.specs.Prelude.{◌≡◌, ◌<◌, ◌++◌, IfOk, OnOk, codes, false, slice_get, true};
 ghost use Rattle.std.specs.String.{string_bytes};
 ghost use Rattle.l4_stuck.specs.Stuck.{stuck_from, stuck_of, AreStuckThreads, IsStuck};
-ghost use Rattle.l4_questions.specs.Stuck.{asks_who_is_stuck, cut_status, declared_word, is_any, stuck_line};
+ghost use Rattle.l4_questions.specs.Stuck.{asks_who_is_stuck, cut_status, declared_word, is_any};
+ghost use Rattle.l4_questions.specs.Stuck.{stuck_line};
 ghost use Rattle.l4_questions.specs.Stuck.{stuck_lines, stuck_status, AreAllStuck, AreAskedStuck};
 
 use crate::question::{Question, Wanted};

@@ -2,7 +2,7 @@
 ghost use Rattle.std.specs.Prelude.{◌≡◌, ◌⊎◌, ◌++◌, IfErr, IfOk, Some, option_map, true};
 ghost use Rattle.std.specs.List.{list_all, AllByRecursion};
 ghost use Rattle.l4_questions.specs.Answers.{asked_traces, numbered, traces_along, IsTraceAnswer};
-ghost use Rattle.l4_questions.specs.Found.{IsLed};
+ghost use Rattle.l4_questions.specs.Inner.Found.{IsLed};
 ghost use Rattle.l4_questions.specs.Limits.{question_fault};
 ghost use Rattle.l4_questions.specs.declared.question.QuestionFault.TheVariants.{NoMemory as OutOfMemory};
 ghost use Rattle.l4_questions.specs.Stuck.{stuck_traces, AreAllStuck};

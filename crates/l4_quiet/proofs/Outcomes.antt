@@ -4,8 +4,8 @@ use Rattle.l4_model.specs.Machine.{Machine}
 use Rattle.l4_model.specs.History.{reached}
 use Rattle.l4_core_model.specs.Laws.{IsCoreRun}
 use Rattle.l4_core_model.specs.Runs.{IsMachine, Run}
+use Rattle.l4_core_model.specs.Schedules.{Entry, replay_entries}
 use Rattle.l4_merge.proofs.InRounds.{is_core_run}
-use Rattle.l4_choices.specs.Entries.{Entry, replay_entries}
 use Rattle.l4_rests.proofs.Rest.{rest_untimed, rest_in_order_untimed}
 use Rattle.l4_proc.specs.declared.processor.Processor.{Processor}
 use Rattle.l4_machine.specs.Gathered.{IsGathered}

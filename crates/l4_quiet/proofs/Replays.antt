@@ -4,9 +4,8 @@ use Rattle.l4_model.specs.Machine.{Machine}
 use Rattle.l4_model.specs.Conditions.{◌>>=◌}
 use Rattle.l4_core_model.specs.Laws.{IsCoreRun}
 use Rattle.l4_core_model.specs.Runs.{Action, Run, happens, opening_run}
-use Rattle.l4_core_model.specs.Schedules.{or_stays}
+use Rattle.l4_core_model.specs.Schedules.{or_stays, Entry, entry_event, replay_entries, replays}
 use Rattle.l4_merge.proofs.InRounds.{attempts_core_run}
-use Rattle.l4_choices.specs.Entries.{Entry, entry_event, replay_entries, replays}
 
 one_more : (m : Machine) (r : Run) (o : Option Action) → IsCoreRun m r → IsCoreRun m (or_stays r (o >>= happens m r.system))
 one_more m r None is = is

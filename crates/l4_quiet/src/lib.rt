@@ -15,7 +15,7 @@ ghost use Rattle.std.specs.Prelude.{ℕ, List};
 ghost use Rattle.l4_model.specs.Machine.{Machine};
 ghost use Rattle.l4_core_model.specs.Laws.{IsCoreRun};
 ghost use Rattle.l4_core_model.specs.Runs.{IsMachine, Run};
-ghost use Rattle.l4_choices.specs.Entries.{Entry, replay_entries};
+ghost use Rattle.l4_core_model.specs.Schedules.{Entry, replay_entries};
 ghost use Rattle.l4_proc.specs.declared.processor.Processor.{Processor};
 ghost use Rattle.l4_machine.specs.Gathered.{IsGathered};
 ghost use Rattle.l4_machine.specs.Outcomes.{Findings, IsFoundFor, IsOutcomeOf};

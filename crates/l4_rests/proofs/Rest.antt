@@ -4,10 +4,10 @@ use Rattle.l4_model.specs.Machine.{Machine}
 use Rattle.l4_model.proofs.Chains.{some_is}
 use Rattle.l4_core_model.specs.Runs.{Run, IsMachine}
 use Rattle.l4_core_model.specs.Laws.{IsCoreRun}
-use Rattle.l4_split.proofs.Law.{run_facts, rest_settled}
+use Rattle.l4_refines.proofs.Law.{run_facts, rest_settled}
 use Rattle.l4_merge.proofs.Reordered.{reorder}
 use Rattle.l4_worlds.specs.Histories.{IsUntimed}
-use Rattle.l4_rests.specs.Rests.{LeadUntimed, RestIsUntimed, RestInOrderIsUntimed}
+use Rattle.l4_rests.specs.Inner.Rests.{LeadUntimed, RestIsUntimed, RestInOrderIsUntimed}
 use Rattle.l4_rests.proofs.Settled.{settled_untimed}
 
 pub rest_untimed : (m : Machine) (r : Run) → IsMachine m → IsCoreRun m r → RestIsUntimed m r

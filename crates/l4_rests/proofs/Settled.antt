@@ -7,8 +7,8 @@ use Rattle.l4_model.specs.Words.{Period}
 use Rattle.l4_model.specs.Machine.{Machine}
 use Rattle.l4_model.specs.World.{World, Thread, Send, Receive, Phase, Ready, Sending, Receiving, Ordering, Ended, Deleted, receive_now, opening_thread}
 use Rattle.l4_model.specs.Conditions.{is_zero}
-use Rattle.l4_split.proofs.Relation.Views.{world_thread}
-use Rattle.l4_split.proofs.Rest.Settled.{IsSettled, IsSettledThread}
+use Rattle.l4_refines.proofs.Relation.Views.{world_thread}
+use Rattle.l4_refines.proofs.Rest.Settled.{IsSettled, IsSettledThread}
 use Rattle.l4_worlds.specs.Histories.{IsNeverOrZero, IsUntimed, IsUntimedIn}
 
 -- A period that is zero where it is finite

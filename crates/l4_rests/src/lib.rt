@@ -16,7 +16,7 @@
 ghost use Rattle.l4_model.specs.Machine.{Machine};
 ghost use Rattle.l4_core_model.specs.Runs.{Run, IsMachine};
 ghost use Rattle.l4_core_model.specs.Laws.{IsCoreRun};
-ghost use Rattle.l4_rests.specs.Rests.{RestIsUntimed, RestInOrderIsUntimed};
+ghost use Rattle.l4_rests.specs.Inner.Rests.{RestIsUntimed, RestInOrderIsUntimed};
 
 /// Where a core run is at rest, no period that is finite and not zero stands in the world that its
 /// steps lead to, in the order told or in order of stamp.

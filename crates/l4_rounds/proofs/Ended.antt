@@ -21,7 +21,7 @@ use Rattle.l4_merge.specs.Rounds.{is_idle, local_is_idle}
 use Rattle.l4_merge.proofs.CoreRuns.{core_run-append}
 use Rattle.l4_merge.proofs.Processors.{all_processors}
 use Rattle.l4_merge.proofs.Rest.{no_mail}
-use Rattle.l4_split.specs.Laws.{LettersAreLawful}
+use Rattle.l4_refines.specs.Laws.{LettersAreLawful}
 use Rattle.l4_states.proofs.Reached.{IsWithin, run_within}
 use Rattle.l4_rounds.specs.ThenRest.{in_rounds}
 use Rattle.l4_rounds.specs.Ended.{HasEnded, IsOutOfTime}

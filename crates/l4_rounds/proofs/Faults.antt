@@ -6,8 +6,7 @@ use Rattle.std.proofs.lemmas.Bool.Decides.{nat_tests}
 use Rattle.std.proofs.lemmas.List.{length-map, take_more}
 use Rattle.std.proofs.lemmas.Option.{get_or_from_slice_get}
 use Rattle.l4_model.specs.Machine.{Machine}
-use Rattle.l4_core_model.specs.Schedules.{turns_of}
-use Rattle.l4_choices.specs.Entries.{Entry, TurnOf, replay_entries}
+use Rattle.l4_core_model.specs.Schedules.{turns_of, Entry, TurnOf, replay_entries}
 use Rattle.l4_machine.specs.declared.entries.Entry as code
 use Rattle.l4_machine.specs.declared.outcome.RunFault.TheVariants.{Turns, Schedule}
 use Rattle.l4_machine.specs.Entries.{entries_fault, entry_from, first_stranger, most_events, most_turns}

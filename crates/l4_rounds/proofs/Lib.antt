@@ -1,3 +1,5 @@
+pub mod Locals
+pub mod Possible
 pub mod Rounds
 pub mod GoingOn
 pub mod Ended

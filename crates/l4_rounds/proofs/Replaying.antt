@@ -10,7 +10,7 @@ use Rattle.l4_model.specs.Conditions.{◌>>=◌}
 use Rattle.l4_core_model.specs.Local.{Local}
 use Rattle.l4_core_model.specs.Runs.{Run, System, Ticks, opening_run}
 use Rattle.l4_core_model.specs.Schedules.{attempts_all, earliest, earliest_of, least_deadline, rounds, turns_in_order, turns_of}
-use Rattle.l4_choices.specs.Entries.{Entry, TurnOf, TickTo, replay_entries}
+use Rattle.l4_core_model.specs.Schedules.{Entry, TurnOf, TickTo, replay_entries}
 use Rattle.l4_core.specs.Processor.{Processor}
 use Rattle.l4_machine.specs.declared.entries.Entry as code
 use Rattle.l4_machine.specs.Entries.{after_entry, entry_from, is_entry}
@@ -18,7 +18,7 @@ use Rattle.l4_machine.specs.UnderWay.{UnderWay, GoesOn, HasRun, IsProcessorOf, I
 use Rattle.l4_machine.proofs.Replays.{as_many}
 use Rattle.l4_machine.proofs.Ticked.{deadline_assoc}
 use Rattle.l4_rounds.specs.ThenRest.{GoOn, in_rounds}
-use Rattle.l4_rounds.specs.Replays.{entries_of, run_of, HasGoneOn, IsReplay, IsReplayOf}
+use Rattle.l4_rounds.specs.Inner.Replays.{entries_of, run_of, HasGoneOn, IsReplay, IsReplayOf}
 use Rattle.l4_rounds.specs.declared.replays.Replay.{Replay}
 use Rattle.l4_rounds.proofs.GoingOn.{events_few, few_on, on_as, one_on, stay, stay_at, then_on}
 use Rattle.l4_rounds.proofs.Rounds.{ends_still, ends_used, goes_further, lawful_more, next_round, replays_more, round_few, round_more, tick_more, ticks_few, unchanged}

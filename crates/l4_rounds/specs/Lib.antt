@@ -1,3 +1,3 @@
-pub mod ThenRest
-pub mod Replays
 pub mod Ended
+pub mod Inner
+pub mod ThenRest

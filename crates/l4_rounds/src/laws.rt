@@ -7,7 +7,7 @@ ghost use Rattle.l4_core_model.specs.Schedules.{run};
 ghost use Rattle.l4_rounds.specs.Ended.{HasEnded};
 ghost use Rattle.l4_rounds.specs.ThenRest.{in_rounds, then_rest};
 
-use l4_split::law_of_core_runs;
+use l4_refines::law_of_core_runs;
 
 /// What is true of the rest, whatever core run it goes on from.
 ///

@@ -3,16 +3,17 @@
 //!
 //! A round is one turn of each processor, rising. If a round has no event, all clocks below the
 //! earliest deadline go on to that deadline. So whoever has found how a run begins need not write
-//! how it ends.
+//! how it ends. `choices` has what may happen next behind a replay, each by a number.
 //!
 //! ```rust
 //! let outcome = replay_then_rest(alloc, &machine, &[Entry::Turn(1), Entry::Turn(0)], 10_000)?;
 //! ```
 #![tactic(auto)]
 
+pub mod choices;
 mod laws;
 mod replays;
 mod rest;
 
 pub use laws::law_rest;
-pub use rest::{replay_then_rest, with_rest};
+pub use rest::{replay_then_rest, walk_behind, with_rest};

@@ -1,5 +1,6 @@
 //! A replay under way that lists its entries.
-ghost use Rattle.std.specs.Prelude.{◌≡◌, ◌+◌, ◌<◌, ◌≤◌, ◌++◌, ◌∷◌, ◌^◌, [], IfOk, OnOk, Some, length, true};
+ghost use Rattle.std.specs.Prelude.{◌≡◌, ◌+◌, ◌<◌, ◌≤◌, ◌++◌, ◌∷◌, ◌^◌, [], IfOk, OnOk, Some};
+ghost use Rattle.std.specs.Prelude.{length, true};
 ghost use Rattle.std.specs.Prelude.{◌&&◌, nat_lt};
 ghost use Rattle.l4_model.specs.Words.{clock_limit};
 ghost use Rattle.l4_core_model.specs.Schedules.{earliest, earliest_deadline, round, round_or_ticks};
@@ -17,12 +18,12 @@ use std::alloc::Global;
 #[derive(Drop)]
 pub(crate) struct Replay<'m> {
     pub(crate) machine: &'m Machine,
-    walk: Walk<'m>,
+    pub(crate) walk: Walk<'m>,
     pub(crate) entries: Vec<Entry>,
 }
 
 impl<'m> Replay<'m> {
-    ghost use Rattle.l4_rounds.specs.Replays.{entries_of, run_of, HasGoneOn, IsReplay};
+    ghost use Rattle.l4_rounds.specs.Inner.Replays.{entries_of, run_of, HasGoneOn, IsReplay};
 
     /// The replay of no entries, on a machine where nothing has happened.
     ///

@@ -1,13 +1,15 @@
 //! A replay, and then the rest.
 ghost use Rattle.std.specs.Prelude.{◌≡◌, ◌<◌, ◌≤◌, ◌+◌, ◌↔◌, ◌⊎◌, IfErr, IfOk, IsErrOf, None, Some};
 ghost use Rattle.std.specs.Prelude.{◌==◌, ◌||◌, length, map, nat_lt};
-ghost use Rattle.l4_machine.specs.Entries.{entries_fault, entry_from, most_turns};
+ghost use Rattle.l4_core_model.specs.Schedules.{replay_entries};
+ghost use Rattle.l4_machine.specs.Entries.{entries_fault, entry_from, most_events, most_turns};
 ghost use Rattle.l4_machine.specs.Outcomes.{compact_findings_of, IsOutcomeOf, IsTrueOf};
+ghost use Rattle.l4_machine.specs.UnderWay.{IsRun};
 ghost use Rattle.l4_rounds.specs.ThenRest.{rest_fault, then_rest, HaveRest};
-ghost use Rattle.l4_rounds.specs.Replays.{entries_of, IsReplay};
+ghost use Rattle.l4_rounds.specs.Inner.Replays.{entries_of, IsReplay};
 
 use crate::replays::Replay;
-use l4_machine::{CompactOutcome, Entry, MOST_TURNS, RunFault, replay_compact};
+use l4_machine::{CompactOutcome, Entry, MOST_EVENTS, MOST_TURNS, RunFault, Walk, replay_compact};
 use l4_script::machine::Machine;
 use std::alloc::Global;
 
@@ -73,6 +75,30 @@ pub fn with_rest(
     Ok(replay.entries)
 }
 
+/// The core run that the replay of these entries comes to.
+///
+/// `Turns`: there are more than 1,000,015 entries. `Schedule`: this entry, counted from 1, is the
+/// first that is none of the machine. `NoMemory`: memory was refused, which may come in place of
+/// `Schedule`.
+pub fn walk_behind<'m>(
+    alloc: Global,
+    machine: &'m Machine,
+    entries: &[Entry],
+) -> Result<Walk<'m>, RunFault>
+    ensures ok { IfOk result
+        (IsRun machine.now (replay_entries machine.now (map entry_from entries.now))) }
+    ensures lawful { IfOk result (λ _.
+        entries_fault machine.now (map entry_from entries.now) ≡ None) }
+    ensures err { IfErr result (λ fault. (fault ≡ RunFault.NoMemory) ⊎
+        (entries_fault machine.now (map entry_from entries.now) ≡ Some fault)) }
+{
+    if entries.len() > MOST_EVENTS {
+        return Err(RunFault::Turns);
+    }
+    let replay = replayed(alloc, machine, entries)?;
+    Ok(replay.walk)
+}
+
 // Whether no turn is asked for, or entries and turns together are more than a run may have.
 fn is_out_of_range(entries: usize, turns: u64) -> bool
     ensures { result ≡ (turns == 0 || nat_lt most_turns (entries + turns)) }
@@ -86,7 +112,7 @@ fn replayed<'m>(
     machine: &'m Machine,
     entries: &[Entry],
 ) -> Result<Replay<'m>, RunFault>
-    requires { length entries.now ≤ most_turns }
+    requires { length entries.now ≤ most_events }
     ensures replay { IfOk result IsReplay }
     ensures machine { IfOk result (λ replay. replay.machine.now ≡ machine.now) }
     ensures entries { IfOk result (λ replay. entries_of replay ≡ map entry_from entries.now) }

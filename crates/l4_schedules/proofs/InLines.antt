@@ -7,7 +7,7 @@ use Rattle.std.proofs.lemmas.Bool.Decides.{nat_tests}
 use Rattle.std.proofs.lemmas.List.Elements.{All-append, All-cons, All-nil}
 use Rattle.std.proofs.lemmas.List.Folds.{list_all-append}
 use Rattle.std.proofs.lemmas.List.Splits.{slice_split-cons_yes, slice_split-cons_no, length-slice_split, slice_split_none, slice_split_at}
-use Rattle.l4_choices.specs.Entries.{Entry}
+use Rattle.l4_core_model.specs.Schedules.{Entry}
 use Rattle.l4_words.specs.Lines.{parts_of}
 use Rattle.l4_schedules.specs.InFiles.{is_blank, is_comment, kept_line, list_in_file, trimmed, without_comments}
 use Rattle.l4_schedules.specs.Items.{items_of, item_of}

@@ -7,7 +7,7 @@ use Rattle.std.proofs.lemmas.Bool.Decides.{nat_tests}
 use Rattle.std.proofs.lemmas.Fmt.{decimal_digit, decimal_step}
 use Rattle.std.proofs.lemmas.Iterator.Adapters.{position_from-zero}
 use Rattle.l4_model.specs.Words.{clock_limit}
-use Rattle.l4_choices.specs.Entries.{Entry, TurnOf, TickOf, LetterOf, CoreOf, TickTo}
+use Rattle.l4_core_model.specs.Schedules.{Entry, TurnOf, TickOf, LetterOf, CoreOf, TickTo}
 use Rattle.l4_words.specs.Numbers.{number_of}
 use Rattle.l4_words.proofs.Above.{joined_at}
 use Rattle.l4_words.proofs.Found.{mapped, some_bind, some_then}

@@ -4,7 +4,7 @@ use Rattle.std.specs.Prelude.{count_by, codes, flat_map}
 use Rattle.std.specs.List.{AllByRecursion, slice_split}
 use Rattle.std.proofs.lemmas.Bool.Decides.{nat_tests}
 use Rattle.std.proofs.lemmas.List.Splits.{length-slice_split, slice_split_none, slice_split_at}
-use Rattle.l4_choices.specs.Entries.{Entry}
+use Rattle.l4_core_model.specs.Schedules.{Entry}
 use Rattle.l4_schedules.specs.Items.{items_of, item_of}
 use Rattle.l4_schedules.specs.Written.{schedule_text}
 use Rattle.l4_schedules.proofs.Plain.{IsPlain, no_comma}

@@ -4,7 +4,7 @@ use Rattle.std.specs.Prelude.{◌==◌, codes, flat_map}
 use Rattle.std.specs.List.{list_all}
 use Rattle.std.proofs.lemmas.Bool.{and_parts}
 use Rattle.std.proofs.lemmas.Bool.Decides.{nat_tests}
-use Rattle.l4_choices.specs.Entries.{Entry, TurnOf, TickOf, LetterOf, CoreOf, TickTo}
+use Rattle.l4_core_model.specs.Schedules.{Entry, TurnOf, TickOf, LetterOf, CoreOf, TickTo}
 use Rattle.l4_machine.specs.Entries.{entry_from}
 use Rattle.l4_machine.specs.declared.entries.Entry as code
 use Rattle.l4_schedules.specs.Items.{item_of}

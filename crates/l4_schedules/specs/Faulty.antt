@@ -2,7 +2,7 @@
 use Rattle.std.specs.Prelude.{ℕ, ◌+◌, ◌==◌, nat_lt, if◌then◌else◌, Option, Some, None, Result, Ok, Err, List, [], ◌∷◌, ◌++◌, codes, decimal, flat_map, length}
 use Rattle.std.specs.List.{list_any}
 use Rattle.l4_model.specs.Machine.{Machine}
-use Rattle.l4_choices.specs.Entries.{Entry}
+use Rattle.l4_core_model.specs.Schedules.{Entry}
 use Rattle.l4_machine.specs.declared.outcome.RunFault.{RunFault}
 use Rattle.l4_machine.specs.declared.outcome.RunFault.TheVariants.{Turns, Schedule}
 use Rattle.l4_machine.specs.Entries.{is_entry, most_entries, most_events}

@@ -6,7 +6,7 @@ use Rattle.std.specs.List.{position, slice_split}
 use Rattle.l4_model.specs.Machine.{Machine}
 use Rattle.l4_model.specs.Words.{clock_limit}
 use Rattle.l4_model.specs.Conditions.{◌>>=◌, ◌>>◌}
-use Rattle.l4_choices.specs.Entries.{Entry, TurnOf, TickOf, LetterOf, CoreOf, TickTo}
+use Rattle.l4_core_model.specs.Schedules.{Entry, TurnOf, TickOf, LetterOf, CoreOf, TickTo}
 use Rattle.l4_words.specs.Numbers.{number_of}
 use Rattle.l4_machine.specs.declared.outcome.RunFault.{RunFault}
 use Rattle.l4_machine.specs.declared.outcome.RunFault.TheVariants.{Turns, Schedule}

@@ -1,5 +1,5 @@
 pub mod Faulty
 pub mod InFiles
+pub mod Inner
 pub mod Items
-pub mod Views
 pub mod Written

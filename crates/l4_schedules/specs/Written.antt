@@ -1,7 +1,7 @@
 -- How the list of a schedule is written.
 use Rattle.std.specs.Prelude.{ℕ, ◌+◌, ◌%◌, ◌==◌, Bool, false, if◌then◌else◌, List, [], ◌∷◌, ◌++◌, codes}
 use Rattle.std.specs.List.{join_by}
-use Rattle.l4_choices.specs.Entries.{Entry, CoreOf}
+use Rattle.l4_core_model.specs.Schedules.{Entry, CoreOf}
 use Rattle.l4_schedules.specs.Items.{item_of}
 
 -- The list of some entries: the item of each, with a comma between two.

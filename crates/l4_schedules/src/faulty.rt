@@ -6,10 +6,11 @@ ghost use Rattle.std.specs.String.{string_bytes};
 ghost use Rattle.l4_machine.specs.Entries.{entry_from, most_events};
 ghost use Rattle.l4_schedules.specs.Faulty.{fault, fault_at, fault_line, faults_from, faults_text};
 ghost use Rattle.l4_schedules.specs.Faulty.{faults_within, file_faults, first_hint, hint_by};
-ghost use Rattle.l4_schedules.specs.Faulty.{hint_of, hint_text, list_faults, number_text, spelling_hint};
+ghost use Rattle.l4_schedules.specs.Faulty.{hint_of, hint_text, list_faults, number_text};
+ghost use Rattle.l4_schedules.specs.Faulty.{spelling_hint};
 ghost use Rattle.l4_schedules.specs.InFiles.{is_blank};
 ghost use Rattle.l4_schedules.specs.Items.{items_of};
-ghost use Rattle.l4_schedules.specs.Views.{fault_of};
+ghost use Rattle.l4_schedules.specs.Inner.Views.{fault_of};
 ghost use Rattle.l4_schedules.specs.declared.faulty.ItemHint.TheVariants as these;
 
 use crate::files::{MOST_FILE_BYTES, is_blank, list_in_file};

@@ -1,10 +1,11 @@
 //! The list of a schedule: its items, and the entries that they spell.
-ghost use Rattle.std.specs.Prelude.{◌≡◌, ◌<◌, ◌≤◌, ◌⊎◌, ◌+◌, ◌==◌, ◌++◌, ◌∷◌, [], ℕ, List, IfOk, IfErr};
+ghost use Rattle.std.specs.Prelude.{◌≡◌, ◌<◌, ◌≤◌, ◌⊎◌, ◌+◌, ◌==◌, ◌++◌, ◌∷◌, [], ℕ, List, IfOk};
+ghost use Rattle.std.specs.Prelude.{IfErr};
 ghost use Rattle.std.specs.Prelude.{MatchOption, OnOk, Ok, Err, None, Some, length, count_by, map};
 ghost use Rattle.std.specs.Prelude.{true};
 ghost use Rattle.std.specs.Option.{option_map};
 ghost use Rattle.l4_model.specs.Machine.{most_processors};
-ghost use Rattle.l4_choices.specs.Entries.{Entry as ModelEntry};
+ghost use Rattle.l4_core_model.specs.Schedules.{Entry as ModelEntry};
 ghost use Rattle.l4_machine.specs.declared.outcome.RunFault.TheVariants.{NoMemory as OutOfMemory};
 ghost use Rattle.l4_machine.specs.Entries.{entries_fault, entry_from, is_entry_of, most_events};
 ghost use Rattle.l4_schedules.specs.Items.{items_of, items_left, clock_of, processor_of};

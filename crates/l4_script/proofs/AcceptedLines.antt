@@ -1,13 +1,13 @@
 -- What lines say that are accepted can be spelled.
-use Rattle.std.proofs.Common.{◌≡◌, ℕ, ◌/◌, ◌%◌, ◌^◌, ◌-◌, ◌<◌, ◌≤◌, Bool, true, false, cond, ◌&&◌, List, [], length, take, drop, Some, None, Ok, refl, subst, arith}
+use Rattle.std.proofs.Common.{◌≡◌, ℕ, ◌/◌, ◌%◌, ◌^◌, ◌-◌, ◌<◌, ◌≤◌, Bool, true, false, cond, ◌&&◌, List, [], length, take, drop, Option, Some, None, Ok, refl, subst, arith}
 use Rattle.std.specs.Prelude.{◌==◌, nat_lt, nat_le, codes, bytes_eq}
 use Rattle.std.specs.Option.{option_map}
 use Rattle.std.proofs.lemmas.Bool.{ltb-true, le-leb, and_from}
-use Rattle.l4_model.specs.Words.{Format, W64, W32, word_limit, is_word_in, same_format, GlobalId, is_global_in, has_word_in, Id, NilThread, AnyThread, AnyLocalThread, GlobalThread, id_by, id_in}
-use Rattle.l4_model.specs.Machine.{To, ToId, ToLast, OrderKind, Delete, Instr, Set, Copy, Add, Tag, Vs, Ipc, Ask, Jump, OnErr, End, Declaration}
+use Rattle.l4_model.specs.Words.{Format, word_limit, GlobalId, is_global_in, has_word_in, Id, NilThread, AnyThread, AnyLocalThread, GlobalThread, id_by, id_in}
+use Rattle.l4_model.specs.Machine.{To, ToId, ToLast, OrderKind, Delete, Value, Assign, Instr, Run, Tag, Vs, Ipc, Ask, Jump, OnErr, End, Declaration}
 use Rattle.l4_script.specs.declared.text.fault.TextFaultKind.TheVariants.{BadNumber, BadId, BadCpu, BadLine, TypedItems}
 use Rattle.l4_types.proofs.InFormats.{word_of_its_id}
-use Rattle.l4_script.specs.Judged.{◌>>=◌, must, needs}
+use Rattle.l4_script.specs.Judged.{Judged, ◌>>=◌, must, needs}
 use Rattle.l4_words.specs.Words.{one, two, four, five}
 use Rattle.l4_words.specs.Numbers.{padded_of}
 use Rattle.l4_words.specs.Threads.{thread_of}
@@ -15,19 +15,13 @@ use Rattle.l4_words.proofs.Found.{mapped, some_bind, some_then, some_same}
 use Rattle.l4_script.specs.Lines.{after}
 use Rattle.l4_script.specs.Numbers.{number_of, number_from, word_from, time_from}
 use Rattle.l4_script.specs.Ids.{id_digits, raw_id_of, thread_in, spelled_id_of, id_of}
-use Rattle.l4_script.specs.Statements.{processors_line, processor_of, declaration_of, set_of, copy_of, add_of, tag_of, vs_of, destination_of, ipc_of, bits_of, exregs_of, delete_of, target_of, end_of, instruction_of}
+use Rattle.l4_script.specs.Statements.{processors_line, processor_of, declaration_of, value_of, assign_of, tag_of, vs_of, destination_of, ipc_of, bits_of, exregs_of, delete_of, target_of, end_of, other_of, assigned_or, instruction_of}
 use Rattle.l4_script.specs.Canonical.{is_register, has_destination, has_time, can_be_written}
-use Rattle.l4_script.proofs.Judging.{bind_ok, then_ok, must_ok, needs_ok, chosen, says, same_ok, number_within, number_small}
+use Rattle.l4_script.proofs.Judging.{bind_ok, then_ok, must_ok, needs_ok, chosen, says, same_ok, number_within, number_small, word_needed}
 use Rattle.l4_script.proofs.Times.{time_said}
+use Rattle.l4_script.proofs.Values.{SaysValues, value_said}
 
 -- Numbers
-
-word_needed : (f : Format) (word : List ℕ) (n : ℕ) → word_from f word ≡ Ok n → is_word_in f n ≡ true
-unfolding word_from
-word_needed f word n e =
-    let read = bind_ok (needs (number_of word) BadNumber) _ n e in
-    let small = then_ok (must (nat_lt read.0 (word_limit f)) BadNumber) _ n read.2 in
-    subst (λ (n : ℕ). is_word_in f n ≡ true) (same_ok read.0 n small.1) (must_ok _ BadNumber small.0)
 
 register_within : (word : List ℕ) (n : ℕ) → number_from 1 63 word ≡ Ok n → is_register n ≡ true
 register_within word n e =
@@ -78,34 +72,13 @@ is_said f instr = can_be_written f (2 ^ 64) instr
 moved : (f : Format) (a b : Instr) → a ≡ b → is_said f a ≡ true → is_said f b ≡ true
 moved f a b e h = subst (λ (i : Instr). is_said f i ≡ true) e h
 
-set_said : (f : Format) (operands : List (List ℕ)) (instr : Instr) → set_of f operands ≡ Ok instr → is_said f instr ≡ true
-unfolding set_of
-set_said f operands instr e =
+assign_said : (f : Format) (said : List ℕ → Judged Value) (operands : List (List ℕ)) (instr : Instr) → SaysValues f said → assign_of said operands ≡ Ok instr → is_said f instr ≡ true
+unfolding assign_of
+assign_said f said operands instr values e =
     let words = bind_ok (needs (two operands) BadLine) _ instr e in
     let register = bind_ok (number_from 1 63 words.0.0) _ instr words.2 in
-    let word = bind_ok (word_from f words.0.1) _ instr register.2 in
-    moved f (Set register.0 word.0) instr (same_ok _ _ word.2) (and_from _ _ (register_within words.0.0 register.0 register.1) (word_needed f words.0.1 word.0 word.1))
-
-copy_said : (f : Format) (operands : List (List ℕ)) (instr : Instr) → copy_of operands ≡ Ok instr → is_said f instr ≡ true
-unfolding copy_of
-copy_said f operands instr e =
-    let words = bind_ok (needs (two operands) BadLine) _ instr e in
-    let register = bind_ok (number_from 1 63 words.0.0) _ instr words.2 in
-    let source = bind_ok (number_from 0 63 words.0.1) _ instr register.2 in
-    let below = le-leb source.0 63 (number_within 0 63 words.0.1 source.0 source.1).1 in
-    moved f (Copy register.0 source.0) instr (same_ok _ _ source.2) (and_from _ _ (register_within words.0.0 register.0 register.1) below)
-
-format_itself : (f : Format) → same_format f f ≡ true
-format_itself W64 = refl
-format_itself W32 = refl
-
-add_said : (f : Format) (operands : List (List ℕ)) (instr : Instr) → add_of f operands ≡ Ok instr → is_said f instr ≡ true
-unfolding add_of
-add_said f operands instr e =
-    let words = bind_ok (needs (two operands) BadLine) _ instr e in
-    let register = bind_ok (number_from 1 63 words.0.0) _ instr words.2 in
-    let word = bind_ok (word_from f words.0.1) _ instr register.2 in
-    moved f (Add f register.0 word.0) instr (same_ok _ _ word.2) (and_from _ _ (format_itself f) (and_from _ _ (register_within words.0.0 register.0 register.1) (word_needed f words.0.1 word.0 word.1)))
+    let value = bind_ok (said words.0.1) _ instr register.2 in
+    moved f (Run (Assign register.0 value.0)) instr (same_ok _ _ value.2) (and_from _ _ (register_within words.0.0 register.0 register.1) (values words.0.1 value.0 value.1))
 
 tag_said : (f : Format) (operands : List (List ℕ)) (instr : Instr) → tag_of f operands ≡ Ok instr → is_said f instr ≡ true
 unfolding tag_of
@@ -184,12 +157,9 @@ end_said : (f : Format) (operands : List (List ℕ)) (instr : Instr) → end_of 
 end_said f [] instr e = moved f End instr (same_ok _ _ e) refl
 end_said f _ instr e = absurd cc
 
-pub instruction_said : (f : Format) (name : List ℕ) (operands : List (List ℕ)) (instr : Instr) → instruction_of f name operands ≡ Ok instr → is_said f instr ≡ true
-unfolding instruction_of
-instruction_said f name operands instr e =
-    chosen (is_said f instr ≡ true) (bytes_eq name (codes "set")) (set_of f operands) _ (says instr) e (λ t. set_said f operands instr) (λ e.
-    chosen (is_said f instr ≡ true) (bytes_eq name (codes "copy")) (copy_of operands) _ (says instr) e (λ t. copy_said f operands instr) (λ e.
-    chosen (is_said f instr ≡ true) (bytes_eq name (codes "add")) (add_of f operands) _ (says instr) e (λ t. add_said f operands instr) (λ e.
+other_said : (f : Format) (name : List ℕ) (operands : List (List ℕ)) (instr : Instr) → other_of f name operands ≡ Ok instr → is_said f instr ≡ true
+unfolding other_of
+other_said f name operands instr e =
     chosen (is_said f instr ≡ true) (bytes_eq name (codes "tag")) (tag_of f operands) _ (says instr) e (λ t. tag_said f operands instr) (λ e.
     chosen (is_said f instr ≡ true) (bytes_eq name (codes "vs")) (vs_of f operands) _ (says instr) e (λ t. vs_said f operands instr) (λ e.
     chosen (is_said f instr ≡ true) (bytes_eq name (codes "ipc")) (ipc_of f operands) _ (says instr) e (λ t. ipc_said f operands instr) (λ e.
@@ -197,7 +167,15 @@ instruction_said f name operands instr e =
     chosen (is_said f instr ≡ true) (bytes_eq name (codes "delete")) (delete_of f operands) _ (says instr) e (λ t. delete_said f operands instr) (λ e.
     chosen (is_said f instr ≡ true) (bytes_eq name (codes "jump")) (target_of operands >>= λ place. says (Jump place)) _ (says instr) e (λ t. jump_said f operands instr) (λ e.
     chosen (is_said f instr ≡ true) (bytes_eq name (codes "onerr")) (target_of operands >>= λ place. says (OnErr place)) _ (says instr) e (λ t. onerr_said f operands instr) (λ e.
-    chosen (is_said f instr ≡ true) (bytes_eq name (codes "end")) (end_of operands) _ (says instr) e (λ t. end_said f operands instr) (λ e. absurd cc)))))))))))
+    chosen (is_said f instr ≡ true) (bytes_eq name (codes "end")) (end_of operands) _ (says instr) e (λ t. end_said f operands instr) (λ e. absurd cc))))))))
+
+pub instruction_said : (f : Format) (name : List ℕ) (operands : List (List ℕ)) (instr : Instr) → instruction_of f name operands ≡ Ok instr → is_said f instr ≡ true
+unfolding instruction_of
+instruction_said f name operands instr e = by (value_of f name) refl e
+  where
+    by : (o : Option (List ℕ → Judged Value)) → value_of f name ≡ o → assigned_or o operands (other_of f name operands) ≡ Ok instr → is_said f instr ≡ true
+    by (Some said) is e = assign_said f said operands instr (value_said f name said is) e
+    by None is e = other_said f name operands instr e
 
 -- Declarations
 

@@ -6,7 +6,7 @@ use Rattle.std.proofs.lemmas.Bool.{lt-ltb, le-leb, ltb-true, ltb-false, eq-eqb, 
 use Rattle.std.proofs.lemmas.List.{length_push, length-set, get_or_push, get_or_append_left, get_or-set_same, get_or-set_other}
 use Rattle.std.proofs.lemmas.List.Folds.{list_all-append, list_any-append}
 use Rattle.l4_model.specs.Words.{Format, is_global_in}
-use Rattle.l4_model.specs.Machine.{Instr, Set, Copy, Add, Tag, Vs, Ipc, Ask, Jump, OnErr, End, Declaration, Machine}
+use Rattle.l4_model.specs.Machine.{Assign, Instr, Run, Tag, Vs, Ipc, Ask, Jump, OnErr, End, Declaration, Machine}
 use Rattle.l4_core_model.specs.Local.{declared, undeclared}
 use Rattle.l4_core_model.specs.Runs.{IsMachine}
 use Rattle.l4_script.specs.declared.text.fault.TextFault.{TextFault}
@@ -251,9 +251,7 @@ target_hit (t ∷ ts) m thread place hits kept =
 
 instruction_hit : (f : Format) (targets : List Target) (m : Machine) (place : ℕ) (instr : Instr) → list_any (is_missed m) targets ≡ false → is_said f instr ≡ true → is_kept targets place instr ≡ true
     → can_be_written f (length (declared m place).script) instr ≡ true
-instruction_hit f targets m place (Set register word) hits said kept = said
-instruction_hit f targets m place (Copy register source) hits said kept = said
-instruction_hit f targets m place (Add format register word) hits said kept = said
+instruction_hit f targets m place (Run (Assign register value)) hits said kept = said
 instruction_hit f targets m place (Tag word) hits said kept = said
 instruction_hit f targets m place (Vs id) hits said kept = said
 instruction_hit f targets m place (Ipc to from send receive) hits said kept = said

@@ -1,14 +1,15 @@
 -- What was accepted was accepted by each part; the numbers of accepted words.
-use Rattle.std.proofs.Common.{◌≡◌, ℕ, ◌^◌, ◌<◌, ◌≤◌, Bool, true, false, cond, ◌&&◌, List, drop, take, Option, Some, None, Ok, Err, refl, ap, arith}
-use Rattle.std.specs.Prelude.{nat_le, codes, bytes_eq}
+use Rattle.std.proofs.Common.{◌≡◌, ℕ, ◌^◌, ◌<◌, ◌≤◌, Bool, true, false, cond, ◌&&◌, List, drop, take, Option, Some, None, Ok, Err, refl, ap, subst, arith}
+use Rattle.std.specs.Prelude.{nat_lt, nat_le, codes, bytes_eq}
 use Rattle.std.proofs.lemmas.Bool.{leb-true, and_parts}
+use Rattle.l4_model.specs.Words.{Format, word_limit, is_word_in}
 use Rattle.l4_script.specs.declared.text.fault.TextFaultKind.{TextFaultKind}
 use Rattle.l4_script.specs.declared.text.fault.TextFaultKind.TheVariants.{BadNumber}
 use Rattle.l4_script.specs.Judged.{Judged, ◌>>=◌, ◌>>◌, must, needs}
 use Rattle.l4_words.specs.Numbers.{padded_of}
 use Rattle.l4_words.specs.Numbers as words
 use Rattle.l4_words.proofs.Numerals.{padded_small, decimal_is_written}
-use Rattle.l4_script.specs.Numbers.{number_of, number_from}
+use Rattle.l4_script.specs.Numbers.{number_of, number_from, word_from}
 
 pub bind_ok : {A B : Type 0} (part : Judged A) (rest : A → Judged B) (b : B) → (part >>= rest) ≡ Ok b → (a : A) × (part ≡ Ok a) × (rest a ≡ Ok b)
 bind_ok (Ok a) rest b e = (a, refl, e)
@@ -53,3 +54,10 @@ number_within low high word n e =
     let parts = and_parts (nat_le low read.0) (nat_le read.0 high) (must_ok _ BadNumber within.0) in
     let same : read.0 ≡ n = same_ok read.0 n within.1 in
     (omega (arith, leb-true low read.0 parts.0, same), omega (arith, leb-true read.0 high parts.1, same))
+
+pub word_needed : (f : Format) (word : List ℕ) (n : ℕ) → word_from f word ≡ Ok n → is_word_in f n ≡ true
+unfolding word_from
+word_needed f word n e =
+    let read = bind_ok (needs (number_of word) BadNumber) _ n e in
+    let small = then_ok (must (nat_lt read.0 (word_limit f)) BadNumber) _ n read.2 in
+    subst (λ (n : ℕ). is_word_in f n ≡ true) (same_ok read.0 n small.1) (must_ok _ BadNumber small.0)

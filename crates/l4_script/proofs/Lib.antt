@@ -12,4 +12,5 @@ pub mod ReadingLines
 pub mod Spelled
 pub mod TextRows
 pub mod Times
+pub mod Values
 pub mod Written

@@ -1,18 +1,16 @@
 -- A machine that has a text in a format writes words of it alone.
-use Rattle.std.proofs.Common.{◌≡◌, ℕ, ◌/◌, ◌%◌, ◌^◌, true, ◌&&◌, List, [], ◌∷◌, length, refl}
+use Rattle.std.proofs.Common.{◌≡◌, ℕ, ◌/◌, ◌%◌, ◌^◌, true, List, [], ◌∷◌, length, refl}
 use Rattle.std.specs.Prelude.{◌==◌}
 use Rattle.std.specs.List.{list_all}
 use Rattle.std.proofs.lemmas.Bool.{and_parts, and_from}
-use Rattle.l4_model.specs.Words.{Format, is_word_in, same_format}
-use Rattle.l4_model.specs.Machine.{Instr, Set, Copy, Add, Tag, Vs, Ipc, Ask, Jump, OnErr, End, Declaration}
-use Rattle.l4_model.specs.Formats.{writes_words}
-use Rattle.l4_script.specs.Canonical.{is_register, can_be_written, can_be_declared, WritesItsWords}
+use Rattle.l4_model.specs.Words.{Format, is_word_in}
+use Rattle.l4_model.specs.Machine.{Assign, Instr, Run, Tag, Vs, Ipc, Ask, Jump, OnErr, End, Declaration}
+use Rattle.l4_model.specs.Formats.{gives_words, writes_words}
+use Rattle.l4_script.specs.Canonical.{is_register, has_operand, can_be_assigned, can_be_written, can_be_declared, WritesItsWords}
 use Rattle.l4_script.proofs.Written.{declarable}
 
 instruction_writes : (f : Format) (size : ℕ) (i : Instr) → can_be_written f size i ≡ true → writes_words f i ≡ true
-instruction_writes f size (Set a word) h = (and_parts (is_register a) (is_word_in f word) h).1
-instruction_writes f size (Copy a b) h = refl
-instruction_writes f size (Add format a word) h = (and_parts (same_format format f) (is_register a && is_word_in f word) h).0
+instruction_writes f size (Run (Assign a value)) h = (and_parts (gives_words f value) (has_operand f value) (and_parts (is_register a) (can_be_assigned f value) h).1).0
 instruction_writes f size (Tag word) h = (and_parts (is_word_in f word) (word / 2 ^ 6 % 64 == 0) h).0
 instruction_writes f size (Vs id) h = refl
 instruction_writes f size (Ipc to from send receive) h = refl

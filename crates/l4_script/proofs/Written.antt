@@ -1,5 +1,5 @@
 -- Lines that are written are read: their words, and what these say.
-use Rattle.std.proofs.Common.{◌≡◌, ℕ, zero, suc, ◌/◌, ◌%◌, ◌^◌, ◌-◌, ◌<◌, ◌≤◌, Bool, true, false, not, ◌&&◌, eqb, List, [], ◌∷◌, ◌++◌, length, get_or, cond, Some, None, Ok, refl, ap, sym, ◌∙◌, arith}
+use Rattle.std.proofs.Common.{◌≡◌, ℕ, zero, suc, ◌/◌, ◌%◌, ◌^◌, ◌-◌, ◌<◌, ◌≤◌, Bool, true, false, not, ◌&&◌, eqb, List, [], ◌∷◌, ◌++◌, length, get_or, cond, Some, None, Ok, refl, ap, ◌∙◌, arith}
 use Rattle.std.specs.Prelude.{◌==◌, nat_lt, nat_le, codes, decimal}
 use Rattle.std.specs.Char.{digit_value}
 use Rattle.std.specs.Fmt.{digit_glyph}
@@ -11,8 +11,8 @@ use Rattle.std.proofs.lemmas.List.Elements.{All-nil, All-cons}
 use Rattle.std.proofs.lemmas.List.Folds.{list_all-append}
 use Rattle.std.proofs.lemmas.List.Splits.{slice_split_none, slice_split_at}
 use Rattle.std.proofs.lemmas.Fmt.{decimal_is_IsNumeral}
-use Rattle.l4_model.specs.Words.{Format, W64, W32, word_limit, is_word_in, same_format, GlobalId, is_global_in, has_word_in, Id, NilThread, AnyThread, AnyLocalThread, LocalThread, GlobalThread, Period}
-use Rattle.l4_model.specs.Machine.{To, ToId, ToLast, CancelSend, CancelReceive, CancelBoth, Delete, Instr, Set, Copy, Add, Tag, Vs, Ipc, Ask, Jump, OnErr, End, Declaration}
+use Rattle.l4_model.specs.Words.{Format, W64, W32, word_limit, is_word_in, GlobalId, is_global_in, has_word_in, Id, NilThread, AnyThread, AnyLocalThread, LocalThread, GlobalThread, Period}
+use Rattle.l4_model.specs.Machine.{To, ToId, ToLast, CancelSend, CancelReceive, CancelBoth, Delete, Value, Assign, Instr, Run, Tag, Vs, Ipc, Ask, Jump, OnErr, End, Declaration}
 use Rattle.l4_types.proofs.InFormats.{is_global_too}
 use Rattle.l4_words.specs.Threads.{thread_word}
 use Rattle.l4_words.specs.Words.{words_in}
@@ -20,18 +20,12 @@ use Rattle.l4_words.proofs.Spelled.{fits}
 use Rattle.l4_script.specs.Numbers.{number_of}
 use Rattle.l4_script.specs.Ids.{id_digits}
 use Rattle.l4_script.specs.Lines.{is_printable, has_empty_word, is_skipped, line_of}
-use Rattle.l4_script.specs.Statements.{Heading, format_line, processors_line, processor_of, declaration_of, set_of, copy_of, add_of, tag_of, vs_of, ipc_of, bits_of, exregs_of, delete_of, target_of, instruction_of}
+use Rattle.l4_script.specs.Statements.{Heading, format_line, processors_line, processor_of, declaration_of, value_of, assign_of, tag_of, vs_of, ipc_of, bits_of, exregs_of, delete_of, target_of, other_of, instruction_of}
 use Rattle.l4_script.specs.Texts.{Stage, Start, Processors, Threads, Reading, nothing_read, declared_in, extended_at, thread_line, after_words, after_line}
-use Rattle.l4_script.specs.Canonical.{low_digits, id_word, to_word, exponent_of, ticks_word, time_word, words_of_instruction, words_of_thread, words_of_format, is_register, has_destination, has_time, can_be_written, can_be_declared}
-use Rattle.l4_script.proofs.Spelled.{number_read, ranged_read, word_small, word_read, thread_in_read, id_read, destination_read}
+use Rattle.l4_script.specs.Canonical.{low_digits, id_word, to_word, exponent_of, ticks_word, time_word, words_of_instruction, words_of_thread, words_of_format, keyword_of, operand_of, is_register, has_destination, has_time, can_be_assigned, can_be_written, can_be_declared}
+use Rattle.l4_script.proofs.Spelled.{is_visible, is_plain, number_read, ranged_read, word_small, word_read, thread_in_read, id_read, destination_read}
 use Rattle.l4_script.proofs.Times.{IsTimeOf, spelled_time, time_read}
-
--- Each byte of a word is printable, and no space.
-abbrev is_visible : ℕ → Bool
-is_visible b = nat_lt 32 b && nat_le b 0x7e
-
-abbrev is_plain : List ℕ → Bool
-is_plain w = nat_lt 0 (length w) && list_all is_visible w
+use Rattle.l4_script.proofs.Values.{keyword_is, operand_small, value_read}
 
 abbrev are_plain : List (List ℕ) → Bool
 are_plain words = list_all is_plain words
@@ -206,16 +200,10 @@ two_numbers : (keyword : List ℕ) (a b : ℕ) → not (get_or keyword 0 0 == 59
 two_numbers keyword a b begins plain small_a small_b = and_from _ _ begins (and_from _ _ plain (and_from _ _ (number_is_plain a small_a) (and_from _ _ (number_is_plain b small_b) refl)))
 
 pub instruction_is_line : (f : Format) (size : ℕ) (i : Instr) → size ≤ 1024 → can_be_written f size i ≡ true → are_line (words_of_instruction f i) ≡ true
-instruction_is_line f size (Set a word) l h =
-    let parts = and_parts (is_register a) (is_word_in f word) h in
-    two_numbers (codes "set") a word refl refl (register_range a parts.0).2 (word_fits f word parts.1)
-instruction_is_line f size (Copy a b) l h =
-    let parts = and_parts (is_register a) (nat_le b 63) h in
-    let upper = leb-true b 63 parts.1 in
-    two_numbers (codes "copy") a b refl refl (register_range a parts.0).2 (omega (arith, upper))
-instruction_is_line f size (Add format a word) l h =
-    let parts = and_parts (is_register a) (is_word_in f word) (and_parts (same_format format f) (is_register a && is_word_in f word) h).1 in
-    two_numbers (codes "add") a word refl refl (register_range a parts.0).2 (word_fits f word parts.1)
+instruction_is_line f size (Run (Assign a value)) l h =
+    let parts = and_parts (is_register a) (can_be_assigned f value) h in
+    let keyword = keyword_is value in
+    two_numbers (keyword_of value) a (operand_of value) keyword.begins keyword.plain (register_range a parts.0).2 (operand_small f value parts.1)
 instruction_is_line f size (Tag word) l h = one_number (codes "tag") word refl refl (word_fits f word (and_parts _ _ h).0)
 instruction_is_line f size (Vs id) l h = and_from _ true (id_is_plain f id h) refl
 instruction_is_line f size (Ipc to from send receive) l h =
@@ -231,27 +219,18 @@ instruction_is_line f size End l h = refl
 
 -- What a line says
 
-formats_are_one : (f g : Format) → same_format f g ≡ true → f ≡ g
-formats_are_one W64 W64 h = refl
-formats_are_one W32 W32 h = refl
-formats_are_one W64 W32 h = absurd cc
-formats_are_one W32 W64 h = absurd cc
+assign_read : (n : ℕ) (r : Reading) (a : ℕ) (value : Value) → 0 < length r.machine.threads → (is_register a && can_be_assigned r.format value) ≡ true
+    → thread_line n r (words_of_instruction r.format (Run (Assign a value))) ≡ extended_at n r (Run (Assign a value))
+unfolding thread_line instruction_of assign_of
+assign_read n r a value some h =
+    let parts = and_parts (is_register a) (can_be_assigned r.format value) h in
+    let range = register_range a parts.0 in
+    let said = value_read r.format value parts.1 in
+    rw ((keyword_is value).no_thread, lt-ltb 0 (length r.machine.threads) some, said.keyword, ranged_read 1 63 a range.0 range.1 (omega arith), said.operand) refl
 
 pub instruction_read : (n : ℕ) (r : Reading) (size : ℕ) (i : Instr) → 0 < length r.machine.threads → size ≤ 1024 → can_be_written r.format size i ≡ true → thread_line n r (words_of_instruction r.format i) ≡ extended_at n r i
-unfolding thread_line instruction_of set_of copy_of add_of tag_of vs_of ipc_of bits_of exregs_of delete_of target_of
-instruction_read n r size (Set a word) some l h =
-    let parts = and_parts (is_register a) (is_word_in r.format word) h in
-    let range = register_range a parts.0 in
-    rw (lt-ltb 0 (length r.machine.threads) some, ranged_read 1 63 a range.0 range.1 (omega arith), word_read r.format word parts.1) refl
-instruction_read n r size (Copy a b) some l h =
-    let parts = and_parts (is_register a) (nat_le b 63) h in
-    let range = register_range a parts.0 in
-    rw (lt-ltb 0 (length r.machine.threads) some, ranged_read 1 63 a range.0 range.1 (omega arith), ranged_read 0 63 b (omega arith) (leb-true b 63 parts.1) (omega arith)) refl
-instruction_read n r size (Add format a word) some l h =
-    let both = and_parts (same_format format r.format) (is_register a && is_word_in r.format word) h in
-    let parts = and_parts (is_register a) (is_word_in r.format word) both.1 in
-    let range = register_range a parts.0 in
-    rw (lt-ltb 0 (length r.machine.threads) some, ranged_read 1 63 a range.0 range.1 (omega arith), word_read r.format word parts.1) (ap (λ (g : Format). extended_at n r (Add g a word)) (sym (formats_are_one format r.format both.0)))
+unfolding thread_line instruction_of value_of other_of tag_of vs_of ipc_of bits_of exregs_of delete_of target_of
+instruction_read n r size (Run (Assign a value)) some l h = assign_read n r a value some h
 instruction_read n r size (Tag word) some l h =
     let parts = and_parts _ _ h in
     rw (lt-ltb 0 (length r.machine.threads) some, word_read r.format word parts.0, parts.1) refl

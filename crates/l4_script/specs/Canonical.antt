@@ -3,9 +3,9 @@
 use Rattle.std.specs.Prelude.{ℕ, zero, suc, ◌≡◌, ◌≤◌, ◌+◌, ◌*◌, ◌/◌, ◌%◌, ◌^◌, Bool, true, false, not, ◌&&◌, ◌==◌, nat_lt, nat_le, if◌then◌else◌, is_some, Ok, Option, Some, None, List, [], ◌∷◌, ◌++◌, length, map, flat_map, find, codes, decimal}
 use Rattle.std.specs.Fmt.{digit_glyph}
 use Rattle.std.specs.List.{list_all, list_any, range_with_len}
-use Rattle.l4_model.specs.Words.{Format, W64, W32, is_word_in, same_format, is_global_in, has_word_in, last_register, Id, NilThread, AnyThread, AnyLocalThread, LocalThread, GlobalThread, Period}
-use Rattle.l4_model.specs.Machine.{Instr, Set, Copy, Add, Tag, Vs, Ipc, To, ToId, ToLast, Ask, CancelSend, CancelReceive, CancelBoth, Delete, Jump, OnErr, End, Declaration, Machine, most_processors, most_threads, most_instructions}
-use Rattle.l4_model.specs.Formats.{is_of_format}
+use Rattle.l4_model.specs.Words.{Format, W64, W32, is_word_in, is_global_in, has_word_in, last_register, Id, NilThread, AnyThread, AnyLocalThread, LocalThread, GlobalThread, Period}
+use Rattle.l4_model.specs.Machine.{Value, Word, Register, Sum, Assign, Instr, Run, Tag, Vs, Ipc, To, ToId, ToLast, Ask, CancelSend, CancelReceive, CancelBoth, Delete, Jump, OnErr, End, Declaration, Machine, most_processors, most_threads, most_instructions}
+use Rattle.l4_model.specs.Formats.{gives_words, is_of_format}
 use Rattle.l4_core_model.specs.Runs.{IsMachine}
 use Rattle.l4_words.specs.Lines.{line_of_words}
 use Rattle.l4_words.specs.Threads.{thread_word}
@@ -52,10 +52,21 @@ time_word (Some ticks) = if ticks == 0 then codes "zero" else ticks_word ticks (
 
 -- Lines, as the lists of their words
 
+-- Which line assigns a value, and the number that stands there last.
+
+abbrev pub keyword_of : Value → List ℕ
+keyword_of (Word word) = codes "set"
+keyword_of (Register b) = codes "copy"
+keyword_of (Sum format word) = codes "add"
+
+abbrev pub operand_of : Value → ℕ
+operand_of (Word word) = word
+operand_of (Register b) = b
+operand_of (Sum format word) = word
+
 abbrev pub words_of_instruction : Format → Instr → List (List ℕ)
-words_of_instruction f (Set a word) = codes "set" ∷ decimal a ∷ decimal word ∷ []
-words_of_instruction f (Copy a b) = codes "copy" ∷ decimal a ∷ decimal b ∷ []
-words_of_instruction f (Add format a word) = codes "add" ∷ decimal a ∷ decimal word ∷ []
+words_of_instruction f (Run (Assign a value)) =
+    keyword_of value ∷ decimal a ∷ decimal (operand_of value) ∷ []
 words_of_instruction f (Tag word) = codes "tag" ∷ decimal word ∷ []
 words_of_instruction f (Vs id) = codes "vs" ∷ id_word f id ∷ []
 words_of_instruction f (Ipc to from send receive) =
@@ -109,12 +120,16 @@ abbrev pub has_time : Period → Bool
 has_time None = true
 has_time (Some ticks) = is_some (exponent_of ticks)
 
+abbrev pub has_operand : Format → Value → Bool
+has_operand f (Register b) = nat_le b last_register
+has_operand f value = is_word_in f (operand_of value)
+
+abbrev pub can_be_assigned : Format → Value → Bool
+can_be_assigned f value = gives_words f value && has_operand f value
+
 -- An instruction of a script of this size.
 abbrev pub can_be_written : Format → (size : ℕ) → Instr → Bool
-can_be_written f size (Set a word) = is_register a && is_word_in f word
-can_be_written f size (Copy a b) = is_register a && nat_le b last_register
-can_be_written f size (Add format a word) = same_format format f &&
-    (is_register a && is_word_in f word)
+can_be_written f size (Run (Assign a value)) = is_register a && can_be_assigned f value
 can_be_written f size (Tag word) = is_word_in f word && word / 2 ^ 6 % 64 == 0
 can_be_written f size (Vs id) = has_word_in f id
 can_be_written f size (Ipc to from send receive) = has_destination f to && has_word_in f from &&

@@ -1,14 +1,10 @@
-pub mod Calls
 pub mod Canonical
 pub mod Faults
-pub mod Headings
 pub mod Ids
+pub mod Inner
 pub mod Judged
 pub mod Lines
 pub mod Machines
 pub mod Numbers
-pub mod Places
-pub mod Scripts
-pub mod Stages
 pub mod Statements
 pub mod Texts

@@ -4,7 +4,7 @@ use Rattle.std.specs.Prelude.{ℕ, ◌/◌, ◌%◌, ◌^◌, ◌-◌, Bool, tru
 use Rattle.std.specs.Option.{option_map}
 use Rattle.std.specs.Str.{bytes_eq}
 use Rattle.l4_model.specs.Words.{Format, W64, W32, last_register}
-use Rattle.l4_model.specs.Machine.{Instr, Set, Copy, Add, Tag, Vs, Ipc, To, ToId, ToLast, Ask, OrderKind, CancelSend, CancelReceive, CancelBoth, Delete, Jump, OnErr, End, Declaration, Machine, most_processors, most_threads, most_instructions}
+use Rattle.l4_model.specs.Machine.{Value, Word, Register, Sum, Assign, Instr, Run, Tag, Vs, Ipc, To, ToId, ToLast, Ask, OrderKind, CancelSend, CancelReceive, CancelBoth, Delete, Jump, OnErr, End, Declaration, Machine, most_processors, most_threads, most_instructions}
 use Rattle.l4_script.specs.declared.text.fault.TextFaultKind.TheVariants.{BadLine, BadNumber, BadId, BadCpu, TypedItems, DoubleId, TooManyThreads, TooManyInstructions}
 use Rattle.l4_script.specs.Judged.{Judged, ◌>>=◌, ◌>>◌, must, needs}
 use Rattle.l4_script.specs.Numbers.{number_of, number_from, word_from, time_from}
@@ -80,29 +80,32 @@ declaration_of format cpus operands = do
   space ← number_from 0 (2 ^ 32 - 1) words.4
   Ok (record { id = id; cpu = cpu; space = space; script = [] })
 
--- `set A W`, behind its first word.
-unfoldable pub set_of : Format → List (List ℕ) → Judged Instr
-set_of format operands = do
-  numbers ← needs (two operands) BadLine
-  register ← number_from 1 last_register numbers.0
-  word ← word_from format numbers.1
-  Ok (Set register word)
+-- What a register becomes, by the last word of a line: a word, what a register has, or a sum.
 
--- `copy A B`, behind its first word.
-unfoldable pub copy_of : List (List ℕ) → Judged Instr
-copy_of operands = do
-  numbers ← needs (two operands) BadLine
-  register ← number_from 1 last_register numbers.0
-  source ← number_from 0 last_register numbers.1
-  Ok (Copy register source)
+abbrev pub word_value : Format → List ℕ → Judged Value
+word_value format operand = word_from format operand >>= λ word. Ok (Word word)
 
--- `add A W`, behind its first word.
-unfoldable pub add_of : Format → List (List ℕ) → Judged Instr
-add_of format operands = do
+abbrev pub register_value : List ℕ → Judged Value
+register_value operand = number_from 0 last_register operand >>= λ b. Ok (Register b)
+
+abbrev pub sum_value : Format → List ℕ → Judged Value
+sum_value format operand = word_from format operand >>= λ word. Ok (Sum format word)
+
+-- How a line says what a register becomes, by its first word.
+unfoldable pub value_of : Format → (name : List ℕ) → Option (List ℕ → Judged Value)
+value_of format name =
+    if bytes_eq name (codes "set") then Some (word_value format)
+    else (if bytes_eq name (codes "copy") then Some register_value
+    else (if bytes_eq name (codes "add") then Some (sum_value format)
+    else None))
+
+-- `set A W`, `copy A B` or `add A W`, behind its first word.
+unfoldable pub assign_of : (List ℕ → Judged Value) → List (List ℕ) → Judged Instr
+assign_of said operands = do
   numbers ← needs (two operands) BadLine
   register ← number_from 1 last_register numbers.0
-  word ← word_from format numbers.1
-  Ok (Add format register word)
+  value ← said numbers.1
+  Ok (Run (Assign register value))
 
 -- `tag W`, behind its first word: bits 6 to 11 are the number of typed words.
 unfoldable pub tag_of : Format → List (List ℕ) → Judged Instr
@@ -176,13 +179,10 @@ abbrev pub end_of : List (List ℕ) → Judged Instr
 end_of [] = Ok End
 end_of _ = Err BadLine
 
--- An instruction by its first word.
-unfoldable pub instruction_of : Format → (name : List ℕ) → (operands : List (List ℕ)) → Judged Instr
-instruction_of format name operands =
-    if bytes_eq name (codes "set") then set_of format operands
-    else (if bytes_eq name (codes "copy") then copy_of operands
-    else (if bytes_eq name (codes "add") then add_of format operands
-    else (if bytes_eq name (codes "tag") then tag_of format operands
+-- An instruction that assigns no value, by its first word.
+unfoldable pub other_of : Format → (name : List ℕ) → (operands : List (List ℕ)) → Judged Instr
+other_of format name operands =
+    if bytes_eq name (codes "tag") then tag_of format operands
     else (if bytes_eq name (codes "vs") then vs_of format operands
     else (if bytes_eq name (codes "ipc") then ipc_of format operands
     else (if bytes_eq name (codes "exregs") then exregs_of format operands
@@ -190,7 +190,17 @@ instruction_of format name operands =
     else (if bytes_eq name (codes "jump") then jump_of operands
     else (if bytes_eq name (codes "onerr") then on_error_of operands
     else (if bytes_eq name (codes "end") then end_of operands
-    else Err BadLine))))))))))
+    else Err BadLine)))))))
+
+abbrev pub assigned_or : Option (List ℕ → Judged Value) → (operands : List (List ℕ)) →
+    Judged Instr → Judged Instr
+assigned_or (Some said) operands other = assign_of said operands
+assigned_or None operands other = other
+
+-- An instruction by its first word.
+unfoldable pub instruction_of : Format → (name : List ℕ) → (operands : List (List ℕ)) → Judged Instr
+instruction_of format name operands =
+    assigned_or (value_of format name) operands (other_of format name operands)
 
 -- Adds a thread, unless there are too many or its number is taken.
 unfoldable pub declare : Declaration → Machine → Judged Machine

@@ -1,7 +1,9 @@
 //! The instructions of a script.
 ghost use Rattle.std.specs.Prelude.{◌≡◌, ◌<◌, IfSome, IsSome, ◌↔◌};
 ghost use Rattle.l4_model.specs.Words.{register_count};
-ghost use Rattle.l4_types.specs.PeriodView.{IsTimely};
+ghost use Rattle.l4_model.specs.Rules.{assigned_by};
+ghost use Rattle.l4_types.specs.Inner.PeriodView.{IsTimely};
+ghost use Rattle.l4_script.specs.Inner.Scripts.{instr_of};
 
 use l4_types::ids::ThreadId;
 use l4_types::registers::MESSAGE_REGISTERS;
@@ -114,8 +116,8 @@ pub struct Ipc {
 }
 
 impl Model for Ipc {
-    ghost use Rattle.l4_types.specs.PeriodView.{IsTimely};
-    ghost use Rattle.l4_script.specs.Calls.{Call};
+    ghost use Rattle.l4_types.specs.Inner.PeriodView.{IsTimely};
+    ghost use Rattle.l4_script.specs.Inner.Calls.{Call};
 
     ghost Value = { Call };
 
@@ -215,4 +217,19 @@ pub enum Instr {
     OnErr(u64),
     /// The thread has ended.
     End,
+}
+
+impl Instr {
+    /// The register that it assigns a value.
+    pub fn assigned(&self) -> Option<Register>
+        ensures { result ≡ assigned_by (instr_of self.now) }
+    {
+        match *self {
+            Instr::Set(register, _)
+            | Instr::Copy(register, _)
+            | Instr::Add(register, _)
+            | Instr::ShortAdd(register, _) => Some(register),
+            _ => None,
+        }
+    }
 }

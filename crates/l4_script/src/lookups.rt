@@ -1,10 +1,11 @@
 //! Looking declared threads up.
 ghost use Rattle.std.specs.Prelude.{◌≡◌, ◌<◌, is_some, unwrap_or, IsSome, slice_get};
 ghost use Rattle.std.specs.Option.{option_copied, option_map};
-ghost use Rattle.l4_model.specs.Machine.{End, declaration_of, instruction_at, most_instructions, same_space};
+ghost use Rattle.l4_model.specs.Machine.{End, declaration_of, instruction_at, most_instructions};
+ghost use Rattle.l4_model.specs.Machine.{same_space};
 ghost use Rattle.l4_model.specs.Rules.{is_admitted, permitted};
 ghost use Rattle.l4_types.specs.StepView.{order_kind_of};
-ghost use Rattle.l4_script.specs.Scripts.{instr_of};
+ghost use Rattle.l4_script.specs.Inner.Scripts.{instr_of};
 
 use crate::instructions::Instr;
 use crate::machine::{Declaration, Machine};

@@ -1,9 +1,12 @@
 //! The machine that a text declares: its threads, and their scripts.
-ghost use Rattle.std.specs.Prelude.{◌≡◌, ◌<◌, ◌≤◌, ◌+◌, ◌-◌, ◌∷◌, [], ◌++◌, length, map, false, true, OnErr, OnOk, IfOk, IfSome, IsSome, ◌↔◌, slice_set};
-ghost use Rattle.l4_model.specs.Machine.{place_of, most_processors, most_threads, most_instructions};
+ghost use Rattle.std.specs.Prelude.{◌≡◌, ◌<◌, ◌≤◌, ◌+◌, ◌-◌, ◌∷◌, [], ◌++◌, length, map, false};
+ghost use Rattle.std.specs.Prelude.{true, OnErr, OnOk, IfOk, IfSome, IsSome, ◌↔◌, slice_set};
+ghost use Rattle.l4_model.specs.Machine.{place_of, most_processors, most_threads};
+ghost use Rattle.l4_model.specs.Machine.{most_instructions};
 ghost use Rattle.l4_core_model.specs.Runs.{IsMachine};
-ghost use Rattle.l4_script.specs.Scripts.{instr_of};
-ghost use Rattle.l4_script.specs.Machines.{is_taken, last_thread, machine_with, with_instruction, with_thread, extended};
+ghost use Rattle.l4_script.specs.Inner.Scripts.{instr_of};
+ghost use Rattle.l4_script.specs.Machines.{is_taken, last_thread, machine_with, with_instruction};
+ghost use Rattle.l4_script.specs.Machines.{with_thread, extended};
 
 use crate::instructions::Instr;
 use crate::places::Places;
@@ -33,7 +36,7 @@ impl Model for Declaration {
 
     ghost Value = { ModelDeclaration };
 
-    ghost use Rattle.l4_script.specs.Scripts.{instr_of};
+    ghost use Rattle.l4_script.specs.Inner.Scripts.{instr_of};
 
     ghost view = { λ d. record {
       id = d.id;
@@ -132,7 +135,7 @@ impl Model for Machine {
 
     ghost view = { λ m. machine_with m.retargeting m.cpus m.threads.items };
 
-    ghost use Rattle.l4_script.specs.Places.{place_by};
+    ghost use Rattle.l4_script.specs.Inner.Places.{place_by};
 
     ghost invariant = { λ m. IsLawful (machine_with m.retargeting m.cpus m.threads.items)
         × AreFound (place_by m.places) (machine_with m.retargeting m.cpus m.threads.items) };

@@ -2,7 +2,7 @@
 ghost use Rattle.std.specs.Prelude.{◌≡◌, ◌==◌, ℕ, if◌then◌else◌, Some, None, OnErr, OnOk, IfOk};
 ghost use Rattle.std.specs.Prelude.{nat_eq};
 ghost use Rattle.std.specs.HashMap.{get};
-ghost use Rattle.l4_script.specs.Places.{place_by, slot_of};
+ghost use Rattle.l4_script.specs.Inner.Places.{place_by, slot_of};
 
 use l4_types::errors::NoMemory;
 use std::alloc::Global;

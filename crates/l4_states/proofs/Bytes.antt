@@ -1,7 +1,7 @@
 -- Different lists of numbers have different bytes.
 use Rattle.std.proofs.Common.{◌≡◌, ℕ, zero, suc, ◌+◌, ◌/◌, ◌%◌, Bool, true, false, cond, ◌==◌, nat_lt, List, [], ◌∷◌, ◌++◌, replicate, refl, sym, ap, ◌∙◌, arith}
 use Rattle.std.proofs.lemmas.Bool.{ltb-true, eqb-true}
-use Rattle.l4_states.specs.Bytes.{put_by, put_number, Token, Zeros, Above, longest_run, ended, tokens_from, put_tokens, bytes_of}
+use Rattle.l4_states.specs.Inner.Bytes.{put_by, put_number, Token, Zeros, Above, longest_run, ended, tokens_from, put_tokens, bytes_of}
 
 -- A code has what is shown of a value, and what follows, apart from all others.
 abbrev pub IsApart : {A B : Type 0} → (A → B) → (A → List ℕ → List ℕ) → Type 0

@@ -9,8 +9,7 @@ use Rattle.l4_model.specs.Conditions.{◌>>=◌}
 use Rattle.l4_model.proofs.Chains.{some_is, bind_then}
 use Rattle.l4_core_model.specs.Letters.{Letter}
 use Rattle.l4_core_model.specs.Runs.{System, letters, Action, Handles, Turns, Ticks, Happened, happens, Run, core_run, opening_run, opening_system, then_event}
-use Rattle.l4_core_model.specs.Schedules.{least_deadline}
-use Rattle.l4_choices.specs.Entries.{TickOf, LetterOf, CoreOf, entry_event}
+use Rattle.l4_core_model.specs.Schedules.{least_deadline, TickOf, LetterOf, CoreOf, entry_event}
 use Rattle.l4_states.specs.Choices.{choice_of, choice, after_entry, after_choices, IsLeastTick, AreLeastTicks, IsLeastRun}
 use Rattle.l4_states.proofs.Reached.{IsBounded, opening_bounded, handles_at, turns_at, ticks_at, from_below}
 

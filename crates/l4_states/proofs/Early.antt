@@ -14,12 +14,11 @@ use Rattle.l4_core_model.specs.Acts.{Work}
 use Rattle.l4_core_model.specs.Turns.{advance, turn}
 use Rattle.l4_core_model.specs.Mail.{handle}
 use Rattle.l4_core_model.specs.Runs.{Action, Handles, Turns, Ticks, Happened, System, done, happens, letters, opening_system, processors, taken}
-use Rattle.l4_core_model.specs.Schedules.{least_deadline}
-use Rattle.l4_split.proofs.Events.{advance_then}
+use Rattle.l4_core_model.specs.Schedules.{least_deadline, CoreOf, LetterOf, TickOf}
+use Rattle.l4_refines.proofs.Events.{advance_then}
 use Rattle.l4_merge.specs.Transitions.{Handled, LocalEvent, Transition, Turned, handled_by, happened_by, is_turn, letters_with, posted_by, told_by, work_of}
 use Rattle.l4_merge.specs.LocalTraces.{LocalTrace, empty_past}
 use Rattle.l4_merge.proofs.ClocksOfEvents.{turned_clock}
-use Rattle.l4_choices.specs.Entries.{CoreOf, LetterOf, TickOf}
 use Rattle.l4_explore.specs.Tries.{deepest}
 use Rattle.l4_states.specs.Choices.{IsEarly, IsNear, after_entry, choice}
 

@@ -8,9 +8,8 @@ use Rattle.l4_model.specs.Machine.{Machine}
 use Rattle.l4_model.specs.Conditions.{◌>>=◌}
 use Rattle.l4_model.proofs.Chains.{some_is, bind_then}
 use Rattle.l4_core_model.specs.Runs.{System, Action, Happened, happens, Run, opening_run, then_event, at_rest}
-use Rattle.l4_core_model.specs.Schedules.{or_stays}
-use Rattle.l4_shifted.specs.Shifted.{IsShifted}
-use Rattle.l4_choices.specs.Entries.{Entry, entry_event, replays}
+use Rattle.l4_core_model.specs.Schedules.{or_stays, Entry, entry_event, replays}
+use Rattle.l4_bisimilar.specs.Shifted.{IsShifted}
 use Rattle.l4_explore.specs.Search.{Seen, seen_at, unseen}
 use Rattle.l4_explore.proofs.Orders.{not_after_length}
 use Rattle.l4_states.specs.Choices.{after_choices, after_entry, choice, IsLeastRun}

@@ -12,17 +12,14 @@ use Rattle.l4_core_model.specs.Local.{Local}
 use Rattle.l4_core_model.specs.Acts.{Work}
 use Rattle.l4_core_model.specs.Turns.{advance, choice as core_choice, does_choice, opened, turn, is_busy}
 use Rattle.l4_core_model.specs.Runs.{System, Posted, letters, Action, Handles, Turns, Ticks, Happened, happens, done, Run, IsMachine, core_run, opening_run, opening_system, processors, then_event, is_empty, local_at_rest, at_rest}
-use Rattle.l4_core_model.specs.Schedules.{least_deadline}
-use Rattle.l4_choices.specs.Entries.{Entry, TickOf, LetterOf, CoreOf, entry_event}
+use Rattle.l4_core_model.specs.Schedules.{least_deadline, Entry, TickOf, LetterOf, CoreOf, entry_event}
 use Rattle.l4_core_model.proofs.Changed.{same_nat}
-use Rattle.l4_split.proofs.Events.{advance_then}
+use Rattle.l4_refines.proofs.Events.{advance_then}
 use Rattle.l4_explore.specs.Tries.{State, AreSchedules, StandsForAll}
-use Rattle.l4_similar.proofs.OfSystems.{pared_contents}
-use Rattle.l4_shifted.specs.Shifted.{AreShifted, IsShifted, ahead}
-use Rattle.l4_shifted.proofs.OfSystems.{are_bare, are_like, bare_local, handles_shifted, same_local, ticks_shifted, turns_shifted}
-use Rattle.l4_shifted.proofs.OfTurns.{AreWorks, turn_like}
-use Rattle.l4_shifted.proofs.Works.{IsLike}
-use Rattle.l4_states.specs.Codes.{code_of}
+use Rattle.l4_bisimilar.proofs.Numbers.{pared_contents}
+use Rattle.l4_bisimilar.specs.Shifted.{AreShifted, IsShifted, ahead}
+use Rattle.l4_bisimilar.proofs.Times.{AreWorks, IsLike, are_bare, are_like, bare_local, handles_shifted, same_local, ticks_shifted, turn_like, turns_shifted}
+use Rattle.l4_states.specs.Inner.Codes.{code_of}
 use Rattle.l4_states.specs.Choices.{choice, after_entry, after_choices, state_in, state_after, IsEarly, IsReached, LeadsEarly}
 use Rattle.l4_states.proofs.Systems.{are_coded}
 

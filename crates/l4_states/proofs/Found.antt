@@ -4,10 +4,10 @@ use Rattle.std.specs.Option.{option_map}
 use Rattle.std.proofs.lemmas.Bool.{cases_lt}
 use Rattle.l4_model.specs.Machine.{Machine}
 use Rattle.l4_core_model.specs.Runs.{System, IsMachine, opening_system}
-use Rattle.l4_shifted.specs.Shifted.{IsShifted}
+use Rattle.l4_bisimilar.specs.Shifted.{IsShifted}
 use Rattle.l4_explore.specs.Tries.{State}
 use Rattle.l4_explore.specs.Search.{Seen, seen_at, IsFound}
-use Rattle.l4_explore.specs.States.{AreAllStates, AreCut}
+use Rattle.l4_explore.specs.Inner.States.{AreAllStates, AreCut}
 use Rattle.l4_explore.proofs.Orders.{not_after_length}
 use Rattle.l4_states.specs.Choices.{after_choices, state_in, state_after, IsLeastRun}
 use Rattle.l4_states.specs.Listed.{AreAllListed, GoesFar, IsCutOff, IsListed, LeadsSoon}

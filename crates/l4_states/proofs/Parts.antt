@@ -9,10 +9,10 @@ use Rattle.l4_model.specs.Steps.{order_kind_code}
 use Rattle.l4_core_model.specs.Letters.{Refusal, TimedOut, Nobody, Cancelled, Dropped, Result, Delivered, Refused, Cause, ByTimeout, ByCancel, ByDeletion, Content, SendLetter, DoneLetter, WithdrawLetter, GoneLetter, OrderLetter, OrderDoneLetter, RetargetLetter}
 use Rattle.l4_core_model.specs.Plain.{Waiting, Plain}
 use Rattle.l4_core_model.specs.Local.{Local}
-use Rattle.l4_similar.specs.Similar.{numberless_content, numberless_name, numberless_owed}
-use Rattle.l4_shifted.specs.Shifted.{ahead, relative_thread, timeless_phase, timeless_send}
-use Rattle.l4_shifted.proofs.OfSystems.{bare_local}
-use Rattle.l4_states.specs.Codes.{number_code, flag_code, optional, each, listed, chained, length_code, sized, global_code, id_code, receive_code, message_code, send_code, asked_code, phase_code, context_code, thread_code, waiting_code, armed_code, lists_code, name_code, owed_code, local_code, refusal_code, result_code, cause_code, content_code}
+use Rattle.l4_bisimilar.specs.Similar.{numberless_content, numberless_name, numberless_owed}
+use Rattle.l4_bisimilar.specs.Shifted.{ahead, relative_thread, timeless_phase, timeless_send}
+use Rattle.l4_bisimilar.proofs.Times.{bare_local}
+use Rattle.l4_states.specs.Inner.Codes.{number_code, flag_code, optional, each, listed, chained, length_code, sized, global_code, id_code, receive_code, message_code, send_code, asked_code, phase_code, context_code, thread_code, waiting_code, armed_code, lists_code, name_code, owed_code, local_code, refusal_code, result_code, cause_code, content_code}
 use Rattle.l4_states.proofs.Bytes.{first_is, rest_is}
 
 -- A code has a value, and what follows, apart from all others.

@@ -15,8 +15,8 @@ use Rattle.l4_core_model.specs.Mail.{handle}
 use Rattle.l4_core_model.specs.Turns.{turn, advance}
 use Rattle.l4_core_model.specs.Runs.{System, Posted, letters, is_between, without_first, posted, taken, done, Action, Handles, Turns, Ticks, Happened, happens, Run, IsMachine, core_run, opening_run, opening_system, then_event}
 use Rattle.l4_core_model.proofs.Changed.{length-changed}
-use Rattle.l4_split.proofs.Law.{run_facts}
-use Rattle.l4_split.proofs.Letters.Addressed.{IsAddressedTo}
+use Rattle.l4_refines.proofs.Law.{run_facts}
+use Rattle.l4_refines.proofs.Letters.Addressed.{IsAddressedTo}
 use Rattle.l4_states.specs.Choices.{IsReached}
 
 -- The processors are those of the machine, and letters come from them.

@@ -10,13 +10,13 @@ use Rattle.l4_core_model.specs.Letters.{Content, DoneLetter, GoneLetter, Letter,
 use Rattle.l4_core_model.specs.Plain.{Plain}
 use Rattle.l4_core_model.specs.Local.{Local}
 use Rattle.l4_core_model.specs.Runs.{System, letters, processors, IsMachine}
-use Rattle.l4_choices.specs.Alike.{contents}
-use Rattle.l4_similar.specs.Similar.{numberless_content, numberless_owed}
-use Rattle.l4_similar.proofs.OfSystems.{pared_contents}
-use Rattle.l4_shifted.specs.Shifted.{IsShifted, ahead, relative_thread, timeless_phase, timeless_send}
-use Rattle.l4_shifted.proofs.OfSystems.{are_bare, are_shifted, bare_local}
-use Rattle.l4_states.specs.Bytes.{bytes_of}
-use Rattle.l4_states.specs.Codes.{each, armed_code, asked_code, chained, content_code, context_code, flag_code, lists_code, number_code, optional, owed_code, phase_code, send_code, thread_code, waiting_code, sized, length_code, local_code, mail_from_code, mail_to_code, system_code, code_of}
+use Rattle.l4_bisimilar.specs.Alike.{contents}
+use Rattle.l4_bisimilar.specs.Similar.{numberless_content, numberless_owed}
+use Rattle.l4_bisimilar.proofs.Numbers.{pared_contents}
+use Rattle.l4_bisimilar.specs.Shifted.{IsShifted, ahead, relative_thread, timeless_phase, timeless_send}
+use Rattle.l4_bisimilar.proofs.Times.{are_bare, are_shifted, bare_local}
+use Rattle.l4_states.specs.Inner.Bytes.{bytes_of}
+use Rattle.l4_states.specs.Inner.Codes.{each, armed_code, asked_code, chained, content_code, context_code, flag_code, lists_code, number_code, optional, owed_code, phase_code, send_code, thread_code, waiting_code, sized, length_code, local_code, mail_from_code, mail_to_code, system_code, code_of}
 use Rattle.l4_states.specs.Choices.{IsCoded}
 use Rattle.l4_states.proofs.Bytes.{bytes_apart}
 use Rattle.l4_states.proofs.Parts.{contents_apart, locals_apart}

@@ -6,11 +6,10 @@ use Rattle.l4_model.specs.Machine.{Machine}
 use Rattle.l4_model.specs.Conditions.{◌>>=◌}
 use Rattle.l4_core_model.specs.Local.{Local}
 use Rattle.l4_core_model.specs.Runs.{System, Action, Handles, Turns, Ticks, Happened, happens, Run, core_run, opening_run, opening_system, then_event, at_rest}
-use Rattle.l4_core_model.specs.Schedules.{least_deadline}
-use Rattle.l4_shifted.specs.Shifted.{IsShifted}
-use Rattle.l4_choices.specs.Entries.{Entry, TickOf, LetterOf, CoreOf, entry_event}
+use Rattle.l4_core_model.specs.Schedules.{least_deadline, Entry, TickOf, LetterOf, CoreOf, entry_event}
+use Rattle.l4_bisimilar.specs.Shifted.{IsShifted}
 use Rattle.l4_explore.specs.Tries.{State}
-use Rattle.l4_states.specs.Codes.{code_of}
+use Rattle.l4_states.specs.Inner.Codes.{code_of}
 
 -- Of a processor: the first letter of each poster, then the turn of its core, then the tick to its
 -- least deadline.

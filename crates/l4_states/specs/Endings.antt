@@ -3,8 +3,8 @@ use Rattle.std.specs.Prelude.{ℕ, ◌<◌, ◌≤◌, ◌≡◌, Bool, true, fa
 use Rattle.std.specs.List.{AllByRecursion}
 use Rattle.l4_model.specs.Machine.{Machine}
 use Rattle.l4_core_model.specs.Runs.{System, at_rest}
-use Rattle.l4_shifted.specs.Shifted.{IsShifted}
-use Rattle.l4_choices.specs.Entries.{Entry, replay_entries}
+use Rattle.l4_core_model.specs.Schedules.{Entry, replay_entries}
+use Rattle.l4_bisimilar.specs.Shifted.{IsShifted}
 use Rattle.l4_explore.specs.Search.{Seen}
 use Rattle.l4_states.specs.Choices.{choice, IsLeastRun}
 use Rattle.l4_states.specs.Listed.{AreAllListed, IsCutOff}

@@ -1,5 +1,4 @@
-pub mod Bytes
-pub mod Codes
 pub mod Choices
-pub mod Listed
 pub mod Endings
+pub mod Inner
+pub mod Listed

@@ -2,7 +2,7 @@
 use Rattle.std.specs.Prelude.{ℕ, ◌+◌, ◌<◌, ◌≤◌, ◌≡◌, ◌⊎◌, Bool, true, Some, List, length}
 use Rattle.l4_model.specs.Machine.{Machine}
 use Rattle.l4_core_model.specs.Runs.{System, opening_system, at_rest}
-use Rattle.l4_shifted.specs.Shifted.{IsShifted}
+use Rattle.l4_bisimilar.specs.Shifted.{IsShifted}
 use Rattle.l4_explore.specs.Orders.{IsBefore, IsNotAfter}
 use Rattle.l4_explore.specs.Search.{Seen, seen_at}
 use Rattle.l4_states.specs.Choices.{after_choices, IsLeastRun}

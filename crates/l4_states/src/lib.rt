@@ -3,7 +3,7 @@
 //!
 //! A code has all of a state but stamps, numbers of sends, how late it is, and the order of letters
 //! of different pairs of processors. Of the states that core runs lead to, those with the same code
-//! are similar: they are shifted (`l4_shifted`). Similar states have the same futures, so a search
+//! are similar: they are shifted (`l4_bisimilar`). Similar states have the same futures, so a search
 //! may keep one of them.
 //!
 //! All of it is definitions and proofs; the functions have an empty body.
@@ -16,12 +16,12 @@
 ghost use Rattle.std.specs.Prelude.{ℕ, ◌≡◌, Bool, List, length};
 ghost use Rattle.l4_model.specs.Machine.{Machine};
 ghost use Rattle.l4_core_model.specs.Runs.{IsMachine};
+ghost use Rattle.l4_core_model.specs.Schedules.{Entry};
 ghost use Rattle.l4_explore.specs.Tries.{AreSchedules, StandsForAll};
 ghost use Rattle.l4_explore.specs.Search.{Seen};
-ghost use Rattle.l4_explore.specs.States.{AreAllStates, AreCut};
-ghost use Rattle.l4_states.specs.Bytes.{bytes_of};
+ghost use Rattle.l4_explore.specs.Inner.States.{AreAllStates, AreCut};
+ghost use Rattle.l4_states.specs.Inner.Bytes.{bytes_of};
 ghost use Rattle.l4_states.specs.Choices.{IsCoded, LeadsEarly, state_after};
-ghost use Rattle.l4_choices.specs.Entries.{Entry};
 ghost use Rattle.l4_states.specs.Endings.{AreAllEndings, AreEndings};
 ghost use Rattle.l4_states.specs.Listed.{AreAllListed, IsCutOff};
 

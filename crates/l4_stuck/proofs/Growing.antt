@@ -13,12 +13,12 @@ use Rattle.l4_explore.specs.Search.{Seen, has_code, seen_at}
 use Rattle.l4_explore.specs.Tries.{Next}
 use Rattle.l4_all_endings.specs.Tried.{next_at}
 use Rattle.l4_futures.specs.Choices.{Choice, after_entry, possible, step_at}
-use Rattle.l4_futures.specs.Search.{state_in}
-use Rattle.l4_forever.specs.Graph.{AreReached, GoesTo, HasEdge, IsWorldAt, StandsAt}
-use Rattle.l4_forever.specs.Rows.{HasAll, IsEdge}
+use Rattle.l4_futures.specs.Inner.Search.{state_in}
+use Rattle.l4_forever.specs.Inner.Graph.{AreReached, GoesTo, HasEdge, IsWorldAt, StandsAt}
+use Rattle.l4_forever.specs.Inner.Rows.{HasAll, IsEdge}
 use Rattle.l4_forever.specs.declared.edges.Edge.{Edge}
 use Rattle.l4_forever.proofs.Grounds.{possible_at}
-use Rattle.l4_stuck.specs.Going.{AreAdded, HaveEdges, IsAdded, IsEdgeAdded, IsLeft}
+use Rattle.l4_stuck.specs.Inner.Going.{AreAdded, HaveEdges, IsAdded, IsEdgeAdded, IsLeft}
 
 get_left : {A : Type 0} (xs ys : List A) (k : ℕ) (x : A) → slice_get xs k ≡ Some x → slice_get (xs ++ ys) k ≡ Some x
 get_left [] ys k x at = cc

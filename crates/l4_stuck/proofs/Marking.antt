@@ -6,14 +6,14 @@ use Rattle.l4_model.specs.Machine.{Machine}
 use Rattle.l4_model.proofs.Chains.{some_is}
 use Rattle.l4_explore.specs.Search.{Seen}
 use Rattle.l4_worlds.specs.Histories.{IsTimed}
-use Rattle.l4_forever.specs.Graph.{AreReached, IsWorldAt}
+use Rattle.l4_forever.specs.Inner.Graph.{AreReached, IsWorldAt}
 use Rattle.l4_forever.specs.Moves.{moves_at, AreJustified, MayMove}
-use Rattle.l4_forever.specs.Rows.{wait_by, AreOf}
+use Rattle.l4_forever.specs.Inner.Rows.{wait_by, AreOf}
 use Rattle.l4_forever.specs.Waits.{is_waiting}
 use Rattle.l4_forever.specs.declared.edges.Edge.{Edge}
 use Rattle.l4_forever.specs.declared.waits.Wait.{Wait}
 use Rattle.l4_forever.proofs.Grounds.{led_on}
-use Rattle.l4_stuck.specs.Going.{rows_of, unmarked, IsGraphOf, IsMarkedBy, IsSpread}
+use Rattle.l4_stuck.specs.Inner.Going.{rows_of, unmarked, IsGraphOf, IsMarkedBy, IsSpread}
 use Rattle.l4_stuck.specs.declared.graph.Graph.{Graph}
 
 -- One more mark

@@ -7,12 +7,12 @@ use Rattle.l4_model.specs.Machine.{Machine}
 use Rattle.l4_model.specs.World.{World}
 use Rattle.l4_model.proofs.Chains.{some_is}
 use Rattle.l4_explore.specs.Search.{Seen}
-use Rattle.l4_forever.specs.Graph.{IsWorldAt}
-use Rattle.l4_forever.specs.Rows.{row_at, AreOf, HasAll, IsEdge}
+use Rattle.l4_forever.specs.Inner.Graph.{IsWorldAt}
+use Rattle.l4_forever.specs.Inner.Rows.{row_at, AreOf, HasAll, IsEdge}
 use Rattle.l4_forever.specs.Waits.{waits_in}
 use Rattle.l4_forever.specs.declared.edges.Edge.{Edge}
 use Rattle.l4_forever.specs.declared.waits.Wait.{Wait}
-use Rattle.l4_stuck.specs.Going.{IsLeft}
+use Rattle.l4_stuck.specs.Inner.Going.{IsLeft}
 use Rattle.l4_stuck.proofs.Growing.{all_more, all_of, get_either}
 
 pub record AreBuilt (m : Machine) (found : List Seen) (rows : List (List Wait)) (edges : List Edge) (place : ℕ) : Type 0 where

@@ -6,15 +6,15 @@ use Rattle.l4_model.specs.World.{World}
 use Rattle.l4_worlds.specs.Histories.{IsTimed}
 use Rattle.l4_explore.specs.Search.{Seen, IsGoneOn as IsSearchedOn}
 use Rattle.l4_forever.specs.Forever.{WaitsForEver}
-use Rattle.l4_forever.specs.Graph.{AreReached, IsWorldAt}
+use Rattle.l4_forever.specs.Inner.Graph.{AreReached, IsWorldAt}
 use Rattle.l4_forever.specs.Moves.{moves_at, AreJustified, IsNeverStuck}
-use Rattle.l4_forever.specs.Rows.{wait_by, AreSpread}
+use Rattle.l4_forever.specs.Inner.Rows.{wait_by, AreSpread}
 use Rattle.l4_forever.specs.Waits.{is_waiting}
-use Rattle.l4_forever.specs.Walks.{AreWalked}
+use Rattle.l4_forever.specs.Inner.Walks.{AreWalked}
 use Rattle.l4_forever.proofs.Getting.{never}
 use Rattle.l4_forever.proofs.Grounds.{on_from, standing}
 use Rattle.l4_forever.proofs.Holding.{for_ever}
-use Rattle.l4_stuck.specs.Going.{rows_of, IsGraphOf}
+use Rattle.l4_stuck.specs.Inner.Going.{rows_of, IsGraphOf}
 use Rattle.l4_stuck.specs.Stuck.{IsFirst}
 use Rattle.l4_stuck.specs.declared.graph.Graph.{Graph}
 

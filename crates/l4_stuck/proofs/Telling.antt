@@ -8,11 +8,11 @@ use Rattle.l4_model.proofs.Chains.{some_is}
 use Rattle.l4_worlds.specs.Histories.{IsTimed}
 use Rattle.l4_explore.specs.Search.{Seen, seen_at, AreFound}
 use Rattle.l4_futures.specs.Choices.{world_after}
-use Rattle.l4_futures.specs.Search.{state_after, state_in}
+use Rattle.l4_futures.specs.Inner.Search.{state_after, state_in}
 use Rattle.l4_futures.proofs.Kept.{state_led}
 use Rattle.l4_futures.proofs.Led.{is_led}
 use Rattle.l4_forever.specs.Forever.{WaitsForEver}
-use Rattle.l4_forever.specs.Graph.{AreReached, IsWorldAt}
+use Rattle.l4_forever.specs.Inner.Graph.{AreReached, IsWorldAt}
 use Rattle.l4_forever.specs.Moves.{IsNeverStuck}
 use Rattle.l4_stuck.specs.Stuck.{AreStuckBelow, IsFirst, IsStuck, Stuck}
 

@@ -12,11 +12,11 @@ use Rattle.l4_worlds.specs.Histories.{IsTimed}
 use Rattle.l4_explore.specs.Tries.{AreCoded, Next, LeadOn}
 use Rattle.l4_explore.specs.Search.{Seen, seen_at, has_code, AreApart}
 use Rattle.l4_futures.specs.Choices.{world_after}
-use Rattle.l4_futures.specs.Search.{nexts, state_in, state_after}
+use Rattle.l4_futures.specs.Inner.Search.{nexts, state_in, state_after}
 use Rattle.l4_futures.proofs.Kept.{schedules}
-use Rattle.l4_forever.specs.Walks.{all_nexts, are_fresh, AreWalked}
+use Rattle.l4_forever.specs.Inner.Walks.{all_nexts, are_fresh, AreWalked}
 use Rattle.l4_all_endings.proofs.Leading.{all_lead, nexts_lead}
-use Rattle.l4_stuck.specs.Going.{AreWalkedAfter}
+use Rattle.l4_stuck.specs.Inner.Going.{AreWalkedAfter}
 
 -- States of worlds with equal codes are equal.
 pub coded : (m : Machine) → IsTimed m → AreCoded (state_after m)

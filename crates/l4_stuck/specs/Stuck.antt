@@ -3,7 +3,7 @@ use Rattle.std.specs.Prelude.{ℕ, ◌≡◌, ◌<◌, Bool, true, Some, List, l
 use Rattle.l4_model.specs.Machine.{Machine}
 use Rattle.l4_model.specs.World.{opening}
 use Rattle.l4_explore.specs.Search.{Seen}
-use Rattle.l4_forever.specs.Graph.{StandsAt}
+use Rattle.l4_forever.specs.Inner.Graph.{StandsAt}
 use Rattle.l4_futures.specs.Traces.{trace_along}
 use Rattle.l4_forever.specs.Forever.{IsStuckForEver}
 use Rattle.l4_forever.specs.Moves.{IsNeverStuck}

@@ -3,9 +3,10 @@ ghost use Rattle.std.specs.Prelude.{◌≡◌, ◌+◌, ◌^◌, ◌<◌, IfOk, 
 ghost use Rattle.l4_model.specs.World.{World};
 ghost use Rattle.l4_worlds.specs.Histories.{IsTimed};
 ghost use Rattle.l4_futures.specs.Choices.{after_entry};
-ghost use Rattle.l4_forever.specs.Graph.{AreReached};
-ghost use Rattle.l4_forever.specs.Rows.{wait_by};
-ghost use Rattle.l4_stuck.specs.Going.{rows_of, AreShort, IsAdded, IsGraphOf, IsLeft, IsOutlookAt};
+ghost use Rattle.l4_forever.specs.Inner.Graph.{AreReached};
+ghost use Rattle.l4_forever.specs.Inner.Rows.{wait_by};
+ghost use Rattle.l4_stuck.specs.Inner.Going.{rows_of, AreShort, IsAdded, IsGraphOf, IsLeft};
+ghost use Rattle.l4_stuck.specs.Inner.Going.{IsOutlookAt};
 
 use l4_all_endings::{Way, choice_by};
 use l4_explore::found::Found;

@@ -1,13 +1,14 @@
 //! From which places a thread may yet do something.
-ghost use Rattle.std.specs.Prelude.{◌≡◌, ◌<◌, ◌≤◌, IfNone, IfOk, IfSome, false, length, true, ℕ, List};
+ghost use Rattle.std.specs.Prelude.{◌≡◌, ◌<◌, ◌≤◌, IfNone, IfOk, IfSome, false, length, true, ℕ};
+ghost use Rattle.std.specs.Prelude.{List};
 ghost use Rattle.l4_model.specs.Machine.{Machine};
 ghost use Rattle.l4_worlds.specs.Histories.{IsTimed};
 ghost use Rattle.l4_explore.specs.Search.{Seen};
-ghost use Rattle.l4_forever.specs.Graph.{AreReached};
+ghost use Rattle.l4_forever.specs.Inner.Graph.{AreReached};
 ghost use Rattle.l4_forever.specs.Moves.{moves_at, AreJustified};
-ghost use Rattle.l4_forever.specs.Rows.{wait_by, AreSpread, AreStarted};
+ghost use Rattle.l4_forever.specs.Inner.Rows.{wait_by, AreSpread, AreStarted};
 ghost use Rattle.l4_forever.specs.Waits.{is_waiting};
-ghost use Rattle.l4_stuck.specs.Going.{rows_of, unmarked, IsGraphOf, IsMarkedBy, IsSpread};
+ghost use Rattle.l4_stuck.specs.Inner.Going.{rows_of, unmarked, IsGraphOf, IsMarkedBy, IsSpread};
 
 use crate::graph::Graph;
 use l4_forever::{Edge, Wait};

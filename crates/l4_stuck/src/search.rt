@@ -4,12 +4,12 @@ ghost use Rattle.l4_explore.specs.Search.{seen_at, IsGoneOn as IsSearchedOn};
 ghost use Rattle.l4_worlds.specs.Histories.{IsTimed};
 ghost use Rattle.l4_model.specs.World.{World};
 ghost use Rattle.l4_forever.specs.Forever.{WaitsForEver};
-ghost use Rattle.l4_forever.specs.Graph.{AreReached, IsWorldAt};
-ghost use Rattle.l4_forever.specs.Graph.{StandsAt};
+ghost use Rattle.l4_forever.specs.Inner.Graph.{AreReached, IsWorldAt};
+ghost use Rattle.l4_forever.specs.Inner.Graph.{StandsAt};
 ghost use Rattle.l4_forever.specs.Moves.{IsNeverStuck};
-ghost use Rattle.l4_forever.specs.Walks.{AreWalked};
+ghost use Rattle.l4_forever.specs.Inner.Walks.{AreWalked};
 ghost use Rattle.l4_model.specs.World.{opening};
-ghost use Rattle.l4_stuck.specs.Going.{IsGraphOf};
+ghost use Rattle.l4_stuck.specs.Inner.Going.{IsGraphOf};
 ghost use Rattle.l4_stuck.specs.Stuck.{stuck_of, AreStuckThreads, IsFirst};
 
 use crate::graph::{Graph, graph_of};

@@ -1,14 +1,15 @@
 //! The worlds of a machine, as a search for stuck threads tries them.
-ghost use Rattle.std.specs.Prelude.{◌≡◌, ◌+◌, ◌++◌, ◌∷◌, ◌^◌, ◌<◌, [], IfOk, IsSome, false, length, map, take, true};
+ghost use Rattle.std.specs.Prelude.{◌≡◌, ◌+◌, ◌++◌, ◌∷◌, ◌^◌, ◌<◌, [], IfOk, IsSome, false, length};
+ghost use Rattle.std.specs.Prelude.{map, take, true};
 ghost use Rattle.l4_explore.specs.Search.{has_code, seen_at, AreApart};
 ghost use Rattle.l4_explore.specs.Tries.{AreCoded};
-ghost use Rattle.l4_explore.specs.Views.{next_from};
+ghost use Rattle.l4_explore.specs.Inner.Views.{next_from};
 ghost use Rattle.l4_futures.specs.Choices.{world_after};
-ghost use Rattle.l4_futures.specs.Search.{state_after};
-ghost use Rattle.l4_forever.specs.Walks.{are_fresh, AreWalked};
-ghost use Rattle.l4_outlooks.specs.Standing.{left_alone};
+ghost use Rattle.l4_futures.specs.Inner.Search.{state_after};
+ghost use Rattle.l4_forever.specs.Inner.Walks.{are_fresh, AreWalked};
+ghost use Rattle.l4_outlooks.specs.Inner.Standing.{left_alone};
 ghost use Rattle.l4_all_endings.specs.Tried.{nexts_at, AreOpen};
-ghost use Rattle.l4_stuck.specs.Going.{AreWalkedAfter};
+ghost use Rattle.l4_stuck.specs.Inner.Going.{AreWalkedAfter};
 
 use l4_all_endings::{Way, choice_by, reached_state};
 use l4_explore::found::Found;

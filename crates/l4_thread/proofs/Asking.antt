@@ -2,13 +2,13 @@
 use Rattle.std.proofs.Common.{ℕ, List, ◌≡◌, ◌∙◌, Bool, true, false, refl}
 use Rattle.std.specs.Prelude.{◌/◌, ◌%◌, ◌^◌, ◌==◌, ◌&&◌, if◌then◌else◌, IsSome, Option, Some, None, is_some}
 use Rattle.l4_model.specs.Words.{Period, GlobalId, Id, NilThread, AnyThread, AnyLocalThread, LocalThread, GlobalThread}
-use Rattle.l4_model.specs.Machine.{Machine, same_space, Instr, Set, Copy, Add, Tag, Vs, Ipc, Ask, Jump, OnErr, End}
+use Rattle.l4_model.specs.Machine.{Machine, same_space, Instr, Run, Ipc, Ask, End}
 use Rattle.l4_model.specs.World.{Context, Message, Receive, Thread, Sending}
 use Rattle.l4_model.specs.Rules.{register, permitted, originator, message_of, destination, receive_phase, ipc_act, act, request, Sends}
 use Rattle.l4_types.specs.Ids.{global_of}
-use Rattle.l4_thread.specs.Held.{Held, sent_of}
-use Rattle.l4_thread.specs.Ipcs.{IsPermission, may_show, starts}
-use Rattle.l4_thread.specs.Requests.{propagates, originator_if, message_if, Phases, send_phase, phases_of, phases_begun, counted}
+use Rattle.l4_thread.specs.Inner.Held.{Held, sent_of}
+use Rattle.l4_thread.specs.Inner.Ipcs.{IsPermission, may_show, starts}
+use Rattle.l4_thread.specs.Inner.Requests.{propagates, originator_if, message_if, Phases, send_phase, phases_of, phases_begun, counted}
 
 -- Whether a thread may show its originator matters only where it asks for propagation.
 originator_as : (permitted shown asks : Bool) (o : Option GlobalId) → (asks ≡ true → permitted ≡ shown) →
@@ -24,14 +24,8 @@ phases_as : (m : Machine) (sender : GlobalId) (c : Context) (permitted : Bool) (
 phases_as m sender c permitted (Ipc to from send_period receive_period) e =
     let o = originator_as permitted (may_show m sender c.actual) (propagates c) (global_of c.actual) e in
     rw o refl
-phases_as m sender c permitted (Set a word) e = refl
-phases_as m sender c permitted (Copy a b) e = refl
-phases_as m sender c permitted (Add format a word) e = refl
-phases_as m sender c permitted (Tag word) e = refl
-phases_as m sender c permitted (Vs id) e = refl
+phases_as m sender c permitted (Run own) e = refl
 phases_as m sender c permitted (Ask target what) e = refl
-phases_as m sender c permitted (Jump place) e = refl
-phases_as m sender c permitted (OnErr place) e = refl
 phases_as m sender c permitted End e = refl
 
 shown_if : (space asks : Bool) (t : GlobalId) →
@@ -107,16 +101,10 @@ sends_to m sender now c message e (GlobalThread t) period receive s h =
 pub sends_phase : (m : Machine) (sender : GlobalId) (now : ℕ) (c : Context) (instr : Instr) (s : Id × Message × Period) →
     (phases_of (may_show m sender c.actual) sender c instr).send ≡ Some s →
     act m sender now c instr ≡ Sends (record { to = s.0; message = s.1; period = s.2; since = now; receive = (phases_of (may_show m sender c.actual) sender c instr).receive })
-sends_phase m sender now c (Set a word) s h = cc
-sends_phase m sender now c (Copy a b) s h = cc
-sends_phase m sender now c (Add format a word) s h = cc
-sends_phase m sender now c (Tag word) s h = cc
-sends_phase m sender now c (Vs id) s h = cc
+sends_phase m sender now c (Run own) s h = cc
 sends_phase m sender now c (Ipc to from send_period receive_period) s h =
     sends_to m sender now c _ (message_is m sender c) (destination c to) send_period (receive_phase from receive_period) s h
 sends_phase m sender now c (Ask target what) s h = cc
-sends_phase m sender now c (Jump place) s h = cc
-sends_phase m sender now c (OnErr place) s h = cc
 sends_phase m sender now c End s h = cc
 
 -- No word of a register changes where phases begin.

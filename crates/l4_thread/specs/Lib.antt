@@ -1,9 +1,1 @@
-pub mod Changes
-pub mod Held
-pub mod Ipcs
-pub mod Messages
-pub mod Partners
-pub mod Parts
-pub mod PhaseView
-pub mod Requests
-pub mod Spelled
+pub mod Inner

@@ -16,7 +16,7 @@ pub struct PendingOrder {
 impl Model for PendingOrder {
     ghost use Rattle.l4_model.specs.World.{PendingOrder as ModelAsked};
     ghost use Rattle.l4_types.specs.StepView.{order_kind_of};
-    ghost use Rattle.l4_thread.specs.Spelled.{order_kind_from, order_kind_from_of};
+    ghost use Rattle.l4_thread.specs.Inner.Spelled.{order_kind_from, order_kind_from_of};
     ghost use Rattle.std.proofs.Common.{ap};
 
     ghost Value = { ModelAsked };

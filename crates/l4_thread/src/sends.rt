@@ -2,9 +2,9 @@
 ghost use Rattle.std.specs.Prelude.{◌≡◌, ◌<◌, length};
 ghost use Rattle.std.specs.Option.{option_map};
 ghost use Rattle.l4_model.specs.Words.{label_limit, register_count, is_id_of};
-ghost use Rattle.l4_types.specs.PeriodView.{period_of, IsTimely};
-ghost use Rattle.l4_thread.specs.Held.{with_words, sent_with, AreFew};
-ghost use Rattle.l4_thread.specs.Partners.{turned_from};
+ghost use Rattle.l4_types.specs.Inner.PeriodView.{period_of, IsTimely};
+ghost use Rattle.l4_thread.specs.Inner.Held.{with_words, sent_with, AreFew};
+ghost use Rattle.l4_thread.specs.Inner.Partners.{turned_from};
 ghost use Rattle.l4_thread.specs.declared.sends.Words.TheVariants.{InRegisters, Apart};
 
 use l4_types::ids::{GlobalId, ThreadId};
@@ -21,8 +21,8 @@ pub struct Receive {
 
 impl Model for Receive {
     ghost use Rattle.l4_model.specs.World.{Receive as ModelReceive};
-    ghost use Rattle.l4_types.specs.PeriodView.{period_of, period_from, IsTimely};
-    ghost use Rattle.l4_thread.specs.Spelled.{period_from_of};
+    ghost use Rattle.l4_types.specs.Inner.PeriodView.{period_of, period_from, IsTimely};
+    ghost use Rattle.l4_thread.specs.Inner.Spelled.{period_from_of};
     ghost use Rattle.std.proofs.Common.{ap};
 
     ghost Value = { ModelReceive };
@@ -111,7 +111,7 @@ pub(crate) struct Head {
 impl Model for Head {
     ghost use Rattle.std.specs.Prelude.{◌<◌};
     ghost use Rattle.l4_model.specs.Words.{label_limit};
-    ghost use Rattle.l4_thread.specs.Held.{Headed, AreFew};
+    ghost use Rattle.l4_thread.specs.Inner.Held.{Headed, AreFew};
 
     ghost Value = { Headed };
 
@@ -230,8 +230,8 @@ pub(crate) struct Send {
 }
 
 impl Model for Send {
-    ghost use Rattle.l4_thread.specs.Held.{Held};
-    ghost use Rattle.l4_types.specs.PeriodView.{period_of, IsTimely};
+    ghost use Rattle.l4_thread.specs.Inner.Held.{Held};
+    ghost use Rattle.l4_types.specs.Inner.PeriodView.{period_of, IsTimely};
 
     ghost Value = { Held };
 
@@ -353,7 +353,7 @@ impl<'a> Model for SendRef<'a> {
     ghost use Rattle.std.specs.Prelude.{◌<◌, length};
     ghost use Rattle.l4_model.specs.Words.{register_count};
     ghost use Rattle.l4_model.specs.World.{Send as ModelSend};
-    ghost use Rattle.l4_thread.specs.Held.{sent_with};
+    ghost use Rattle.l4_thread.specs.Inner.Held.{sent_with};
 
     ghost Value = { ModelSend };
 

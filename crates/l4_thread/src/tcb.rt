@@ -1,14 +1,15 @@
 //! Thread control blocks.
 ghost use Rattle.std.specs.Prelude.{◌≡◌};
 ghost use Rattle.std.specs.Option.{option_copied};
-ghost use Rattle.l4_model.specs.World.{opening_thread, is_ready, is_sending, is_deleted, receive_now};
+ghost use Rattle.l4_model.specs.World.{opening_thread, is_ready, is_sending, is_deleted};
+ghost use Rattle.l4_model.specs.World.{receive_now};
 ghost use Rattle.l4_model.specs.History.{report_of, state_of};
 ghost use Rattle.l4_core_model.specs.Local.{armed_period, period_of_send};
 ghost use Rattle.l4_core_model.specs.Mail.{is_ordering};
-ghost use Rattle.l4_types.specs.PeriodView.{period_of, IsTimely};
+ghost use Rattle.l4_types.specs.Inner.PeriodView.{period_of, IsTimely};
 ghost use Rattle.l4_types.specs.ReportView.{report_of_view, state_of_view};
-ghost use Rattle.l4_thread.specs.Messages.{outgoing};
-ghost use Rattle.l4_thread.specs.PhaseView.{since_of};
+ghost use Rattle.l4_thread.specs.Inner.Messages.{outgoing};
+ghost use Rattle.l4_thread.specs.Inner.PhaseView.{since_of};
 
 mod effects;
 
@@ -39,9 +40,9 @@ pub struct Tcb {
 
 impl Model for Tcb {
     ghost use Rattle.std.specs.Option.{option_map};
-    ghost use Rattle.l4_thread.specs.Held.{sent_of};
-    ghost use Rattle.l4_thread.specs.Parts.{Block};
-    ghost use Rattle.l4_thread.specs.PhaseView.{phase_of};
+    ghost use Rattle.l4_thread.specs.Inner.Held.{sent_of};
+    ghost use Rattle.l4_thread.specs.Inner.Parts.{Block};
+    ghost use Rattle.l4_thread.specs.Inner.PhaseView.{phase_of};
 
     ghost Value = { Block };
 

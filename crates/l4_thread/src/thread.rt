@@ -1,16 +1,21 @@
 //! The part of a thread that its own instructions read and write.
-ghost use Rattle.std.specs.Prelude.{◌≡◌, ◌<◌, ◌^◌, ◌+◌, ◌%◌, IfSome, false, true, take, drop, length, List, [], ℕ};
+ghost use Rattle.std.specs.Prelude.{◌≡◌, ◌<◌, ◌^◌, ◌+◌, ◌%◌, IfSome, false, true, take, drop};
+ghost use Rattle.std.specs.Prelude.{length, List, [], ℕ, slice_set};
 ghost use Rattle.std.specs.Option.{option_map};
 ghost use Rattle.l4_model.specs.Words.{word_of_tag, word_limit, register_count};
 ghost use Rattle.l4_model.specs.World.{opening_context};
-ghost use Rattle.l4_model.specs.Rules.{failed, sent, received, ordered, advanced, ran, register, with_register, destination, receive_phase};
-ghost use Rattle.l4_types.specs.Codes.{code_of};
-ghost use Rattle.l4_types.specs.FormatView.{format_of};
-ghost use Rattle.l4_types.specs.PeriodView.{period_of, IsTimely};
-ghost use Rattle.l4_script.specs.Scripts.{instr_of, ipc_of, to_of};
-ghost use Rattle.l4_thread.specs.Held.{message_of};
-ghost use Rattle.l4_thread.specs.Messages.{unlabelled};
-ghost use Rattle.l4_thread.specs.Requests.{originator_if, message_if, propagates, phases_of, phases_from, phases_held, phases_begun, receive_from, counted, AreTimely, AreTimelyHeld, asks_to_send, is_end};
+ghost use Rattle.l4_model.specs.Rules.{failed, sent, received, ordered, advanced, ran, register};
+ghost use Rattle.l4_model.specs.Rules.{destination, receive_phase};
+ghost use Rattle.l4_types.specs.Inner.Codes.{code_of};
+ghost use Rattle.l4_types.specs.Inner.FormatView.{format_of};
+ghost use Rattle.l4_types.specs.Inner.PeriodView.{period_of, IsTimely};
+ghost use Rattle.l4_script.specs.Inner.Scripts.{instr_of, ipc_of, to_of};
+ghost use Rattle.l4_thread.specs.Inner.Held.{message_of};
+ghost use Rattle.l4_thread.specs.Inner.Messages.{unlabelled};
+ghost use Rattle.l4_thread.specs.Inner.Requests.{originator_if, message_if, propagates, phases_of};
+ghost use Rattle.l4_thread.specs.Inner.Requests.{phases_from, phases_held, phases_begun};
+ghost use Rattle.l4_thread.specs.Inner.Requests.{receive_from, counted, AreTimely, AreTimelyHeld};
+ghost use Rattle.l4_thread.specs.Inner.Requests.{asks_to_send, is_end};
 
 use crate::requests::{Begun, Request};
 use crate::sends::{Head, Words};
@@ -35,7 +40,7 @@ pub struct Thread {
 }
 
 impl Model for Thread {
-    ghost use Rattle.l4_thread.specs.Parts.{Part};
+    ghost use Rattle.l4_thread.specs.Inner.Parts.{Part};
 
     ghost Value = { Part };
 
@@ -136,7 +141,9 @@ impl Thread {
     // Sets a message register to a word.
     fn set(&mut self, register: Register, word: u64)
         ensures { self.new ≡ record self.old {
-          context = with_register register word self.old.context;
+          context = record self.old.context {
+            words = slice_set self.old.context.words register word;
+          };
         } }
     {
         self.regs.words[usize::from(register.number())] = word;
@@ -153,9 +160,10 @@ impl Thread {
     // Adds a word to a message register, as a format counts it.
     fn add(&mut self, format: Format, to: Register, word: u64)
         ensures { self.new ≡ record self.old {
-          context = with_register to
-              ((register self.old.context to + word) % word_limit (format_of format))
-              self.old.context;
+          context = record self.old.context {
+            words = slice_set self.old.context.words to
+                ((register self.old.context to + word) % word_limit (format_of format));
+          };
         } }
     {
         let sum = format.sum(self.register(to.number()), word);

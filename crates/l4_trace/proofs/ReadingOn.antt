@@ -6,7 +6,7 @@ use Rattle.l4_model.specs.Steps.{Step}
 use Rattle.l4_types.specs.declared.step_ref.DeliveryRef.{DeliveryRef}
 use Rattle.l4_types.specs.declared.steps.Step.{Step as StepRef}
 use Rattle.l4_types.specs.StepView.{seen}
-use Rattle.l4_trace.specs.Forward.{Ahead, IsNext, ReadsNext}
+use Rattle.l4_trace.specs.Inner.Forward.{Ahead, IsNext, ReadsNext}
 use Rattle.l4_trace.specs.Reading.{step_of_line, or_line, read_parts, steps_of}
 use Rattle.l4_words.specs.Lines.{parts_of}
 use Rattle.l4_trace.proofs.ReadingLines.{goes_on}

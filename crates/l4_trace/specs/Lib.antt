@@ -1,3 +1,3 @@
-pub mod Forward
+pub mod Inner
 pub mod Lines
 pub mod Reading

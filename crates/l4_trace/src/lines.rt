@@ -1,10 +1,12 @@
 //! The lines of a trace: one for each step.
-ghost use Rattle.std.specs.Prelude.{◌≡◌, ◌≤◌, ◌+◌, ◌*◌, true, List, [], ◌∷◌, ◌++◌, codes, decimal, length, drop, OnOk, OnErr};
+ghost use Rattle.std.specs.Prelude.{◌≡◌, ◌≤◌, ◌+◌, ◌*◌, true, List, [], ◌∷◌, ◌++◌, codes, decimal};
+ghost use Rattle.std.specs.Prelude.{length, drop, OnOk, OnErr};
 ghost use Rattle.std.specs.List.{list_all};
 ghost use Rattle.l4_model.specs.Words.{is_global};
 ghost use Rattle.l4_model.specs.Steps.{Step as ModelStep, Tick as ModelTick};
 ghost use Rattle.l4_types.specs.StepView.{delivered, seen, step_of, order_kind_of};
-ghost use Rattle.l4_trace.specs.Lines.{thread_word, name_word, order_kind_word, line_of, line_of_words, trace_of, is_name, has_line};
+ghost use Rattle.l4_trace.specs.Lines.{thread_word, name_word, order_kind_word, line_of};
+ghost use Rattle.l4_trace.specs.Lines.{line_of_words, trace_of, is_name, has_line};
 
 use crate::keywords::{DELIVER, by_keyword};
 use l4_types::errors::NoMemory;

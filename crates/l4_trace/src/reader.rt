@@ -2,7 +2,7 @@
 ghost use Rattle.std.specs.Prelude.{◌≡◌, ◌<◌, ◌+◌, ◌∷◌, [], length};
 ghost use Rattle.l4_words.specs.Lines.{parts_of};
 ghost use Rattle.l4_trace.specs.declared.fault.TraceFault.TheVariants.{Line};
-ghost use Rattle.l4_trace.specs.Forward.{ReadsNext, ReadsOn};
+ghost use Rattle.l4_trace.specs.Inner.Forward.{ReadsNext, ReadsOn};
 
 use crate::fault::TraceFault;
 use crate::steps::step_of_line;
@@ -27,7 +27,7 @@ pub struct Reader<'t> {
 
 impl<'t> Model for Reader<'t> {
     ghost use Rattle.std.specs.Prelude.{◌+◌, ◌<◌, ◌^◌, length};
-    ghost use Rattle.l4_trace.specs.Forward.{Ahead};
+    ghost use Rattle.l4_trace.specs.Inner.Forward.{Ahead};
 
     ghost Value = { Ahead };
 

@@ -1,11 +1,14 @@
 //! The steps that lines spell.
-ghost use Rattle.std.specs.Prelude.{◌≡◌, ◌<◌, [], codes, length, IsSomeAnd, MatchOption, None, Option, Some};
+ghost use Rattle.std.specs.Prelude.{◌≡◌, ◌<◌, [], codes, length, IsSomeAnd, MatchOption, None};
+ghost use Rattle.std.specs.Prelude.{Option, Some};
 ghost use Rattle.std.specs.Option.{option_map};
 ghost use Rattle.l4_model.specs.Words.{register_count};
 ghost use Rattle.l4_model.specs.Steps.{Order, Tick as ModelTick};
 ghost use Rattle.l4_types.specs.StepView.{seen, delivered as seen_delivery, order_kind_of};
 ghost use Rattle.l4_words.specs.Words.{Finds, words_in, words_behind};
-ghost use Rattle.l4_trace.specs.Reading.{message_words, delivered, delivery_of, order_kind_of_word, order_of, tick_of, of_thread, of_name, step_behind, step_of_line};
+ghost use Rattle.l4_trace.specs.Reading.{message_words, delivered, delivery_of, order_kind_of_word};
+ghost use Rattle.l4_trace.specs.Reading.{order_of, tick_of, of_thread, of_name, step_behind};
+ghost use Rattle.l4_trace.specs.Reading.{step_of_line};
 
 use crate::keywords::{DELIVER, by_keyword};
 use crate::reader::ReadWords;

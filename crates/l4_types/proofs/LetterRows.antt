@@ -4,7 +4,7 @@ use Rattle.std.specs.Prelude.{slice_get}
 use Rattle.std.proofs.lemmas.List.{take_all, take-append-le, drop-append-le, length-drop}
 use Rattle.l4_core_model.specs.Letters.{Letter}
 use Rattle.l4_types.specs.declared.letters.LetterHead.{LetterHead}
-use Rattle.l4_types.specs.LetterHeads.{letter_with, letters_by, word_count, words_by}
+use Rattle.l4_types.specs.Inner.LetterHeads.{letter_with, letters_by, word_count, words_by}
 
 module _ {A B : Type 0} (head : A → LetterHead) (seen : A → Letter → B) where
   abbrev count : A → ℕ

@@ -2,11 +2,11 @@
 use Rattle.std.proofs.Common.{◌≡◌, ℕ, ◌^◌, ◌-◌, true, false, List, [], ◌∷◌, Option, Some, None, map, refl}
 use Rattle.std.specs.Option.{option_map}
 use Rattle.l4_model.specs.Words.{NilThread, AnyThread, AnyLocalThread, LocalThread, GlobalThread, global_id, is_global, word_of, id_of_word, word_of_tag, time_of, timeouts_of}
-use Rattle.l4_types.specs.Flags.{flags_of}
-use Rattle.l4_types.specs.PeriodView.{period_from, periods_from}
+use Rattle.l4_types.specs.Inner.Flags.{flags_of}
+use Rattle.l4_types.specs.Inner.PeriodView.{period_from, periods_from}
 use Rattle.l4_types.specs.declared.times.Period.{Period}
 use Rattle.l4_types.specs.declared.times.Period.TheVariants.{Never, Zero, Ticks}
-use Rattle.l4_types.specs.Codes.{code_of}
+use Rattle.l4_types.specs.Inner.Codes.{code_of}
 use Rattle.l4_types.specs.declared.errors.IpcError.TheVariants.{SendTimeout, ReceiveTimeout, SendNobody, ReceiveNobody, SendCancelled, ReceiveCancelled}
 
 -- The id 1.1, and the id 2.65 both ways.

@@ -1,14 +1,4 @@
-pub mod ClockTick
-pub mod Codes
-pub mod Flags
-pub mod FormatView
 pub mod Ids
-pub mod LetterHeads
-pub mod LetterView
-pub mod OwedView
-pub mod PeriodView
+pub mod Inner
 pub mod ReportView
 pub mod StepView
-pub mod TagLemmas
-pub mod TagView
-pub mod WordLemmas

@@ -1,6 +1,6 @@
 //! The ErrorCode of a failed Ipc, and want of memory.
 ghost use Rattle.std.specs.Prelude.{◌≡◌};
-ghost use Rattle.l4_types.specs.Codes.{code_of};
+ghost use Rattle.l4_types.specs.Inner.Codes.{code_of};
 
 use std::alloc::{AllocError, AllocFailed};
 

@@ -1,7 +1,7 @@
 //! The formats of words (manual: ThreadId, MsgTag).
 ghost use Rattle.std.specs.Prelude.{◌≡◌, ◌+◌, ◌%◌, nat_lt};
 ghost use Rattle.l4_model.specs.Words.{word_limit};
-ghost use Rattle.l4_types.specs.FormatView.{format_of};
+ghost use Rattle.l4_types.specs.Inner.FormatView.{format_of};
 
 /// A format of words.
 #[derive(Clone, Copy, PartialEq, Eq, Debug)]

@@ -1,8 +1,9 @@
 //! Thread ids (manual: ThreadId).
 ghost use Rattle.std.specs.Prelude.{◌≡◌, ◌/◌, ◌%◌, ◌^◌, ◌↔◌, true, IsSome, IfSome, Some};
-ghost use Rattle.l4_model.specs.Words.{W32, GlobalThread, word_of, word_in, id_of_word, id_in, is_global, is_global_in, global_id};
+ghost use Rattle.l4_model.specs.Words.{W32, GlobalThread, word_of, word_in, id_of_word, id_in};
+ghost use Rattle.l4_model.specs.Words.{is_global, is_global_in, global_id};
 ghost use Rattle.l4_model.specs.Rules.{takes};
-ghost use Rattle.l4_types.specs.FormatView.{format_of};
+ghost use Rattle.l4_types.specs.Inner.FormatView.{format_of};
 ghost use Rattle.l4_types.specs.Ids.{kind_of, global_of};
 
 use crate::formats::{Format, SHORT_WORDS};
@@ -32,7 +33,7 @@ pub struct ThreadId {
 impl Model for ThreadId {
     ghost use Rattle.l4_model.specs.Words.{Id, word_of, id_of_word};
     ghost use Rattle.std.proofs.Common.{ap};
-    ghost use Rattle.l4_types.specs.WordLemmas.{word_of_id};
+    ghost use Rattle.l4_types.specs.Inner.WordLemmas.{word_of_id};
 
     ghost Value = { Id };
 
@@ -128,7 +129,7 @@ impl GlobalId {
     }
 
     /// This id as a thread id.
-    #[tactic(auto, using(crate::specs::WordLemmas::id_of_global))]
+    #[tactic(auto, using(crate::specs::Inner::WordLemmas::id_of_global))]
     pub fn id(&self) -> ThreadId
         ensures { result ≡ GlobalThread self.now }
     {

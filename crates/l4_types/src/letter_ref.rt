@@ -1,7 +1,7 @@
 //! Letters whose words lie elsewhere.
 ghost use Rattle.std.specs.Prelude.{◌≡◌, ◌<◌, length};
 ghost use Rattle.l4_model.specs.Words.{register_count};
-ghost use Rattle.l4_types.specs.LetterHeads.{letter_with, word_count};
+ghost use Rattle.l4_types.specs.Inner.LetterHeads.{letter_with, word_count};
 
 use crate::letters::{Letter, LetterHead};
 use std::marker::Model;
@@ -15,7 +15,7 @@ pub struct LetterRef<'a> {
 
 impl<'a> Model for LetterRef<'a> {
     ghost use Rattle.std.specs.Prelude.{◌≡◌, length};
-    ghost use Rattle.l4_types.specs.LetterHeads.{letter_with, word_count};
+    ghost use Rattle.l4_types.specs.Inner.LetterHeads.{letter_with, word_count};
     ghost use Rattle.l4_core_model.specs.Letters.{Letter as ModelLetter};
 
     ghost Value = { ModelLetter };

@@ -1,7 +1,7 @@
 //! The letters that processors send each other.
 ghost use Rattle.std.specs.Prelude.{◌≡◌, ◌<◌, ◌↔◌, IfSome, IsSome, length};
 ghost use Rattle.l4_model.specs.Words.{register_count};
-ghost use Rattle.l4_types.specs.LetterHeads.{letter_with, word_count};
+ghost use Rattle.l4_types.specs.Inner.LetterHeads.{letter_with, word_count};
 
 use crate::ids::GlobalId;
 use crate::letter_ref::LetterRef;
@@ -144,7 +144,7 @@ pub struct Letter {
 
 impl Model for Letter {
     ghost use Rattle.std.specs.Prelude.{◌≡◌, length};
-    ghost use Rattle.l4_types.specs.LetterHeads.{letter_with, word_count};
+    ghost use Rattle.l4_types.specs.Inner.LetterHeads.{letter_with, word_count};
     ghost use Rattle.l4_core_model.specs.Letters.{Letter as ModelLetter};
 
     ghost Value = { ModelLetter };

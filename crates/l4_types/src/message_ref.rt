@@ -1,8 +1,8 @@
 //! A borrowed message.
 ghost use Rattle.std.specs.Prelude.{◌≡◌, ◌<◌, length, false};
-ghost use Rattle.l4_types.specs.LetterHeads.{message_with};
+ghost use Rattle.l4_types.specs.Inner.LetterHeads.{message_with};
 ghost use Rattle.l4_model.specs.Words.{label_limit, register_count};
-ghost use Rattle.l4_types.specs.Flags.{flags_of};
+ghost use Rattle.l4_types.specs.Inner.Flags.{flags_of};
 
 use crate::ids::GlobalId;
 use crate::messages::Message;

@@ -1,7 +1,7 @@
 //! Messages (manual: Messages and Message Registers).
 ghost use Rattle.std.specs.Prelude.{◌≡◌, ◌<◌, ◌↔◌, IsSome, IfSome, length, false};
 ghost use Rattle.l4_model.specs.Words.{label_limit, register_count};
-ghost use Rattle.l4_types.specs.Flags.{flags_of};
+ghost use Rattle.l4_types.specs.Inner.Flags.{flags_of};
 
 use crate::ids::GlobalId;
 use crate::tags::{LABELS, MsgTag};

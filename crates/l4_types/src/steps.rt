@@ -115,7 +115,7 @@ impl Model for Tick {
     ghost use Rattle.std.specs.Prelude.{◌<◌};
     ghost use Rattle.l4_model.specs.Words.{clock_limit};
     ghost use Rattle.l4_model.specs.Machine.{most_processors};
-    ghost use Rattle.l4_types.specs.ClockTick.{ClockTick};
+    ghost use Rattle.l4_types.specs.Inner.ClockTick.{ClockTick};
 
     ghost Value = { ClockTick };
 

@@ -1,9 +1,11 @@
 //! Message tags (manual: Messages and Message Registers, MsgTag).
-ghost use Rattle.std.specs.Prelude.{◌≡◌, ◌/◌, ◌%◌, ◌<◌, ◌==◌, ◌↔◌, false, IsSome, IfSome, IsOk, IfOk, IfErr};
-ghost use Rattle.l4_model.specs.Words.{tag_of_word, word_of_tag, has_typed_words, label_limit, label_limit_in, register_count};
-ghost use Rattle.l4_types.specs.Flags.{flags_of};
-ghost use Rattle.l4_types.specs.FormatView.{format_of};
-ghost use Rattle.l4_types.specs.TagView.{tag_in};
+ghost use Rattle.std.specs.Prelude.{◌≡◌, ◌/◌, ◌%◌, ◌<◌, ◌==◌, ◌↔◌, false, IsSome, IfSome, IsOk};
+ghost use Rattle.std.specs.Prelude.{IfOk, IfErr};
+ghost use Rattle.l4_model.specs.Words.{tag_of_word, word_of_tag, has_typed_words, label_limit};
+ghost use Rattle.l4_model.specs.Words.{label_limit_in, register_count};
+ghost use Rattle.l4_types.specs.Inner.Flags.{flags_of};
+ghost use Rattle.l4_types.specs.Inner.FormatView.{format_of};
+ghost use Rattle.l4_types.specs.Inner.TagView.{tag_in};
 ghost use Rattle.l4_types.specs.declared.tags.TagFault.TheVariants.{TypedItems as HasTypedItems};
 
 use crate::formats::Format;
@@ -31,7 +33,7 @@ impl Model for MsgTag {
     ghost use Rattle.std.specs.Prelude.{◌≡◌, ◌/◌, ◌%◌, ◌^◌};
     ghost use Rattle.l4_model.specs.Words.{MessageTag, tag_of_word, word_of_tag};
     ghost use Rattle.std.proofs.Common.{ap};
-    ghost use Rattle.l4_types.specs.TagLemmas.{word_of_tag_of};
+    ghost use Rattle.l4_types.specs.Inner.TagLemmas.{word_of_tag_of};
 
     ghost Value = { MessageTag };
 

@@ -2,7 +2,7 @@
 ghost use Rattle.std.specs.Prelude.{◌≡◌, ◌<◌, IfSome};
 ghost use Rattle.std.specs.Option.{option_map};
 ghost use Rattle.l4_model.specs.Words.{period_of, time_of, timeouts_of};
-ghost use Rattle.l4_types.specs.PeriodView.{period_from, periods_from, IsTimely};
+ghost use Rattle.l4_types.specs.Inner.PeriodView.{period_from, periods_from, IsTimely};
 
 /// How long a phase of an Ipc may wait, in ticks of a processor's clock. One tick is one
 /// microsecond.

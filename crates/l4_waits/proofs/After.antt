@@ -6,7 +6,7 @@ use Rattle.l4_model.specs.World.{World}
 use Rattle.l4_model.specs.Steps.{Step}
 use Rattle.l4_model.specs.History.{reached}
 use Rattle.l4_model.proofs.Chains.{some_is}
-use Rattle.l4_audit.specs.Auditing.{Auditing}
+use Rattle.l4_audit.specs.Inner.Auditing.{Auditing}
 use Rattle.l4_audit.specs.Audits.{IsReached}
 use Rattle.l4_waits.specs.Lines.{waits_text}
 

@@ -1,7 +1,9 @@
 //! Numbers below 2^64 as words spell them.
-ghost use Rattle.std.specs.Prelude.{◌≡◌, if◌then◌else◌, nat_lt, ◌<◌, ◌≤◌, ◌+◌, ◌*◌, ◌^◌, IfSome, Some, None, is_some, length, slice_index, take, IfNone};
+ghost use Rattle.std.specs.Prelude.{◌≡◌, if◌then◌else◌, nat_lt, ◌<◌, ◌≤◌, ◌+◌, ◌*◌, ◌^◌, IfSome};
+ghost use Rattle.std.specs.Prelude.{Some, None, is_some, length, slice_index, take, IfNone};
 ghost use Rattle.std.specs.List.{prefix_len};
-ghost use Rattle.l4_words.specs.Numbers.{digit_of, with_digit, number_onto, value_of, has_leading_zero, number_of, padded_of};
+ghost use Rattle.l4_words.specs.Numbers.{digit_of, with_digit, number_onto, value_of};
+ghost use Rattle.l4_words.specs.Numbers.{has_leading_zero, number_of, padded_of};
 
 // A number of this many digits is below 2^64, in base 10 and in base 16.
 const FEW_DIGITS: usize = 16;

@@ -1,5 +1,6 @@
 //! Writes the words of a line from its last to its first, each with the space before it.
-ghost use Rattle.std.specs.Prelude.{◌≡◌, ◌<◌, ◌≤◌, ◌+◌, ◌*◌, true, ◌++◌, codes, decimal, flat_map, length, drop};
+ghost use Rattle.std.specs.Prelude.{◌≡◌, ◌<◌, ◌≤◌, ◌+◌, ◌*◌, true, ◌++◌, codes, decimal, flat_map};
+ghost use Rattle.std.specs.Prelude.{length, drop};
 ghost use Rattle.std.specs.List.{list_all};
 ghost use Rattle.l4_model.specs.Words.{is_global};
 ghost use Rattle.l4_words.specs.Numbers.{hexadecimal, is_word};

@@ -1,10 +1,12 @@
 //! The words of a line.
-ghost use Rattle.std.specs.Prelude.{◌≡◌, ◌≢◌, ◌≤◌, true, nat_lt, length, take, IfSome, ◌∷◌, [], None, Some, IsFalse, IsTrue, MatchOption};
+ghost use Rattle.std.specs.Prelude.{◌≡◌, ◌≢◌, ◌≤◌, true, nat_lt, length, take, IfSome, ◌∷◌, []};
+ghost use Rattle.std.specs.Prelude.{None, Some, IsFalse, IsTrue, MatchOption};
 ghost use Rattle.std.specs.List.{list_all};
 ghost use Rattle.std.specs.Option.{option_copied, option_map};
 ghost use Rattle.l4_words.specs.Names.{name_of};
 ghost use Rattle.l4_words.specs.Threads.{thread_of};
-ghost use Rattle.l4_words.specs.Words.{Finds, words_in, one, two, three, four, five, first_hexadecimal, first_as, words_behind, words_left};
+ghost use Rattle.l4_words.specs.Words.{Finds, words_in, one, two, three, four, five};
+ghost use Rattle.l4_words.specs.Words.{first_hexadecimal, first_as, words_behind, words_left};
 
 use crate::lines::split_once;
 use crate::names::{name, name_in_front};

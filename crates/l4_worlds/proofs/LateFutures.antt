@@ -9,7 +9,7 @@ use Rattle.l4_model.specs.Still.{is_tick, late}
 use Rattle.l4_model.proofs.Chains.{bind_then, some_is}
 use Rattle.l4_worlds.specs.Timeless.{timeless}
 use Rattle.l4_worlds.specs.Late.{next_late, run_late}
-use Rattle.l4_worlds.specs.Room.{IsRoomy}
+use Rattle.l4_worlds.specs.Inner.Room.{IsRoomy}
 use Rattle.l4_worlds.specs.Histories.{IsTimed, IsStillLate}
 use Rattle.l4_worlds.specs.Numberless.{numberless, numberless_step}
 use Rattle.l4_worlds.specs.Bare.{bare, AreAsGood, GoesAsWellLate}

@@ -7,18 +7,20 @@ use Rattle.std.specs.List.{AllByRecursion}
 use Rattle.l4_model.specs.Words.{GlobalId, Period}
 use Rattle.l4_model.specs.Machine.{Machine, Declaration}
 use Rattle.l4_model.specs.World.{World, Receive, Phase, Ready, Sending, Receiving, Ordering, Ended, Deleted, Name, receive_now, must_wait}
-use Rattle.l4_model.specs.Conditions.{Found, found, undecided, has_passed, is_timed_out, first_accepted, ◌>>=◌}
-use Rattle.l4_model.specs.Steps.{Step, SendTimeout, ReceiveTimeout, Tick, receive_passed, next}
+use Rattle.l4_model.specs.Conditions.{Found, found, Pending, undecided, has_passed, is_timed_out, first_accepted, ◌>>=◌}
+use Rattle.l4_model.specs.Rules.{Failure, TimeOver, NobodyThere, CancelAsked}
+use Rattle.l4_model.specs.Steps.{Step, OfThread, Fails, OfSend, Failed, Tick, receive_passed, may_refuse, may_fail, next}
 use Rattle.l4_model.specs.History.{run}
 use Rattle.l4_model.specs.Still.{is_tick}
 use Rattle.l4_model.proofs.Chains.{bind_then, guard_then, some_is}
 use Rattle.l4_model.proofs.Places.{and_true, known, known_send}
-use Rattle.l4_model.proofs.Inversions.{send_timeout_taken, receive_timeout_taken}
+use Rattle.l4_model.proofs.Inversions.{send_failed, receive_failed}
 use Rattle.l4_worlds.specs.Timeless.{timeless, AreAlike}
-use Rattle.l4_worlds.specs.Late.{next_late, may_time_out}
-use Rattle.l4_worlds.specs.Room.{HaveProcessors, EndsBy, PhaseEndsBy, SendEndsBy, IsRoomy, at_time, LeadsAlike}
+use Rattle.l4_worlds.specs.Late.{next_late, may_time_out, may_refuse_late, may_fail_late}
+use Rattle.l4_worlds.specs.Inner.Room.{HaveProcessors, EndsBy, PhaseEndsBy, SendEndsBy, IsRoomy, at_time, LeadsAlike}
 use Rattle.l4_worlds.proofs.Ticks.{ticks_from, ticks_to, are_ticks, at_time_alike, run-append}
 use Rattle.l4_worlds.proofs.OfSteps.{late_timeless}
+use Rattle.l4_worlds.proofs.Taken.{late_refused, late_failed}
 
 -- What is possible is possible late
 
@@ -35,22 +37,32 @@ receive_finite t Ordering receive e h = cc
 receive_finite t Ended receive e h = cc
 receive_finite t Deleted receive e h = cc
 
-send_timeout_late : (m : Machine) (w v : World) (s : Name) → next m w (SendTimeout s) ≡ Some v → next_late m w (SendTimeout s) ≡ Some v
-send_timeout_late m w v s h =
-    let k = send_timeout_taken m w v s h in
-    let both = and_true (has_passed k.p.send.period k.p.send.since k.p.sender.clock) _ k.due in
-    let may : may_time_out m w k.p ≡ true = and_from (is_some k.p.send.period) _ (passed_finite k.p.send.period k.p.send.since k.p.sender.clock both.0) both.1 in
-    rw (k.is_undecided, may, k.free) (ap Some k.leads_to)
+may_refuse_too : (m : Machine) (w : World) (s : Name) (p : Pending) (why : Failure) →
+    may_refuse m w s p why ≡ true → may_refuse_late m w s p why ≡ true
+may_refuse_too m w s p TimeOver h =
+    let due = and_true (is_timed_out m w p) _ h in
+    let both = and_true (has_passed p.send.period p.send.since p.sender.clock) _ due.0 in
+    let finite : is_some p.send.period ≡ true = passed_finite p.send.period p.send.since p.sender.clock both.0 in
+    let may : may_time_out m w p ≡ true = and_from (is_some p.send.period) _ finite both.1 in
+    and_from (may_time_out m w p) _ may due.1
+may_refuse_too m w s p NobodyThere h = h
+may_refuse_too m w s p CancelAsked h = h
 
-receive_timeout_late : (m : Machine) (w v : World) (id : GlobalId) → next m w (ReceiveTimeout id) ≡ Some v → next_late m w (ReceiveTimeout id) ≡ Some v
-receive_timeout_late m w v id h =
-    let k = receive_timeout_taken m w v id h in
-    let finite : is_some k.receive.period ≡ true = receive_finite k.t k.t.now.phase k.receive k.receiving k.due in
-    rw (k.found, k.receiving, finite, k.none_accepted) (ap Some k.leads_to)
+may_fail_too : (m : Machine) (w : World) (t : Found) (receive : Receive) (why : Failure) →
+    receive_now t.now.phase ≡ Some receive → may_fail m w t receive why ≡ true → may_fail_late m w t receive why ≡ true
+may_fail_too m w t receive TimeOver is h =
+    let both = and_true (receive_passed t t.now.phase) _ h in
+    and_from (is_some receive.period) _ (receive_finite t t.now.phase receive is both.0) both.1
+may_fail_too m w t receive NobodyThere is h = h
+may_fail_too m w t receive CancelAsked is h = h
 
 pub possible_late : (m : Machine) (w v : World) (step : Step) → is_tick step ≡ false → next m w step ≡ Some v → next_late m w step ≡ Some v
-possible_late m w v (SendTimeout s) tick h = send_timeout_late m w v s h
-possible_late m w v (ReceiveTimeout id) tick h = receive_timeout_late m w v id h
+possible_late m w v (OfSend (Failed why) s) tick h =
+    let k = send_failed m w v s why h in
+    rw (k.is_undecided, may_refuse_too m w s k.p why k.may) (ap Some k.leads_to)
+possible_late m w v (OfThread (Fails why) id) tick h =
+    let k = receive_failed m w v id why h in
+    rw (k.found, k.receiving, may_fail_too m w k.t k.receive why k.receiving k.may) (ap Some k.leads_to)
 possible_late m w v (Tick cpu clock) tick h = cc
 possible_late m w v _ tick h = h
 
@@ -86,38 +98,47 @@ receive_over t now Ordering receive c e is h = cc
 receive_over t now Ended receive c e is h = cc
 receive_over t now Deleted receive c e is h = cc
 
-send_timeout_now : (m : Machine) (w v : World) (now : ℕ) (s : Name) → HaveProcessors m → IsRoomy m w now →
-    next_late m (at_time now w) (SendTimeout s) ≡ Some v → next m (at_time now w) (SendTimeout s) ≡ Some v
-send_timeout_now m w v now s have room h =
+may_refuse_now : (m : Machine) (w : World) (now : ℕ) (s : Name) (p : Pending) (why : Failure) →
+    HaveProcessors m → IsRoomy m w now → undecided m (at_time now w) s ≡ Some p →
+    may_refuse_late m (at_time now w) s p why ≡ true → may_refuse m (at_time now w) s p why ≡ true
+may_refuse_now m w now s p TimeOver have room is h =
     let u = at_time now w in
-    bind_then (undecided m u s) _ v h λ p is_undecided rest.
-    guard_then (may_time_out m u p) _ v rest λ may rest.
-    guard_then (not (must_wait u.owed s.thread p.send.to)) _ v rest λ free rest.
-    let k = known_send m u s p is_undecided in
-    let both = and_true (is_some p.send.period) _ may in
-    let clock : p.sender.clock ≡ now = k.sender.clock ∙ at_same w.clocks now p.sender.declared.cpu (omega (arith, room.counted, processor m.cpus m.threads p.sender.at p.sender.declared have k.sender.declared)) in
+    let held = and_true (may_time_out m u p) _ h in
+    let k = known_send m u s p is in
+    let both = and_true (is_some p.send.period) _ held.0 in
+    let lt = processor m.cpus m.threads p.sender.at p.sender.declared have k.sender.declared in
+    let clock : p.sender.clock ≡ now =
+    k.sender.clock ∙ at_same w.clocks now p.sender.declared.cpu (omega (arith, room.counted, lt)) in
     let ends : IfSome p.sender.now.send (SendEndsBy now) = room.sends p.sender.at p.sender.now k.sender.now in
     let end : SendEndsBy now p.send = subst (λ o. IfSome o (SendEndsBy now)) k.send ends in
-    let passed : has_passed p.send.period p.send.since p.sender.clock ≡ true = ap (has_passed p.send.period p.send.since) clock ∙ passed_by p.send.period p.send.since now end both.0 in
-    let due : is_timed_out m u p ≡ true = and_from (has_passed p.send.period p.send.since p.sender.clock) _ passed both.1 in
-    rw (is_undecided, due, free) rest
+    let passed : has_passed p.send.period p.send.since p.sender.clock ≡ true =
+    ap (has_passed p.send.period p.send.since) clock ∙ passed_by p.send.period p.send.since now end both.0 in
+    let due = and_from (has_passed p.send.period p.send.since p.sender.clock) _ passed both.1 in
+    and_from (is_timed_out m u p) _ due held.1
+may_refuse_now m w now s p NobodyThere have room is h = h
+may_refuse_now m w now s p CancelAsked have room is h = h
 
-receive_timeout_now : (m : Machine) (w v : World) (now : ℕ) (id : GlobalId) → HaveProcessors m → IsRoomy m w now →
-    next_late m (at_time now w) (ReceiveTimeout id) ≡ Some v → next m (at_time now w) (ReceiveTimeout id) ≡ Some v
-receive_timeout_now m w v now id have room h =
+may_fail_now : (m : Machine) (w : World) (now : ℕ) (id : GlobalId) (t : Found) (receive : Receive) (why : Failure) →
+    HaveProcessors m → IsRoomy m w now → found m (at_time now w) id ≡ Some t → receive_now t.now.phase ≡ Some receive →
+    may_fail_late m (at_time now w) t receive why ≡ true → may_fail m (at_time now w) t receive why ≡ true
+may_fail_now m w now id t receive TimeOver have room is receiving h =
     let u = at_time now w in
-    bind_then (found m u id) _ v h λ t is rest.
-    bind_then (receive_now t.now.phase) _ v rest λ receive receiving rest.
-    guard_then (is_some receive.period) _ v rest λ finite rest.
-    guard_then (is_none (first_accepted m u t receive.from)) _ v rest λ none rest.
+    let both = and_true (is_some receive.period) _ h in
     let clock : t.clock ≡ now = clock_is m w now have room.counted id t is in
-    let passed : receive_passed t t.now.phase ≡ true = receive_over t now t.now.phase receive clock (room.phases t.at t.now (known m u id t is).now) receiving finite in
-    rw (is, receiving, passed, none) rest
+    let ends = room.phases t.at t.now (known m u id t is).now in
+    and_from (receive_passed t t.now.phase) _ (receive_over t now t.now.phase receive clock ends receiving both.0) both.1
+may_fail_now m w now id t receive NobodyThere have room is receiving h = h
+may_fail_now m w now id t receive CancelAsked have room is receiving h = h
 
 pub possible_now : (m : Machine) (w v : World) (now : ℕ) (step : Step) → HaveProcessors m → IsRoomy m w now →
     next_late m (at_time now w) step ≡ Some v → next m (at_time now w) step ≡ Some v
-possible_now m w v now (SendTimeout s) have room h = send_timeout_now m w v now s have room h
-possible_now m w v now (ReceiveTimeout id) have room h = receive_timeout_now m w v now id have room h
+possible_now m w v now (OfSend (Failed why) s) have room h =
+    let k = late_refused m (at_time now w) v s why h in
+    rw (k.is_undecided, may_refuse_now m w now s k.p why have room k.is_undecided k.may) (ap Some k.leads_to)
+possible_now m w v now (OfThread (Fails why) id) have room h =
+    let k = late_failed m (at_time now w) v id why h in
+    rw (k.found, k.receiving, may_fail_now m w now id k.t k.receive why have room k.found k.receiving k.may)
+    (ap Some k.leads_to)
 possible_now m w v now (Tick cpu clock) have room h = cc
 possible_now m w v now _ have room h = h
 

@@ -4,15 +4,15 @@ use Rattle.std.specs.Prelude.{slice_get, IfSome}
 use Rattle.std.specs.Option.{option_map}
 use Rattle.std.specs.List.{AllByRecursion}
 use Rattle.l4_model.specs.Words.{GlobalId, Id, NilThread, AnyThread, AnyLocalThread, LocalThread, GlobalThread, Period, is_id_of}
-use Rattle.l4_model.specs.Machine.{Machine, Declaration, OrderKind, CancelSend, CancelReceive, CancelBoth, Delete, Instr, Set, Copy, Add, Tag, Vs, Ipc, Ask, Jump, OnErr, End, instruction_at}
+use Rattle.l4_model.specs.Machine.{Machine, Declaration, OrderKind, CancelSend, CancelReceive, CancelBoth, Delete, Instr, Run, Ipc, Ask, End, instruction_at}
 use Rattle.l4_model.specs.World.{World, Thread, Context, Send, Receive, Owed, Phase, Ready, Sending, Receiving, Ordering, Ended, Deleted, Name, changed, opening, opening_thread, is_alive}
-use Rattle.l4_model.specs.Rules.{Act, RunsAlone, Sends, Receives, Orders, act, ipc_act, ask_act, is_admitted, destination, receive_phase}
+use Rattle.l4_model.specs.Rules.{receive_code, send_code, Act, RunsAlone, Sends, Receives, Orders, act, ipc_act, ask_act, is_admitted, destination, receive_phase}
 use Rattle.l4_model.specs.Effects.{runs, begins, waits, fails, decided, refused, receives, goes_on, delivered, asked, orders, obeyed, turned_receive, turns, turns_in}
 use Rattle.l4_model.specs.Conditions.{Found, found, Pending, undecided, instruction, act_of}
-use Rattle.l4_model.specs.Steps.{Step, Local, Begin, Queue, Deliver, Wait, SendTimeout, ReceiveTimeout, SendNobody, ReceiveNobody, SendCancel, ReceiveCancel, Drop, Order, Obey, Tick, Retarget, send_of, receive_of, next}
+use Rattle.l4_model.specs.Steps.{Step, Deliver, Order, Tick, send_of, receive_of, next, OfThread, OfSend, Runs, Waits, Fails, Obeys, Begun, Queued, Failed, Dropped, Retargeted}
 use Rattle.l4_model.specs.History.{run, reached}
 use Rattle.l4_model.proofs.Chains.{bind_then, some_is}
-use Rattle.l4_model.proofs.Inversions.{local_taken, begin_taken, queue_taken, deliver_taken, wait_taken, send_timeout_taken, send_nobody_taken, send_cancel_taken, drop_taken, receive_timeout_taken, receive_nobody_taken, receive_cancel_taken, order_taken, obey_taken, tick_taken, retarget_taken}
+use Rattle.l4_model.proofs.Inversions.{local_taken, begin_taken, queue_taken, deliver_taken, wait_taken, drop_taken, order_taken, obey_taken, tick_taken, retarget_taken, send_failed, receive_failed}
 use Rattle.l4_model.proofs.Places.{known, known_send}
 use Rattle.l4_worlds.specs.Histories.{IsShort, IsShortIn, AreShort}
 
@@ -72,15 +72,9 @@ ask_short m id (GlobalThread t) what = by (is_admitted m id t what)
     by false = tt
 
 act_short : (m : Machine) (id : GlobalId) (now : ℕ) (c : Context) (i : Instr) → IsShortIn i → ActShort (act m id now c i)
-act_short m id now c (Set a word) h = tt
-act_short m id now c (Copy a b) h = tt
-act_short m id now c (Add format a word) h = tt
-act_short m id now c (Tag word) h = tt
-act_short m id now c (Vs other) h = tt
+act_short m id now c (Run own) h = tt
 act_short m id now c (Ipc to from send_period receive_period) h = ipc_short m id now c (destination c to) send_period (receive_phase from receive_period) h.0 (phase_short from receive_period h.1)
 act_short m id now c (Ask target what) h = ask_short m id target what
-act_short m id now c (Jump place) h = tt
-act_short m id now c (OnErr place) h = tt
 act_short m id now c End h = tt
 
 declared_short : (ds : List Declaration) (i : ℕ) (d : Declaration) → AllByRecursion (λ (x : Declaration). AllByRecursion IsShortIn x.script) ds → slice_get ds i ≡ Some d → AllByRecursion IsShortIn d.script
@@ -116,15 +110,9 @@ cond_short true x y p q = p
 cond_short false x y p q = q
 
 runs_short : (i : Instr) → KeepsShort (runs i)
-runs_short (Set a word) t h = (tt, h.1)
-runs_short (Copy a b) t h = (tt, h.1)
-runs_short (Add format a word) t h = (tt, h.1)
-runs_short (Tag word) t h = (tt, h.1)
-runs_short (Vs id) t h = (tt, h.1)
+runs_short (Run own) t h = (tt, h.1)
 runs_short (Ipc to from send_period receive_period) t h = (tt, h.1)
 runs_short (Ask target what) t h = (tt, h.1)
-runs_short (Jump place) t h = (tt, h.1)
-runs_short (OnErr place) t h = (tt, h.1)
 runs_short End t h = (tt, h.1)
 
 fails_short : (code : ℕ) → KeepsShort (fails code)
@@ -196,42 +184,51 @@ send_short m w s p is h =
     subst (λ o. IfSome o SendShort) k.send (all_at ThreadShort w.threads p.sender.at p.sender.now h k.sender.now).1
 
 step_short : (m : Machine) (w v : World) (step : Step) → AreShort m → next m w step ≡ Some v → AllShort w → AllShort v
-step_short m w v (Local id) short h all =
+step_short m w v (OfThread Runs id) short h all =
     let k = local_taken m w v id h in
-    subst AllShort k.leads_to (changed_short (runs (instruction k.t)) w.threads k.t.at (runs_short (instruction k.t)) all)
-step_short m w v (Begin s) short h all =
+    let i = instruction k.t in
+    subst AllShort k.leads_to (changed_short (runs i) w.threads k.t.at (runs_short i) all)
+step_short m w v (OfThread Waits id) short h all =
+    let k = wait_taken m w v id h in
+    let acts = found_act_short m w id k.t short k.found in
+    let receive : ReceiveShort k.receive = received_short (act_of m k.t) k.receive acts k.receiving in
+    subst AllShort k.leads_to (changed_short (waits k.receive k.t.clock) w.threads k.t.at (λ t x. (receive, x.1)) all)
+step_short m w v (OfThread (Fails why) id) short h all =
+    let k = receive_failed m w v id why h in
+    let code = receive_code why in
+    subst AllShort k.leads_to (changed_short (fails code) w.threads k.t.at (fails_short code) all)
+step_short m w v (OfThread Obeys id) short h all =
+    let k = obey_taken m w v id h in
+    subst AllShort k.leads_to
+    (changed_short obeyed (changed (asked k.order.what) w.threads k.target) k.t.at obeyed_short
+    (changed_short (asked k.order.what) w.threads k.target (asked_short k.order.what) all))
+step_short m w v (OfSend Begun s) short h all =
     let k = begin_taken m w v s h in
-    let send : SendShort k.send = sent_short (act_of m k.t) k.send (found_act_short m w s.thread k.t short k.found) k.sends in
+    let acts = found_act_short m w s.thread k.t short k.found in
+    let send : SendShort k.send = sent_short (act_of m k.t) k.send acts k.sends in
     subst AllShort k.leads_to (changed_short (begins k.send) w.threads k.t.at (λ t x. (tt, send)) all)
-step_short m w v (Queue s) short h all = let k = queue_taken m w v s h in subst AllShort k.leads_to all
+step_short m w v (OfSend Queued s) short h all = subst AllShort (queue_taken m w v s h).leads_to all
+step_short m w v (OfSend (Failed why) s) short h all =
+    let k = send_failed m w v s why h in
+    let code = send_code why in
+    subst AllShort k.leads_to (changed_short (refused code) w.threads k.p.sender.at (refused_short code) all)
+step_short m w v (OfSend Dropped s) short h all =
+    let k = drop_taken m w v s h in
+    subst AllShort k.leads_to (changed_short decided w.threads k.p.sender.at decided_short all)
+step_short m w v (OfSend Retargeted s) short h all =
+    let k = retarget_taken m w v s h in
+    subst AllShort k.leads_to (changed_short (turns k.o) w.threads k.t.at (turns_short k.o) all)
 step_short m w v (Deliver s receiver shown actual tag words) short h all =
     let k = deliver_taken m w v s receiver shown actual tag words h in
     let send = send_short m w s k.p k.is_undecided all in
+    let gets : Thread → Thread = receives k.p.send.message tag in
     subst AllShort k.leads_to
-    (changed_short (delivered k.p.send k.p.sender.clock) (changed (receives k.p.send.message tag) w.threads k.r.at) k.p.sender.at (delivered_short k.p.send k.p.sender.clock send)
-    (changed_short (receives k.p.send.message tag) w.threads k.r.at (λ t x. (tt, x.1)) all))
-step_short m w v (Wait id) short h all =
-    let k = wait_taken m w v id h in
-    let receive : ReceiveShort k.receive = received_short (act_of m k.t) k.receive (found_act_short m w id k.t short k.found) k.receiving in
-    subst AllShort k.leads_to (changed_short (waits k.receive k.t.clock) w.threads k.t.at (λ t x. (receive, x.1)) all)
-step_short m w v (SendTimeout s) short h all = let k = send_timeout_taken m w v s h in subst AllShort k.leads_to (changed_short (refused 2) w.threads k.p.sender.at (refused_short 2) all)
-step_short m w v (SendNobody s) short h all = let k = send_nobody_taken m w v s h in subst AllShort k.leads_to (changed_short (refused 4) w.threads k.p.sender.at (refused_short 4) all)
-step_short m w v (SendCancel s) short h all = let k = send_cancel_taken m w v s h in subst AllShort k.leads_to (changed_short (refused 6) w.threads k.p.sender.at (refused_short 6) all)
-step_short m w v (Drop s) short h all = let k = drop_taken m w v s h in subst AllShort k.leads_to (changed_short decided w.threads k.p.sender.at decided_short all)
-step_short m w v (ReceiveTimeout id) short h all = let k = receive_timeout_taken m w v id h in subst AllShort k.leads_to (changed_short (fails 3) w.threads k.t.at (fails_short 3) all)
-step_short m w v (ReceiveNobody id) short h all = let k = receive_nobody_taken m w v id h in subst AllShort k.leads_to (changed_short (fails 5) w.threads k.t.at (fails_short 5) all)
-step_short m w v (ReceiveCancel id) short h all = let k = receive_cancel_taken m w v id h in subst AllShort k.leads_to (changed_short (fails 7) w.threads k.t.at (fails_short 7) all)
+    (changed_short (delivered k.p.send k.p.sender.clock) (changed gets w.threads k.r.at) k.p.sender.at
+    (delivered_short k.p.send k.p.sender.clock send) (changed_short gets w.threads k.r.at (λ t x. (tt, x.1)) all))
 step_short m w v (Order caller target what) short h all =
     let k = order_taken m w v caller target what h in
     subst AllShort k.leads_to (changed_short (orders k.order) w.threads k.t.at (λ t x. (tt, x.1)) all)
-step_short m w v (Obey caller) short h all =
-    let k = obey_taken m w v caller h in
-    subst AllShort k.leads_to
-    (changed_short obeyed (changed (asked k.order.what) w.threads k.target) k.t.at obeyed_short (changed_short (asked k.order.what) w.threads k.target (asked_short k.order.what) all))
-step_short m w v (Tick cpu clock) short h all = let k = tick_taken m w v cpu clock h in subst AllShort k.leads_to all
-step_short m w v (Retarget s) short h all =
-    let k = retarget_taken m w v s h in
-    subst AllShort k.leads_to (changed_short (turns k.o) w.threads k.t.at (turns_short k.o) all)
+step_short m w v (Tick cpu clock) short h all = subst AllShort (tick_taken m w v cpu clock h).leads_to all
 
 pub run_short : (m : Machine) (h : List Step) (w v : World) → AreShort m → run m w h ≡ Some v → AllShort w → AllShort v
 run_short m [] w v short r all = subst AllShort (some_is w v r) all

@@ -7,17 +7,17 @@ use Rattle.std.specs.List.{AllByRecursion}
 use Rattle.l4_model.specs.Words.{Period}
 use Rattle.l4_model.specs.Machine.{Machine, Declaration}
 use Rattle.l4_model.specs.World.{World, Thread, Send, Phase, Ready, Sending, Receiving, Ordering, Ended, Deleted, opening, opening_thread}
-use Rattle.l4_model.specs.Steps.{Step, Local, Begin, Queue, Deliver, Wait, SendTimeout, ReceiveTimeout, SendNobody, ReceiveNobody, SendCancel, ReceiveCancel, Drop, Order, Obey, Tick, Retarget, next}
+use Rattle.l4_model.specs.Steps.{Step, Deliver, Order, Tick, next, OfThread, OfSend}
 use Rattle.l4_model.specs.History.{run, reached}
 use Rattle.l4_model.specs.Still.{is_tick, IsStill}
 use Rattle.l4_model.specs.Reached.{BeganBy, IsSendOf, ThreadFacts}
 use Rattle.l4_model.proofs.Chains.{bind_then, some_is}
 use Rattle.l4_model.proofs.Worlds.{reached_facts}
 use Rattle.l4_model.proofs.Sound.{AreSound}
-use Rattle.l4_model.proofs.Inversions.{local_taken, begin_taken, queue_taken, deliver_taken, wait_taken, send_timeout_taken, send_nobody_taken, send_cancel_taken, drop_taken, receive_timeout_taken, receive_nobody_taken, receive_cancel_taken, order_taken, obey_taken, retarget_taken}
+use Rattle.l4_model.proofs.Inversions.{deliver_taken, order_taken, thread_alone, send_clocks}
 use Rattle.l4_worlds.specs.Timeless.{timeless_thread, timeless}
 use Rattle.l4_worlds.specs.Late.{next_late, run_late, no_ticks}
-use Rattle.l4_worlds.specs.Room.{HaveProcessors, EndsBy, PhaseEndsBy, SendEndsBy, IsRoomy, at_time}
+use Rattle.l4_worlds.specs.Inner.Room.{HaveProcessors, EndsBy, PhaseEndsBy, SendEndsBy, IsRoomy, at_time}
 use Rattle.l4_worlds.specs.Histories.{IsShort, IsTimed, IsStillLate, IsUntimed, IsNeverOrZero, IsUntimedIn}
 use Rattle.l4_worlds.proofs.Periods.{ThreadShort, PhaseShort, SendShort, AllShort, all_at, reached_short}
 use Rattle.l4_worlds.proofs.OfSteps.{late_timeless}
@@ -30,22 +30,13 @@ abbrev clocks_of : World → List ℕ
 clocks_of w = w.clocks
 
 pub clocks_kept : (m : Machine) (w v : World) (step : Step) → is_tick step ≡ false → next m w step ≡ Some v → v.clocks ≡ w.clocks
-clocks_kept m w v (Local id) tick h = let k = local_taken m w v id h in ap clocks_of (sym k.leads_to)
-clocks_kept m w v (Begin s) tick h = let k = begin_taken m w v s h in ap clocks_of (sym k.leads_to)
-clocks_kept m w v (Queue s) tick h = let k = queue_taken m w v s h in ap clocks_of (sym k.leads_to)
-clocks_kept m w v (Deliver s receiver shown actual tag words) tick h = let k = deliver_taken m w v s receiver shown actual tag words h in ap clocks_of (sym k.leads_to)
-clocks_kept m w v (Wait id) tick h = let k = wait_taken m w v id h in ap clocks_of (sym k.leads_to)
-clocks_kept m w v (SendTimeout s) tick h = let k = send_timeout_taken m w v s h in ap clocks_of (sym k.leads_to)
-clocks_kept m w v (SendNobody s) tick h = let k = send_nobody_taken m w v s h in ap clocks_of (sym k.leads_to)
-clocks_kept m w v (SendCancel s) tick h = let k = send_cancel_taken m w v s h in ap clocks_of (sym k.leads_to)
-clocks_kept m w v (Drop s) tick h = let k = drop_taken m w v s h in ap clocks_of (sym k.leads_to)
-clocks_kept m w v (ReceiveTimeout id) tick h = let k = receive_timeout_taken m w v id h in ap clocks_of (sym k.leads_to)
-clocks_kept m w v (ReceiveNobody id) tick h = let k = receive_nobody_taken m w v id h in ap clocks_of (sym k.leads_to)
-clocks_kept m w v (ReceiveCancel id) tick h = let k = receive_cancel_taken m w v id h in ap clocks_of (sym k.leads_to)
-clocks_kept m w v (Order caller target what) tick h = let k = order_taken m w v caller target what h in ap clocks_of (sym k.leads_to)
-clocks_kept m w v (Obey caller) tick h = let k = obey_taken m w v caller h in ap clocks_of (sym k.leads_to)
+clocks_kept m w v (OfThread kind id) tick h = (thread_alone m w v kind id h).clocks
+clocks_kept m w v (OfSend kind s) tick h = send_clocks m w v kind s h
+clocks_kept m w v (Deliver s receiver shown actual tag words) tick h =
+    ap clocks_of (sym (deliver_taken m w v s receiver shown actual tag words h).leads_to)
+clocks_kept m w v (Order caller target what) tick h =
+    ap clocks_of (sym (order_taken m w v caller target what h).leads_to)
 clocks_kept m w v (Tick cpu clock) tick h = cc
-clocks_kept m w v (Retarget s) tick h = let k = retarget_taken m w v s h in ap clocks_of (sym k.leads_to)
 
 pub all_same : (now : ℕ) (clocks : List ℕ) → AllByRecursion (λ clock. clock ≤ now) (map (λ clock. now) clocks)
 all_same now [] = tt

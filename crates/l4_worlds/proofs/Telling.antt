@@ -15,7 +15,7 @@ use Rattle.l4_model.proofs.Chains.{bind_then, some_is}
 use Rattle.l4_model.proofs.Places.{and_true, Known, known, known_send, sender_found}
 use Rattle.l4_worlds.specs.Timeless.{timeless}
 use Rattle.l4_worlds.specs.Late.{next_late, run_late, no_ticks}
-use Rattle.l4_worlds.specs.Room.{EndsBy, PhaseEndsBy, SendEndsBy, IsRoomy}
+use Rattle.l4_worlds.specs.Inner.Room.{EndsBy, PhaseEndsBy, SendEndsBy, IsRoomy}
 use Rattle.l4_worlds.specs.Histories.{IsTimed, HasRoomFor}
 use Rattle.l4_worlds.specs.Told.{until_over, until_send_over, until_phase_over, until_receive_over, until_due, when_due, told_behind, told, IsTold}
 use Rattle.l4_worlds.proofs.OfSteps.{late_timeless}

@@ -6,7 +6,7 @@ use Rattle.l4_model.specs.Machine.{Machine, Declaration, Instr, Ipc}
 use Rattle.l4_model.specs.World.{World, Thread, Phase, Receiving, Send}
 use Rattle.l4_model.specs.Steps.{Step}
 use Rattle.l4_worlds.specs.Late.{next_late}
-use Rattle.l4_worlds.specs.Room.{HaveProcessors}
+use Rattle.l4_worlds.specs.Inner.Room.{HaveProcessors}
 
 -- Each period of a script is one that a time has.
 

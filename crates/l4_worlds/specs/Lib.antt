@@ -1,7 +1,7 @@
-pub mod Timeless
-pub mod Late
-pub mod Room
-pub mod Histories
-pub mod Told
-pub mod Numberless
 pub mod Bare
+pub mod Histories
+pub mod Inner
+pub mod Late
+pub mod Numberless
+pub mod Timeless
+pub mod Told

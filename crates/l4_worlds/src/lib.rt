@@ -32,7 +32,7 @@ ghost use Rattle.l4_model.specs.Still.{is_tick, late, IsStill};
 ghost use Rattle.l4_model.specs.Reached.{AreNamedOnce, WorldFacts};
 ghost use Rattle.l4_worlds.specs.Timeless.{timeless, AreAlike};
 ghost use Rattle.l4_worlds.specs.Late.{next_late, run_late, no_ticks};
-ghost use Rattle.l4_worlds.specs.Room.{HaveProcessors, IsRoomy, LeadsAlike};
+ghost use Rattle.l4_worlds.specs.Inner.Room.{HaveProcessors, IsRoomy, LeadsAlike};
 ghost use Rattle.l4_worlds.specs.Histories.{IsTimed, HasRoomFor, IsStillLate, IsUntimed};
 ghost use Rattle.l4_worlds.specs.Told.{IsTold};
 ghost use Rattle.l4_worlds.specs.Numberless.{AreSimilar, LeadsSimilarly};

@@ -9,7 +9,7 @@ use Rattle.std.proofs.lemmas.Map.Keys.{IsDistinct-push}
 use Rattle.std.proofs.lemmas.Map.Steps.{length-le_from_distinct_below}
 use Rattle.std.specs.List.{range_with_len, IsDistinct}
 use Rattle.l4_model.specs.World.{is_in}
-use Rattle.tcb_arena.specs.Rings.{Lists, AreSound, list_at, taken_out, without_first, AreRings, Leads, ring, rings, without, is_in_any}
+use Rattle.tcb_arena.specs.Inner.Rings.{Lists, AreSound, list_at, taken_out, without_first, AreRings, Leads, ring, rings, without, is_in_any}
 use Rattle.tcb_arena.proofs.Splices.{second, length-set2, AreInverse-spliced, moved, moved_there, spliced_step}
 use Rattle.tcb_arena.proofs.Lists.{length-without, is_in_any-without, IsDistinct-without, map-range, map-range_set, map-map-range, is_in-push, is_in_any-grown, is_in_any-at, is_in_any-range, IsDistinct-nil, without_the_first}
 use Rattle.tcb_arena.proofs.Walks.{length-walk, walk-leads, leads-below, free_is_nowhere, leads_without, leads_push, leads_kept, first-leads, after-leads, leads-one, leads-at}

@@ -6,8 +6,8 @@ use Rattle.std.proofs.lemmas.List.{map-set, map_push, length-map}
 use Rattle.std.specs.List.{list_any}
 use Rattle.l4_core_model.specs.Plain.{put_entry, without_block}
 use Rattle.l4_model.specs.World.{is_in}
-use Rattle.tcb_arena.specs.Rings.{without, is_in_any}
-use Rattle.tcb_arena.specs.Due.{earlier_of, put_all, put_rings, entry}
+use Rattle.tcb_arena.specs.Inner.Rings.{without, is_in_any}
+use Rattle.tcb_arena.specs.Inner.Due.{earlier_of, put_all, put_rings, entry}
 use Rattle.tcb_arena.proofs.Lists.{is_in-at, get_or-without, without_here as name_here, without_there as name_there}
 
 abbrev pub E : Type 0

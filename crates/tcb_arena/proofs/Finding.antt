@@ -7,9 +7,9 @@ use Rattle.l4_model.specs.Words.{Id}
 use Rattle.l4_model.specs.Rules.{takes}
 use Rattle.l4_core_model.specs.Plain.{Waiting, Plain, first_taken, list_of}
 use Rattle.tcb_arena.specs.declared.Sender.{Sender}
-use Rattle.tcb_arena.specs.Due.{Due}
-use Rattle.tcb_arena.specs.Rings.{Lists}
-use Rattle.tcb_arena.specs.Shown.{waiting_at, shown_lists}
+use Rattle.tcb_arena.specs.Inner.Due.{Due}
+use Rattle.tcb_arena.specs.Inner.Rings.{Lists}
+use Rattle.tcb_arena.specs.Inner.Shown.{waiting_at, shown_lists}
 use Rattle.tcb_arena.proofs.Showing.{list-shown}
 
 pub drop_at : (xs : List ℕ) (k x : ℕ) → slice_get xs k ≡ Some x → drop k xs ≡ x ∷ drop (suc k) xs

@@ -3,8 +3,8 @@ use Rattle.std.specs.Prelude.{slice_get, Some, None, nat_le}
 use Rattle.std.proofs.Common.{◌≡◌, ℕ, ◌<◌, ◌≤◌, Bool, true, false, cond, ◌&&◌, ◌⊎◌, inl, inr, List, [], ◌∷◌, ◌++◌, length, map, get_or, set, refl, sym, ◌∙◌, ap, ⊎_elim, arith, suc, get_or-set_same, get_or-set_other}
 use Rattle.std.proofs.lemmas.Bool.{and_parts, leb-true, le-leb, cases_eq, false≢true}
 use Rattle.l4_core_model.specs.Plain.{put_entry, due_block}
-use Rattle.tcb_arena.specs.Rings.{is_in_any, without}
-use Rattle.tcb_arena.specs.Due.{are_from, put_all, put_rings, entries_in, armed_in, AreFloors, IsFloor, IsLeast}
+use Rattle.tcb_arena.specs.Inner.Rings.{is_in_any, without}
+use Rattle.tcb_arena.specs.Inner.Due.{are_from, put_all, put_rings, entries_in, armed_in, AreFloors, IsFloor, IsLeast}
 use Rattle.tcb_arena.proofs.Lists.{is_in-at, get_or-without}
 use Rattle.tcb_arena.proofs.Entries.{E, is_in-get, get-push, get-without, entries-at, entry-from}
 

@@ -5,11 +5,11 @@ use Rattle.std.proofs.lemmas.Bool.{cond-false, cond-true, ne_eqb, eq-eqb, eqb-tr
 use Rattle.std.proofs.lemmas.Option.{slice_get-get_or}
 use Rattle.l4_core_model.specs.Plain.{Waiting, Plain, list_of}
 use Rattle.tcb_arena.specs.declared.Sender.{Sender}
-use Rattle.tcb_arena.specs.Due.{Due, armed_of, times_armed, AreOnce}
-use Rattle.tcb_arena.specs.Left.{entries_from, entries_left, names_from, names_from_any, names_left}
+use Rattle.tcb_arena.specs.Inner.Due.{Due, armed_of, times_armed, AreOnce}
+use Rattle.tcb_arena.specs.Inner.Left.{entries_from, entries_left, names_from, names_from_any, names_left}
 use Rattle.l4_model.specs.World.{is_in}
-use Rattle.tcb_arena.specs.Rings.{Lists, list_at, AreSound}
-use Rattle.tcb_arena.specs.Shown.{waiting_at, shown_lists}
+use Rattle.tcb_arena.specs.Inner.Rings.{Lists, list_at, AreSound}
+use Rattle.tcb_arena.specs.Inner.Shown.{waiting_at, shown_lists}
 use Rattle.tcb_arena.proofs.Finding.{drop_at, drop_past}
 use Rattle.tcb_arena.proofs.Entries.{E}
 use Rattle.tcb_arena.proofs.Once.{entry-apart}

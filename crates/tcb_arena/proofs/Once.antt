@@ -4,10 +4,10 @@ use Rattle.std.proofs.Common.{◌≡◌, ℕ, ◌+◌, ◌<◌, ◌≤◌, true,
 use Rattle.std.proofs.lemmas.Bool.{cases_eq, ne_eqb, eq-eqb, cases_lt, or_left, or_right, or_cases, false≢true, eqb-true, cases_Bool}
 use Rattle.std.specs.List.{list_any}
 use Rattle.l4_core_model.specs.Plain.{put_entry, without_block}
-use Rattle.tcb_arena.specs.Blocks.{has_entry}
+use Rattle.tcb_arena.specs.Inner.Blocks.{has_entry}
 use Rattle.l4_model.specs.World.{is_in}
-use Rattle.tcb_arena.specs.Rings.{Lists, AreSound, is_in_any}
-use Rattle.tcb_arena.specs.Due.{Due, armed_of, AreOnce, ArePlaced, times_armed, shown_due, put_all, put_rings, entry}
+use Rattle.tcb_arena.specs.Inner.Rings.{Lists, AreSound, is_in_any}
+use Rattle.tcb_arena.specs.Inner.Due.{Due, armed_of, AreOnce, ArePlaced, times_armed, shown_due, put_all, put_rings, entry}
 use Rattle.tcb_arena.proofs.Entries.{E, put_le, put_lt, is_in-get, any-put_rings, without_here, without_there}
 
 times-put : (b : ℕ) (e : E) (xs : List E) → times_armed b (put_entry e xs) ≡ times_armed b (e ∷ xs)

@@ -7,8 +7,8 @@ use Rattle.std.proofs.lemmas.Bool.{cases_eq, cases_lt, eq-eqb, ne_eqb, cond-true
 use Rattle.std.proofs.lemmas.List.{append-nil, append_assoc}
 use Rattle.std.proofs.lemmas.List.Elements.{filter-append}
 use Rattle.l4_core_model.specs.Plain.{put_entry}
-use Rattle.tcb_arena.specs.Rings.{Lists, list_at, is_linked, AreSound}
-use Rattle.tcb_arena.specs.Due.{ArePlaced, Due, armed_in, armed_of, entries_in, entry, has_deadline, put_all, put_rings, shown_due, times_armed}
+use Rattle.tcb_arena.specs.Inner.Rings.{Lists, list_at, is_linked, AreSound}
+use Rattle.tcb_arena.specs.Inner.Due.{ArePlaced, Due, armed_in, armed_of, entries_in, entry, has_deadline, put_all, put_rings, shown_due, times_armed}
 use Rattle.tcb_arena.proofs.Lists.{is_in_any-at}
 use Rattle.tcb_arena.proofs.Entries.{E, Rises, put_le, put_lt, rises-put, rises-put_all, rises-put_rings, entries-at, entry-from, is_in-get}
 use Rattle.tcb_arena.proofs.Once.{entry-apart, get-in-any, once-shown, times-ring}

@@ -5,7 +5,7 @@ use Rattle.std.specs.Int.{bit_at, rotate_right, trailing_zeros}
 use Rattle.std.proofs.lemmas.Bool.{cases_eq, cases_lt, eq-eqb, ne_eqb, false≢true}
 use Rattle.std.proofs.lemmas.Nat.{shr-shr, shr_split, and_le_l, or_lt, shr_le, mod_below, pow_pos}
 use Rattle.std.proofs.lemmas.Nat.Bits.{bit_at_set_same, bit_at_set_other, bit_at_clear_same, bit_at_clear_other, bit_at-zero, bit_at-trailing_zeros, bit_at_or, bit_at_above, bit_at_cat_low, bit_at_cat_high}
-use Rattle.tcb_arena.specs.RingSets.{has, IsNext}
+use Rattle.tcb_arena.specs.Inner.RingSets.{has, IsNext}
 
 or_false : (b : Bool) → (b || false) ≡ b
 or_false true = refl

@@ -4,9 +4,9 @@ use Rattle.std.proofs.Common.{◌≡◌, ◌≢◌, ℕ, ◌+◌, ◌-◌, ◌<�
 use Rattle.std.proofs.lemmas.Bool.{cases_eq, cases_lt, cond-true, cond-false, le-leb, lt-leb, leb-true, false≢true}
 use Rattle.std.proofs.lemmas.List.{length-map}
 use Rattle.l4_core_model.specs.Plain.{put_entry}
-use Rattle.tcb_arena.specs.RingSets.{has, IsNext}
-use Rattle.tcb_arena.specs.Rings.{Lists}
-use Rattle.tcb_arena.specs.Due.{ArePlaced, AreFilled, AreFloors, IsFloor, earlier_of, at_most, put_all, put_rings, entry, entries_in, armed_in, IsBest, IsLeast}
+use Rattle.tcb_arena.specs.Inner.RingSets.{has, IsNext}
+use Rattle.tcb_arena.specs.Inner.Rings.{Lists}
+use Rattle.tcb_arena.specs.Inner.Due.{ArePlaced, AreFilled, AreFloors, IsFloor, earlier_of, at_most, put_all, put_rings, entry, entries_in, armed_in, IsBest, IsLeast}
 use Rattle.tcb_arena.proofs.Entries.{E, best_at, first-put, entries-at, entry-from}
 
 -- The first entry, where these come behind the first one so far.

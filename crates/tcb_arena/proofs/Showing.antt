@@ -7,10 +7,10 @@ use Rattle.std.specs.List.{list_any}
 use Rattle.l4_model.specs.World.{changed, is_in}
 use Rattle.l4_core_model.specs.Plain.{Waiting, Plain, unqueued, queued, is_queued, due_block, popped_due, without_block, armed}
 use Rattle.tcb_arena.specs.declared.Sender.{Sender}
-use Rattle.tcb_arena.specs.Blocks.{empty_lists, without_due}
-use Rattle.tcb_arena.specs.Due.{Due, none_armed, armed_of, times_armed, without_first_due}
-use Rattle.tcb_arena.specs.Rings.{Lists, list_at, no_names, taken_out, put_last, is_linked, without, is_in_any}
-use Rattle.tcb_arena.specs.Shown.{waiting_of, waiting_at, sender_at, no_sender, shown_lists}
+use Rattle.tcb_arena.specs.Inner.Blocks.{empty_lists, without_due}
+use Rattle.tcb_arena.specs.Inner.Due.{Due, none_armed, armed_of, times_armed, without_first_due}
+use Rattle.tcb_arena.specs.Inner.Rings.{Lists, list_at, no_names, taken_out, put_last, is_linked, without, is_in_any}
+use Rattle.tcb_arena.specs.Inner.Shown.{waiting_of, waiting_at, sender_at, no_sender, shown_lists}
 use Rattle.tcb_arena.proofs.Lists.{is_in-at}
 use Rattle.tcb_arena.proofs.Entries.{E}
 use Rattle.tcb_arena.proofs.Once.{first-out}

@@ -2,7 +2,7 @@
 use Rattle.std.proofs.Common.{◌≡◌, ◌≢◌, ℕ, ◌<◌, cond, eqb, List, length, get_or, set, sym, ◌∙◌, ap, subst, ⊎_elim, arith, get_or-set_same, get_or-set_other}
 use Rattle.std.proofs.lemmas.List.{length-set}
 use Rattle.std.proofs.lemmas.Bool.{cases_eq, ne_eqb, eq-eqb, cond-true, cond-false}
-use Rattle.tcb_arena.specs.Rings.{AreInverse}
+use Rattle.tcb_arena.specs.Inner.Rings.{AreInverse}
 
 -- Two writes in a row
 

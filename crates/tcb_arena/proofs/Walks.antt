@@ -3,7 +3,7 @@ use Rattle.std.specs.Prelude.{slice_get, Some, None}
 use Rattle.std.proofs.Common.{ltb, ◌≡◌, ◌≢◌, ℕ, ◌<◌, ◌≤◌, true, false, cond, eqb, ◌||◌, List, [], ◌∷◌, ◌++◌, length, get_or, refl, sym, ◌∙◌, ap, subst, ⊎_elim, arith, zero, suc, drop}
 use Rattle.std.proofs.lemmas.Bool.{cases_eq, ne_eqb, eq-eqb, eqb-true, cond-true, cond-false, or_cases, or_parts, eqb-false, lt-ltb, le-ltb}
 use Rattle.l4_model.specs.World.{is_in}
-use Rattle.tcb_arena.specs.Rings.{Leads, walk, without}
+use Rattle.tcb_arena.specs.Inner.Rings.{Leads, walk, without}
 use Rattle.tcb_arena.proofs.Splices.{moved, moved_here, moved_there, moved_same}
 use Rattle.tcb_arena.proofs.Lists.{without_here, without_there}
 

@@ -4,10 +4,10 @@ use Rattle.std.proofs.Common.{◌≡◌, ◌≢◌, ℕ, ◌<◌, ◌≤◌, ◌
 use Rattle.std.proofs.lemmas.Bool.{cases_eq, ne_eqb, eq-eqb, cond-true, cond-false, false≢true}
 use Rattle.std.proofs.lemmas.List.{length-map, length-set, length-replicate}
 use Rattle.l4_core_model.specs.Plain.{put_entry, without_block}
-use Rattle.tcb_arena.specs.Blocks.{has_entry}
-use Rattle.tcb_arena.specs.RingSets.{has}
-use Rattle.tcb_arena.specs.Rings.{Lists, no_names, put_last, taken_out, is_linked, is_in_any, without}
-use Rattle.tcb_arena.specs.Due.{Due, IsWheel, AreRings, ArePlaced, AreFilled, AreFloors, IsFloor, IsFound, IsLeast, none_armed, with_entry, without_entry, shown_due, armed_of, armed_in, entries_in, put_rings, other_than, earlier_of, entry}
+use Rattle.tcb_arena.specs.Inner.Blocks.{has_entry}
+use Rattle.tcb_arena.specs.Inner.RingSets.{has}
+use Rattle.tcb_arena.specs.Inner.Rings.{Lists, no_names, put_last, taken_out, is_linked, is_in_any, without}
+use Rattle.tcb_arena.specs.Inner.Due.{Due, IsWheel, AreRings, ArePlaced, AreFilled, AreFloors, IsFloor, IsFound, IsLeast, none_armed, with_entry, without_entry, shown_due, armed_of, armed_in, entries_in, put_rings, other_than, earlier_of, entry}
 use Rattle.tcb_arena.proofs.Lists.{without_absent, without_all_absent, get_or-without, is_in_any-at}
 use Rattle.tcb_arena.proofs.Entries.{E, any-put_rings, all_entries-without, entries-put, armed-put, armed-without, placed-put, placed-without, entries-at, entry-from, first-put, without_there, is_in-get}
 use Rattle.tcb_arena.proofs.Floors.{floor-armed_in, first-from, floors-armed, floor-armed, floors-disarmed, floor-disarmed, floor-found, floor-none, get-pushed, get-left}

@@ -3,9 +3,9 @@
 ghost use Rattle.std.specs.Prelude.{◌≡◌, ℕ, ◌+◌, ◌<◌, All, Some, drop, length, map, slice_get};
 ghost use Rattle.std.specs.Prelude.{true};
 ghost use Rattle.std.specs.Iterator.{YieldsFirst, item_count};
-ghost use Rattle.tcb_arena.specs.Due.{armed_of};
-ghost use Rattle.tcb_arena.specs.Rings.{head_count, is_linked, list_at, AreSound};
-ghost use Rattle.tcb_arena.specs.Shown.{waiting_at};
+ghost use Rattle.tcb_arena.specs.Inner.Due.{armed_of};
+ghost use Rattle.tcb_arena.specs.Inner.Rings.{head_count, is_linked, list_at, AreSound};
+ghost use Rattle.tcb_arena.specs.Inner.Shown.{waiting_at};
 
 use crate::links::Rings;
 use crate::wheel::Wheel;
@@ -25,7 +25,7 @@ impl<'a> Model for Blocks<'a> {
 
     ghost Value = { List ℕ };
 
-    ghost use Rattle.tcb_arena.specs.Left.{names_left, IsPlace};
+    ghost use Rattle.tcb_arena.specs.Inner.Left.{names_left, IsPlace};
 
     ghost view = { λ b. names_left b.rings.now b.next };
 
@@ -90,7 +90,7 @@ impl<'a> Model for Sends<'a> {
 
     ghost Value = { List PlainWaiting };
 
-    ghost use Rattle.tcb_arena.specs.Shown.{waiting_at};
+    ghost use Rattle.tcb_arena.specs.Inner.Shown.{waiting_at};
 
     ghost view = { λ s. map (waiting_at s.senders.now.items) s.blocks };
 
@@ -142,8 +142,8 @@ impl<'a> Model for ArmedBlocks<'a> {
 
     ghost Value = { List (ℕ × ℕ) };
 
-    ghost use Rattle.tcb_arena.specs.Due.{armed_of};
-    ghost use Rattle.tcb_arena.specs.Left.{entries_left, IsArmedPlace};
+    ghost use Rattle.tcb_arena.specs.Inner.Due.{armed_of};
+    ghost use Rattle.tcb_arena.specs.Inner.Left.{entries_left, IsArmedPlace};
 
     ghost view = { λ a. entries_left (armed_of a.wheel.now) a.next };
 

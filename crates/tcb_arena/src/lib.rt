@@ -31,10 +31,10 @@ ghost use Rattle.std.specs.Prelude.{◌≡◌, ◌<◌, false, length, map, slic
 ghost use Rattle.l4_core_model.specs.Plain.{list_of, is_queued, queued, unqueued, first_taken};
 ghost use Rattle.l4_core_model.specs.Plain.{made_ready, dropped, popped, armed, disarmed};
 ghost use Rattle.l4_core_model.specs.Plain.{due_block};
-ghost use Rattle.tcb_arena.specs.Blocks.{is_ready, is_armed, least_deadline, without_due};
-ghost use Rattle.tcb_arena.specs.Blocks.{empty_lists};
-ghost use Rattle.tcb_arena.specs.RingSets.{ring_count};
-ghost use Rattle.tcb_arena.specs.Due.{armed_of, IsFirstOfRing};
+ghost use Rattle.tcb_arena.specs.Inner.Blocks.{is_ready, is_armed, least_deadline, without_due};
+ghost use Rattle.tcb_arena.specs.Inner.Blocks.{empty_lists};
+ghost use Rattle.tcb_arena.specs.Inner.RingSets.{ring_count};
+ghost use Rattle.tcb_arena.specs.Inner.Due.{armed_of, IsFirstOfRing};
 
 use l4_types::errors::NoMemory;
 use l4_types::ids::{GlobalId, ThreadId};
@@ -103,7 +103,7 @@ impl Model for Arena {
 
     ghost Value = { Plain };
 
-    ghost use Rattle.tcb_arena.specs.Shown.{shown_lists, AreBlocks};
+    ghost use Rattle.tcb_arena.specs.Inner.Shown.{shown_lists, AreBlocks};
 
     ghost view = { λ a. shown_lists a.waiting a.senders.items a.ready a.wheel };
 

@@ -4,8 +4,9 @@
 ghost use Rattle.std.specs.Prelude.{◌≡◌, ℕ, ◌+◌, ◌-◌, ◌<◌, ◌≤◌, ◌^◌, true, false, IfOk, length};
 ghost use Rattle.std.specs.Prelude.{slice_get, slice_index, Some, IfSome};
 ghost use Rattle.l4_model.specs.World.{is_in};
-ghost use Rattle.tcb_arena.specs.Rings.{Lists, list_at, head_count, is_linked, put_last, taken_out};
-ghost use Rattle.tcb_arena.specs.Rings.{no_names, without_first, AreSound};
+ghost use Rattle.tcb_arena.specs.Inner.Rings.{Lists, list_at, head_count, is_linked, put_last};
+ghost use Rattle.tcb_arena.specs.Inner.Rings.{taken_out};
+ghost use Rattle.tcb_arena.specs.Inner.Rings.{no_names, without_first, AreSound};
 
 use l4_types::errors::NoMemory;
 use std::alloc::Global;
@@ -22,7 +23,7 @@ pub struct Rings {
 }
 
 impl Model for Rings {
-    ghost use Rattle.tcb_arena.specs.Rings.{Lists, lists_code, rings, AreRings};
+    ghost use Rattle.tcb_arena.specs.Inner.Rings.{Lists, lists_code, rings, AreRings};
 
     ghost Value = { Lists };
 

@@ -2,7 +2,7 @@
 
 ghost use Rattle.std.specs.Prelude.{◌≡◌, ℕ, ◌<◌, ◌==◌, ◌&&◌, ◌||◌, true, false, not, if◌then◌else◌};
 ghost use Rattle.std.specs.Prelude.{MatchOption};
-ghost use Rattle.tcb_arena.specs.RingSets.{has, ring_count, IsNext};
+ghost use Rattle.tcb_arena.specs.Inner.RingSets.{has, ring_count, IsNext};
 
 /// A set of rings, each below 64.
 #[derive(Clone, Copy)]

@@ -4,13 +4,16 @@ ghost use Rattle.std.specs.Prelude.{◌≡◌, ℕ, ◌<◌, ◌≤◌, ◌%◌,
 ghost use Rattle.std.specs.Prelude.{length, slice_get, slice_index, map};
 ghost use Rattle.std.specs.Option.{option_map};
 ghost use Rattle.l4_core_model.specs.Plain.{put_entry, without_block, due_block};
-ghost use Rattle.tcb_arena.specs.Blocks.{has_entry};
-ghost use Rattle.tcb_arena.specs.Rings.{list_at, head_count};
-ghost use Rattle.tcb_arena.specs.RingSets.{ring_count};
-ghost use Rattle.tcb_arena.specs.Due.{armed_of, armed_in, none_armed, with_entry, without_entry};
-ghost use Rattle.tcb_arena.specs.Due.{without_found, without_first_due, first_of_ring, other_than};
-ghost use Rattle.tcb_arena.specs.Due.{at_most, earlier_of, put_all, entry, IsBest, IsLeast};
-ghost use Rattle.tcb_arena.specs.Due.{ArePlaced, AreRings, AreFilled, AreFloors, IsFloor, AreOnce};
+ghost use Rattle.tcb_arena.specs.Inner.Blocks.{has_entry};
+ghost use Rattle.tcb_arena.specs.Inner.Rings.{list_at, head_count};
+ghost use Rattle.tcb_arena.specs.Inner.RingSets.{ring_count};
+ghost use Rattle.tcb_arena.specs.Inner.Due.{armed_of, armed_in, none_armed, with_entry};
+ghost use Rattle.tcb_arena.specs.Inner.Due.{without_entry};
+ghost use Rattle.tcb_arena.specs.Inner.Due.{without_found, without_first_due, first_of_ring};
+ghost use Rattle.tcb_arena.specs.Inner.Due.{other_than};
+ghost use Rattle.tcb_arena.specs.Inner.Due.{at_most, earlier_of, put_all, entry, IsBest, IsLeast};
+ghost use Rattle.tcb_arena.specs.Inner.Due.{ArePlaced, AreRings, AreFilled, AreFloors, IsFloor};
+ghost use Rattle.tcb_arena.specs.Inner.Due.{AreOnce};
 
 use crate::links::Rings;
 use crate::ring_set::RingSet;
@@ -43,7 +46,7 @@ pub struct Wheel {
 }
 
 impl Model for Wheel {
-    ghost use Rattle.tcb_arena.specs.Due.{Due, due_code, shown_due, IsWheel};
+    ghost use Rattle.tcb_arena.specs.Inner.Due.{Due, due_code, shown_due, IsWheel};
 
     ghost Value = { Due };
 

@@ -5,12 +5,12 @@ ghost use Rattle.std.specs.Result.{result_err};
 ghost use Rattle.l4_model.specs.Machine.{same_cpu};
 ghost use Rattle.l4_model.specs.Conditions.{undecided, receiver_of};
 ghost use Rattle.l4_model.specs.Rules.{owed_by};
-ghost use Rattle.l4_types.specs.OwedView.{owed_of};
+ghost use Rattle.l4_types.specs.Inner.OwedView.{owed_of};
 ghost use Rattle.l4_types.specs.StepView.{delivered};
-ghost use Rattle.l4_audit.specs.Audited.{with_world};
-ghost use Rattle.l4_audit.specs.Delivering.{of_telling, taken_over, IsFound};
+ghost use Rattle.l4_audit.specs.Inner.Audited.{with_world};
+ghost use Rattle.l4_audit.specs.Inner.Delivering.{of_telling, taken_over, IsFound};
 ghost use Rattle.l4_audit.specs.Reasons.{first_false, reason};
-ghost use Rattle.l4_audit.specs.Taking.{Judged};
+ghost use Rattle.l4_audit.specs.Inner.Taking.{Judged};
 
 use crate::found::{Found, Pending};
 use crate::reasons::{Reason, StepFault, need, test};

@@ -2,10 +2,10 @@
 ghost use Rattle.std.specs.Prelude.{◌≡◌, ◌<◌, IfSome};
 ghost use Rattle.l4_model.specs.Words.{clock_limit};
 ghost use Rattle.l4_model.specs.Machine.{most_processors};
-ghost use Rattle.l4_types.specs.PeriodView.{period_of};
+ghost use Rattle.l4_types.specs.Inner.PeriodView.{period_of};
 ghost use Rattle.l4_types.specs.StepView.{seen};
 ghost use Rattle.l4_worlds.specs.Told.{until_due, until_over, until_phase_over};
-ghost use Rattle.l4_audit.specs.Due.{ticks_of, CanBeOver, CanBeDue};
+ghost use Rattle.l4_audit.specs.Inner.Due.{ticks_of, CanBeOver, CanBeDue};
 
 use crate::found::Found;
 use crate::world::World;

@@ -1,15 +1,16 @@
 //! What a step does to the threads and lists of a world.
-ghost use Rattle.std.specs.Prelude.{◌≡◌, ◌<◌, ◌^◌, ◌+◌, IsSomeAnd, false, length, slice_get, slice_set};
+ghost use Rattle.std.specs.Prelude.{◌≡◌, ◌<◌, ◌^◌, ◌+◌, IsSomeAnd, false, length, slice_get};
+ghost use Rattle.std.specs.Prelude.{slice_set};
 ghost use Rattle.l4_model.specs.Rules.{received_tag};
 ghost use Rattle.l4_model.specs.World.{change, is_queued, queued, unqueued};
 ghost use Rattle.l4_model.specs.Effects.{runs, fails, receives, decided, orders, asked, obeyed};
 ghost use Rattle.l4_core_model.specs.Local.{after_decision};
-ghost use Rattle.l4_types.specs.Codes.{code_of};
-ghost use Rattle.l4_types.specs.LetterView.{decision_of};
+ghost use Rattle.l4_types.specs.Inner.Codes.{code_of};
+ghost use Rattle.l4_types.specs.Inner.LetterView.{decision_of};
 ghost use Rattle.l4_types.specs.StepView.{order_kind_of};
-ghost use Rattle.l4_script.specs.Scripts.{instr_of};
-ghost use Rattle.l4_thread.specs.Requests.{is_end};
-ghost use Rattle.l4_audit.specs.Audited.{with_world};
+ghost use Rattle.l4_script.specs.Inner.Scripts.{instr_of};
+ghost use Rattle.l4_thread.specs.Inner.Requests.{is_end};
+ghost use Rattle.l4_audit.specs.Inner.Audited.{with_world};
 ghost use Rattle.l4_audit.specs.Starting.{CanStart, starting};
 
 use crate::world::World;

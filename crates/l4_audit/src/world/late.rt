@@ -5,8 +5,8 @@ ghost use Rattle.l4_model.specs.Conditions.{found, undecided};
 ghost use Rattle.l4_model.specs.Steps.{ReceiveTimeout, SendTimeout};
 ghost use Rattle.l4_types.specs.StepView.{seen};
 ghost use Rattle.l4_worlds.specs.Late.{may_time_out, next_late};
-ghost use Rattle.l4_audit.specs.Audited.{IsPlaced};
-ghost use Rattle.l4_audit.specs.Taking.{JudgedLate, JudgedNow};
+ghost use Rattle.l4_audit.specs.Inner.Audited.{IsPlaced};
+ghost use Rattle.l4_audit.specs.Inner.Taking.{JudgedLate, JudgedNow};
 
 use crate::found::{Found, Pending};
 use crate::reasons::StepFault;

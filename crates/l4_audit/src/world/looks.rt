@@ -1,7 +1,9 @@
 //! Where a step is possible in a world.
 ghost use Rattle.std.specs.Prelude.{◌≡◌, ◌==◌, ◌∷◌, [], Some, slice_get};
 ghost use Rattle.std.specs.Result.{result_err};
-ghost use Rattle.l4_model.specs.Conditions.{is_waiting, first_accepted, shows_accepted, is_nobody, is_no_destination, is_refusable, is_timed_out, receiver_of, found_by};
+ghost use Rattle.l4_model.specs.Conditions.{is_waiting, first_accepted, shows_accepted, is_nobody};
+ghost use Rattle.l4_model.specs.Conditions.{is_no_destination, is_refusable, is_timed_out};
+ghost use Rattle.l4_model.specs.Conditions.{receiver_of, found_by};
 ghost use Rattle.l4_audit.specs.Reasons.{first_false, none_accepted, test};
 ghost use Rattle.l4_audit.specs.declared.reasons.Reason.TheVariants.{NotFirst};
 ghost use Rattle.l4_audit.specs.Starting.{id_at};

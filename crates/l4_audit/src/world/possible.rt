@@ -3,7 +3,7 @@ ghost use Rattle.std.specs.Prelude.{◌≡◌, Some, IfOk, OnOk, filter_map, map
 ghost use Rattle.std.specs.Option.{option_map};
 ghost use Rattle.l4_model.specs.Conditions.{act_of, found};
 ghost use Rattle.l4_model.specs.Steps.{order_of};
-ghost use Rattle.l4_types.specs.OwedView.{owed_of};
+ghost use Rattle.l4_types.specs.Inner.OwedView.{owed_of};
 ghost use Rattle.l4_types.specs.StepView.{delivered, step_of};
 ghost use Rattle.l4_audit.specs.Possible.{Adds, Appends, coming_name, delivery, last_name, order};
 ghost use Rattle.l4_audit.specs.Possible.{possible, possible_of, turn, where_possible};

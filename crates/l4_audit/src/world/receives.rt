@@ -4,9 +4,9 @@ ghost use Rattle.std.specs.Result.{result_err};
 ghost use Rattle.l4_model.specs.Conditions.{found};
 ghost use Rattle.l4_model.specs.Steps.{ReceiveTimeout, ReceiveNobody, ReceiveCancel, Obey};
 ghost use Rattle.l4_types.specs.StepView.{order_kind_of};
-ghost use Rattle.l4_audit.specs.Audited.{IsAsked, IsPlaced};
+ghost use Rattle.l4_audit.specs.Inner.Audited.{IsAsked, IsPlaced};
 ghost use Rattle.l4_audit.specs.Reasons.{reason};
-ghost use Rattle.l4_audit.specs.Taking.{Judged};
+ghost use Rattle.l4_audit.specs.Inner.Taking.{Judged};
 
 use crate::found::Found;
 use crate::reasons::{Reason, StepFault, need, test};

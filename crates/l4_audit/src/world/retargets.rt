@@ -7,12 +7,12 @@ ghost use Rattle.l4_model.specs.World.{change, owed_of as owed_named, others_owe
 ghost use Rattle.l4_model.specs.Effects.{turns};
 ghost use Rattle.l4_model.specs.Conditions.{found};
 ghost use Rattle.l4_model.specs.Steps.{owing, Retarget};
-ghost use Rattle.l4_types.specs.OwedView.{owed_of};
-ghost use Rattle.l4_audit.specs.Audited.{with_world};
+ghost use Rattle.l4_types.specs.Inner.OwedView.{owed_of};
+ghost use Rattle.l4_audit.specs.Inner.Audited.{with_world};
 ghost use Rattle.l4_audit.specs.Reasons.{reason};
-ghost use Rattle.l4_audit.specs.Taking.{Judged};
-ghost use Rattle.l4_audit.specs.Owing.{is_of_name, holds_up};
-ghost use Rattle.l4_audit.specs.Stillness.{owes_nothing};
+ghost use Rattle.l4_audit.specs.Inner.Taking.{Judged};
+ghost use Rattle.l4_audit.specs.Inner.Owing.{is_of_name, holds_up};
+ghost use Rattle.l4_audit.specs.Inner.Stillness.{owes_nothing};
 
 use crate::found::Found;
 use crate::reasons::{Reason, StepFault, need};

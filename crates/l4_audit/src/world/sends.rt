@@ -5,11 +5,11 @@ ghost use Rattle.l4_model.specs.World.{change, unqueued};
 ghost use Rattle.l4_model.specs.Conditions.{undecided, receiver_of};
 ghost use Rattle.l4_model.specs.Steps.{Queue, SendTimeout, SendNobody, SendCancel, Drop as Drops};
 ghost use Rattle.l4_core_model.specs.Local.{after_decision};
-ghost use Rattle.l4_types.specs.LetterView.{decision_of};
+ghost use Rattle.l4_types.specs.Inner.LetterView.{decision_of};
 ghost use Rattle.l4_types.specs.declared.letters.Decision.TheVariants.{Refused};
-ghost use Rattle.l4_audit.specs.Audited.{with_world};
+ghost use Rattle.l4_audit.specs.Inner.Audited.{with_world};
 ghost use Rattle.l4_audit.specs.Reasons.{reason};
-ghost use Rattle.l4_audit.specs.Taking.{Judged};
+ghost use Rattle.l4_audit.specs.Inner.Taking.{Judged};
 
 use crate::found::{Found, Pending};
 use crate::reasons::{Reason, StepFault, need, test};

@@ -5,7 +5,7 @@ ghost use Rattle.l4_model.specs.Conditions.{found, act_of};
 ghost use Rattle.l4_model.specs.Steps.{Local, Begin, Wait, Order, Tick as Ticks, order_of};
 ghost use Rattle.l4_types.specs.StepView.{order_kind_of};
 ghost use Rattle.l4_audit.specs.Reasons.{reason};
-ghost use Rattle.l4_audit.specs.Taking.{Judged};
+ghost use Rattle.l4_audit.specs.Inner.Taking.{Judged};
 
 use crate::found::Found;
 use crate::reasons::{Reason, StepFault, need, test};

@@ -4,8 +4,9 @@ ghost use Rattle.std.specs.List.{list_all};
 ghost use Rattle.l4_model.specs.World.{receive_now};
 ghost use Rattle.l4_model.specs.Conditions.{receiver_of};
 ghost use Rattle.l4_model.specs.Still.{late, is_still_thread};
-ghost use Rattle.l4_audit.specs.Audited.{with_world};
-ghost use Rattle.l4_audit.specs.Stillness.{is_still_now, is_still_found, may_obey, may_stop, is_taken, may_arrive, may_decide, may_send};
+ghost use Rattle.l4_audit.specs.Inner.Audited.{with_world};
+ghost use Rattle.l4_audit.specs.Inner.Stillness.{is_still_now, is_still_found, may_obey, may_stop};
+ghost use Rattle.l4_audit.specs.Inner.Stillness.{is_taken, may_arrive, may_decide, may_send};
 
 use crate::found::{Found, Pending};
 use crate::world::World;

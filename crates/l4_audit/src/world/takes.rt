@@ -1,9 +1,9 @@
 //! One step after another.
 ghost use Rattle.std.specs.Prelude.{◌≡◌};
 ghost use Rattle.l4_types.specs.StepView.{seen};
-ghost use Rattle.l4_audit.specs.Audited.{IsPlaced};
+ghost use Rattle.l4_audit.specs.Inner.Audited.{IsPlaced};
 ghost use Rattle.l4_audit.specs.Reasons.{reason};
-ghost use Rattle.l4_audit.specs.Taking.{Judged};
+ghost use Rattle.l4_audit.specs.Inner.Taking.{Judged};
 
 use crate::reasons::{Reason, StepFault};
 use crate::world::World;

@@ -3,7 +3,7 @@ ghost use Rattle.std.specs.Prelude.{◌≡◌, ◌++◌, IfOk, OnOk, map, filter
 ghost use Rattle.std.specs.Option.{option_to_list};
 ghost use Rattle.l4_model.specs.History.{view};
 ghost use Rattle.l4_types.specs.ReportView.{report_of_view};
-ghost use Rattle.l4_audit.specs.Auditing.{waiting_send};
+ghost use Rattle.l4_audit.specs.Inner.Auditing.{waiting_send};
 ghost use Rattle.l4_model.specs.Conditions.{found_by};
 ghost use Rattle.l4_audit.specs.Waits.{is_expected, send_wait, wait_of, waiting_thread, waits_in};
 

@@ -1,5 +1,6 @@
 //! The duties of a processor: what it has to do before it goes on with an instruction.
-ghost use Rattle.std.specs.Prelude.{◌≡◌, ◌<◌, ◌||◌, ◌&&◌, is_some, not, true, false, None, Some, find};
+ghost use Rattle.std.specs.Prelude.{◌≡◌, ◌<◌, ◌||◌, ◌&&◌, is_some, not, true, false, None, Some};
+ghost use Rattle.std.specs.Prelude.{find};
 ghost use Rattle.std.specs.Prelude.{length, slice_get, slice_index_or};
 ghost use Rattle.std.specs.Option.{option_map};
 ghost use Rattle.l4_model.specs.World.{is_deleted, receive_now};
@@ -7,11 +8,12 @@ ghost use Rattle.l4_model.specs.Conditions.{may_still_accept, call_accepts, is_e
 ghost use Rattle.l4_core_model.specs.Plain.{is_queued, list_of};
 ghost use Rattle.l4_core_model.specs.Local.{declared, held, thread};
 ghost use Rattle.l4_core_model.specs.Acts.{zero_refusable};
-ghost use Rattle.l4_core.specs.Choosing.{duty_of, IsFound};
-ghost use Rattle.l4_core.specs.Covered.{deleted_duty, duty_at, first_refusable, first_zero};
-ghost use Rattle.l4_core.specs.Covered.{living_duty, names_nobody, receive_duty, runs_or_sends};
-ghost use Rattle.l4_core.specs.Covered.{untold_of, Covers, CoversZeros};
-ghost use Rattle.l4_core.specs.Turning.{IsOwnOf};
+ghost use Rattle.l4_core.specs.Inner.Choosing.{duty_of, IsFound};
+ghost use Rattle.l4_core.specs.Inner.Covered.{deleted_duty, duty_at, first_refusable, first_zero};
+ghost use Rattle.l4_core.specs.Inner.Covered.{living_duty, names_nobody, receive_duty};
+ghost use Rattle.l4_core.specs.Inner.Covered.{runs_or_sends};
+ghost use Rattle.l4_core.specs.Inner.Covered.{untold_of, Covers, CoversZeros};
+ghost use Rattle.l4_core.specs.Inner.Turning.{IsOwnOf};
 
 use crate::known::ProcessorState;
 use crate::places::Places;

@@ -2,11 +2,11 @@
 ghost use Rattle.std.specs.Prelude.{◌≡◌, ◌<◌, ◌+◌, IfSome, false, length};
 ghost use Rattle.l4_model.specs.World.{receive_now};
 ghost use Rattle.l4_model.specs.Rules.{destination};
-ghost use Rattle.l4_script.specs.Scripts.{to_of};
+ghost use Rattle.l4_script.specs.Inner.Scripts.{to_of};
 ghost use Rattle.l4_core_model.specs.Local.{declared, destination_place, thread};
-ghost use Rattle.l4_thread.specs.Messages.{outgoing};
-ghost use Rattle.l4_core.specs.FastPath.{fast_receiver, next_name, takes_at_once};
-ghost use Rattle.l4_core.specs.Turning.{IsOwnOf};
+ghost use Rattle.l4_thread.specs.Inner.Messages.{outgoing};
+ghost use Rattle.l4_core.specs.Inner.FastPath.{fast_receiver, next_name, takes_at_once};
+ghost use Rattle.l4_core.specs.Inner.Turning.{IsOwnOf};
 
 use crate::known::ProcessorState;
 use l4_script::instructions::Ipc;

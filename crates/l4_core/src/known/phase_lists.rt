@@ -2,12 +2,12 @@
 ghost use Rattle.std.specs.Prelude.{◌≡◌, ◌<◌, ◌+◌, IfSome, false, length};
 ghost use Rattle.std.specs.Option.{option_map};
 ghost use Rattle.l4_model.specs.Words.{clock_limit, period_limit};
-ghost use Rattle.l4_types.specs.PeriodView.{period_of, IsTimely};
+ghost use Rattle.l4_types.specs.Inner.PeriodView.{period_of, IsTimely};
 ghost use Rattle.l4_core_model.specs.Local.{thread, relists};
 ghost use Rattle.l4_core.specs.Processor.{with_local};
-ghost use Rattle.l4_core.specs.PhaseLists.{rearms, readies, enters_lists};
-ghost use Rattle.l4_core.specs.Turning.{IsOwnOf};
-ghost use Rattle.tcb_arena.specs.Blocks.{is_ready as is_ready_in};
+ghost use Rattle.l4_core.specs.Inner.PhaseLists.{rearms, readies, enters_lists};
+ghost use Rattle.l4_core.specs.Inner.Turning.{IsOwnOf};
+ghost use Rattle.tcb_arena.specs.Inner.Blocks.{is_ready as is_ready_in};
 
 use crate::known::ProcessorState;
 use l4_types::times::Period;

@@ -3,10 +3,10 @@ ghost use Rattle.std.specs.Prelude.{◌≡◌, ◌<◌, None, Some, is_some, len
 ghost use Rattle.std.specs.Option.{option_map};
 ghost use Rattle.l4_model.specs.World.{Send};
 ghost use Rattle.l4_model.specs.Rules.{owed_by};
-ghost use Rattle.l4_types.specs.OwedView.{owed_of};
+ghost use Rattle.l4_types.specs.Inner.OwedView.{owed_of};
 ghost use Rattle.l4_core_model.specs.Local.{declared, last_name};
 ghost use Rattle.l4_core_model.specs.Local.{owed_beside, thread};
-ghost use Rattle.l4_core.specs.Turning.{IsSender};
+ghost use Rattle.l4_core.specs.Inner.Turning.{IsSender};
 
 use crate::known::ProcessorState;
 use l4_types::owed::Owed;

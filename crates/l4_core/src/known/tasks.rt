@@ -8,11 +8,11 @@ ghost use Rattle.l4_types.specs.declared.letters.Content.TheVariants.{Order as O
 ghost use Rattle.l4_types.specs.declared.letters.Content.TheVariants.{OrderDone as OrderDoneContent};
 ghost use Rattle.l4_types.specs.declared.letters.Content.TheVariants.{Gone as GoneContent};
 ghost use Rattle.l4_types.specs.declared.letters.Content.TheVariants.{Retarget as RetargetContent};
-ghost use Rattle.l4_types.specs.LetterHeads.{word_count};
+ghost use Rattle.l4_types.specs.Inner.LetterHeads.{word_count};
 ghost use Rattle.l4_core_model.specs.Local.{declared, thread};
 ghost use Rattle.l4_core_model.specs.Mail.{foreign_place, is_ordering, own_place, waits_here};
-ghost use Rattle.l4_core.specs.Tasks.{refusal_for, task_of, IsForeign, IsTask};
-ghost use Rattle.l4_core.specs.Turning.{IsOwnOf, IsSender};
+ghost use Rattle.l4_core.specs.Inner.Tasks.{refusal_for, task_of, IsForeign, IsTask};
+ghost use Rattle.l4_core.specs.Inner.Turning.{IsOwnOf, IsSender};
 
 use crate::known::ProcessorState;
 use l4_types::ids::GlobalId;

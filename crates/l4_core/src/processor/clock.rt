@@ -3,7 +3,7 @@ ghost use Rattle.std.specs.Prelude.{◌≡◌, ◌↔◌, ◌⊎◌, IfErr, IfOk
 ghost use Rattle.std.specs.Prelude.{false};
 ghost use Rattle.l4_core_model.specs.Turns.{advance, can_stamp};
 ghost use Rattle.l4_core.specs.EventBuffers.{IsOpen};
-ghost use Rattle.l4_core.specs.Turning.{IsEvent};
+ghost use Rattle.l4_core.specs.Inner.Turning.{IsEvent};
 
 use crate::event_buffer::EventBuffer;
 use crate::processor::{Core, Fault};

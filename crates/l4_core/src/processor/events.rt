@@ -1,14 +1,14 @@
 //! Does what a turn has chosen.
 ghost use Rattle.std.specs.Prelude.{◌≡◌, ◌<◌, ◌≤◌, Some, slice_get, ℕ, true};
-ghost use Rattle.l4_types.specs.Codes.{code_of};
+ghost use Rattle.l4_types.specs.Inner.Codes.{code_of};
 ghost use Rattle.l4_types.specs.StepView.{seen};
 ghost use Rattle.l4_core_model.specs.Plain.{due_block};
 ghost use Rattle.l4_core_model.specs.Local.{is_own, thread};
 ghost use Rattle.l4_core_model.specs.Turns.{does_choice, does_duty, times_out, TellsGone};
 ghost use Rattle.l4_core_model.specs.Turns.{ByDue as IsDue, ByReady as IsReady};
-ghost use Rattle.l4_core.specs.Choosing.{choice_of, duty_of, IsPossible};
-ghost use Rattle.l4_core.specs.Covered.{IsFirstDuty};
-ghost use Rattle.l4_core.specs.Turning.{fails_with, Does, IsOwnOf, IsReceiver};
+ghost use Rattle.l4_core.specs.Inner.Choosing.{choice_of, duty_of, IsPossible};
+ghost use Rattle.l4_core.specs.Inner.Covered.{IsFirstDuty};
+ghost use Rattle.l4_core.specs.Inner.Turning.{fails_with, Does, IsOwnOf, IsReceiver};
 
 use crate::event_buffer::EventBuffer;
 use crate::known::duties::Duty;

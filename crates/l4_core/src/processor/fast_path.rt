@@ -3,11 +3,11 @@ ghost use Rattle.std.specs.Prelude.{◌≡◌, ◌<◌, ◌≤◌, Some};
 ghost use Rattle.l4_model.specs.Machine.{most_instructions};
 ghost use Rattle.l4_model.specs.Conditions.{act_of, instruction};
 ghost use Rattle.l4_model.specs.Rules.{destination};
-ghost use Rattle.l4_script.specs.Scripts.{ipc_of, to_of};
+ghost use Rattle.l4_script.specs.Inner.Scripts.{ipc_of, to_of};
 ghost use Rattle.l4_core_model.specs.Local.{thread, held};
 ghost use Rattle.l4_core_model.specs.Acts.{acts};
-ghost use Rattle.l4_core.specs.FastPath.{fast_receiver};
-ghost use Rattle.l4_core.specs.Turning.{Does, IsAtHand, IsOwnOf};
+ghost use Rattle.l4_core.specs.Inner.FastPath.{fast_receiver};
+ghost use Rattle.l4_core.specs.Inner.Turning.{Does, IsAtHand, IsOwnOf};
 
 use crate::event_buffer::EventBuffer;
 use crate::processor::Core;

@@ -5,7 +5,7 @@ ghost use Rattle.l4_core_model.specs.Plain.{is_queued};
 ghost use Rattle.l4_core_model.specs.Local.{changes, declared, is_gone_now, is_own, stand_in};
 ghost use Rattle.l4_core_model.specs.Local.{stands_in, thread};
 ghost use Rattle.l4_core.specs.Processor.{with_local};
-ghost use Rattle.l4_core.specs.Tasks.{IsForeign};
+ghost use Rattle.l4_core.specs.Inner.Tasks.{IsForeign};
 
 use crate::processor::{Core, note_all};
 use l4_types::ids::GlobalId;

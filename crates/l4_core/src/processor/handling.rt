@@ -5,12 +5,13 @@ ghost use Rattle.l4_model.specs.Effects.{obeyed};
 ghost use Rattle.l4_core_model.specs.Local.{comes_to, after_decision};
 ghost use Rattle.l4_core_model.specs.Mail.{handle};
 ghost use Rattle.l4_core_model.specs.Turns.{can_stamp};
-ghost use Rattle.l4_types.specs.LetterView.{decision_of};
-ghost use Rattle.l4_core.specs.Tasks.{does_task, IsArrival, IsCaller, IsObedience, IsSplit, IsTask};
+ghost use Rattle.l4_types.specs.Inner.LetterView.{decision_of};
+ghost use Rattle.l4_core.specs.Inner.Tasks.{does_task, IsArrival, IsCaller, IsObedience, IsSplit};
+ghost use Rattle.l4_core.specs.Inner.Tasks.{IsTask};
 ghost use Rattle.l4_core.specs.declared.known.tasks.Task.TheVariants.{Arrive, Obey};
 ghost use Rattle.l4_core.specs.Processor.{with_local};
 ghost use Rattle.l4_core.specs.EventBuffers.{IsOpen};
-ghost use Rattle.l4_core.specs.Turning.{Does, IsEvent};
+ghost use Rattle.l4_core.specs.Inner.Turning.{Does, IsEvent};
 
 use crate::event_buffer::EventBuffer;
 use crate::known::tasks::Task;

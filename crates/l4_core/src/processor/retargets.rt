@@ -1,11 +1,11 @@
 //! Retargets (profile 2): an originator turns to the thread that received its message.
 ghost use Rattle.std.specs.Prelude.{◌≡◌, ◌<◌, Some, length, true};
 ghost use Rattle.l4_model.specs.World.{Owed as ModelOwed};
-ghost use Rattle.l4_types.specs.OwedView.{owed_of};
+ghost use Rattle.l4_types.specs.Inner.OwedView.{owed_of};
 ghost use Rattle.l4_core_model.specs.Acts.{owes_for, retargets};
 ghost use Rattle.l4_core_model.specs.Local.{owed_beside};
 ghost use Rattle.l4_core_model.specs.Turns.{does_duty, Retargets};
-ghost use Rattle.l4_core.specs.Turning.{Does, IsOwnOf};
+ghost use Rattle.l4_core.specs.Inner.Turning.{Does, IsOwnOf};
 
 use crate::event_buffer::EventBuffer;
 use crate::processor::Core;

@@ -8,10 +8,11 @@ ghost use Rattle.l4_core_model.specs.Acts.{arrives, delivers, decides_send, send
 ghost use Rattle.l4_core_model.specs.Acts.{posts_send, queues_send, refuses, split_place};
 ghost use Rattle.l4_core_model.specs.Acts.{withdraws};
 ghost use Rattle.l4_core_model.specs.Local.{destination_place};
-ghost use Rattle.l4_types.specs.LetterView.{refusal_of_send, decision_of, cause_of_withdrawal};
+ghost use Rattle.l4_types.specs.Inner.LetterView.{refusal_of_send, decision_of};
+ghost use Rattle.l4_types.specs.Inner.LetterView.{cause_of_withdrawal};
 ghost use Rattle.l4_types.specs.StepView.{seen};
-ghost use Rattle.l4_core.specs.Turning.{hands_over, Does, IsNewSender, IsNotSplit, IsOwnOf};
-ghost use Rattle.l4_core.specs.Turning.{IsReceiver, IsSender};
+ghost use Rattle.l4_core.specs.Inner.Turning.{hands_over, Does, IsNewSender, IsNotSplit, IsOwnOf};
+ghost use Rattle.l4_core.specs.Inner.Turning.{IsReceiver, IsSender};
 
 use crate::event_buffer::EventBuffer;
 use crate::processor::Core;

@@ -4,7 +4,7 @@ ghost use Rattle.std.specs.Prelude.{◌≡◌, ◌↔◌, ◌⊎◌, IfErr, IfOk
 ghost use Rattle.std.specs.Prelude.{false, true};
 ghost use Rattle.l4_core_model.specs.Mail.{handle};
 ghost use Rattle.l4_core_model.specs.Turns.{advance, can_stamp};
-ghost use Rattle.l4_core.specs.Values.{IsToldEvent, Turned};
+ghost use Rattle.l4_core.specs.Inner.Values.{IsToldEvent, Turned};
 
 use crate::event_buffer::{EventBuffer, EventSteps, Letters};
 use crate::processor::{Core, Fault};

@@ -6,7 +6,7 @@ use Rattle.l4_model.specs.Machine.{Machine, Delete}
 use Rattle.l4_model.specs.World.{World, opening}
 use Rattle.l4_model.specs.Steps.{Step, Local, Begin, Queue, Deliver, Wait, SendTimeout, SendNobody, SendCancel, Drop, Order, Obey}
 use Rattle.l4_model.specs.History.{reached}
-use Rattle.l4_model.specs.Laws.{AtMostOnce, InOrder, IsUnaltered, TakesTurns, NoneAfterDelete, IsBegunThenEnded, IsAccounted, Carries, begins_of, deliveries_of}
+use Rattle.l4_model.specs.Laws.{AtMostOnce, InOrder, IsUnaltered, IsUnalteredFromBegin, TakesTurns, NoneAfterDelete, IsBegunThenEnded, IsAccounted, Carries, begins_of, deliveries_of}
 use Rattle.l4_model.proofs.Rows.Writing.{thread, send}
 use Rattle.l4_model.proofs.Rows.Messages.{first_path}
 use Rattle.l4_model.proofs.Rows.Queues.{order_of_arrival}
@@ -50,6 +50,13 @@ carried shown actual tag words law =
 
 other_word : IsUnaltered first_path (told (thread 1) (thread 1) 0x70001 (0xb ∷ [])) → ⊥
 other_word law = let same = (carried (thread 1) (thread 1) 0x70001 (0xb ∷ []) law).same_words in cc
+
+-- The same, told from the begin on.
+other_word_behind : IsUnalteredFromBegin first_path (told (thread 1) (thread 1) 0x70001 (0xb ∷ [])) → ⊥
+other_word_behind law =
+    let delivery = Deliver (send 1 1) (thread 2) (thread 1) (thread 1) 0x70001 (0xb ∷ []) in
+    let begin = law begun (Queue (send 1 1) ∷ delivery ∷ []) (send 1 1) (world_after first_path begun) refl refl in
+    let same = (begin.1.0 refl).same_words in cc
 
 no_word : IsUnaltered first_path (told (thread 1) (thread 1) 0x70001 []) → ⊥
 no_word law = let same = (carried (thread 1) (thread 1) 0x70001 [] law).same_words in cc

@@ -1,7 +1,8 @@
 -- Worked rows: what the instructions of a script do.
-use Rattle.std.specs.Prelude.{◌≡◌, Some, None, List, [], ◌∷◌, refl}
+use Rattle.std.specs.Prelude.{◌≡◌, Some, None, List, [], ◌∷◌, map, refl}
 use Rattle.l4_model.specs.Words.{W64, W32, NilThread, AnyThread}
 use Rattle.l4_model.specs.Machine.{Machine, ToId, ToLast, CancelSend, CancelReceive, Delete, Set, Copy, Add, Tag, Vs, Ipc, Ask, Jump, OnErr, End, machine_of}
+use Rattle.l4_model.specs.Rules.{assigned_by}
 use Rattle.l4_model.specs.Steps.{Step, Local, Begin, Queue, Deliver, Wait, SendNobody}
 use Rattle.l4_model.specs.History.{IsEnded}
 use Rattle.l4_model.proofs.Rows.Writing.{thread, id, send, sends, receives, declared, ends, quiet, reports, report}
@@ -60,6 +61,11 @@ long_sum = machine_of 1 (declared 1 0 1 (Set 1 0xffffffff ∷ Add W64 1 2 ∷ []
 long_sum_view : reports long_sum (Local (thread 1) ∷ Local (thread 1) ∷ Local (thread 1) ∷ []) ≡ Some (
     report 1 IsEnded 0 NilThread NilThread (0 ∷ 0x100000001 ∷ []) ∷ [])
 long_sum_view = refl
+
+-- Which register is assigned a value. MR0 becomes a tag otherwise.
+assigning : map assigned_by (Set 3 7 ∷ Copy 2 1 ∷ Add W64 1 2 ∷ Tag 0 ∷ Vs NilThread ∷ Jump 4 ∷ End ∷ [])
+    ≡ Some 3 ∷ Some 2 ∷ Some 1 ∷ None ∷ None ∷ None ∷ None ∷ []
+assigning = refl
 
 -- An ipc without phases ends well. `last` names nobody at the start.
 abbrev pub no_phases : Machine

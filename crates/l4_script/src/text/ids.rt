@@ -1,7 +1,7 @@
 //! Thread ids as machine texts of a format spell them.
 ghost use Rattle.std.specs.Prelude.{◌≡◌};
 ghost use Rattle.l4_model.specs.Words.{GlobalThread};
-ghost use Rattle.l4_types.specs.FormatView.{format_of};
+ghost use Rattle.l4_types.specs.Inner.FormatView.{format_of};
 ghost use Rattle.l4_script.specs.Ids.{id_digits, raw_id_of, thread_in, spelled_id_of, id_of};
 
 use l4_types::formats::Format;

@@ -1,9 +1,10 @@
 //! Numbers as machine texts spell them.
 ghost use Rattle.std.specs.Prelude.{◌≡◌, ◌≤◌, IfOk};
-ghost use Rattle.l4_types.specs.FormatView.{format_of};
-ghost use Rattle.l4_types.specs.PeriodView.{period_of, IsTimely};
+ghost use Rattle.l4_types.specs.Inner.FormatView.{format_of};
+ghost use Rattle.l4_types.specs.Inner.PeriodView.{period_of, IsTimely};
 ghost use Rattle.l4_script.specs.Judged.{Returns};
-ghost use Rattle.l4_script.specs.Numbers.{number_of, number_from, word_from, period_number, time_from};
+ghost use Rattle.l4_script.specs.Numbers.{number_of, number_from, word_from, period_number};
+ghost use Rattle.l4_script.specs.Numbers.{time_from};
 
 use super::fault::TextFaultKind;
 use l4_types::formats::Format;

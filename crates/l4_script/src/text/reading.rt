@@ -1,15 +1,18 @@
 //! How far a text has been read.
-ghost use Rattle.std.specs.Prelude.{◌≡◌, ◌≢◌, ◌<◌, ◌≤◌, ◌∷◌, [], ◌++◌, find, length, IfErr, MatchOption, OnErr, OnOk};
+ghost use Rattle.std.specs.Prelude.{◌≡◌, ◌≢◌, ◌<◌, ◌≤◌, ◌∷◌, [], ◌++◌, find, length, IfErr};
+ghost use Rattle.std.specs.Prelude.{MatchOption, OnErr, OnOk};
 ghost use Rattle.l4_script.specs.declared.text.fault.TextFaultKind.TheVariants.{NoMemory as OutOfMemory};
 ghost use Rattle.std.specs.Option.{option_copied};
 ghost use Rattle.l4_model.specs.Machine.{most_processors};
-ghost use Rattle.l4_types.specs.FormatView.{format_of};
-ghost use Rattle.l4_script.specs.Headings.{heading_of};
+ghost use Rattle.l4_types.specs.Inner.FormatView.{format_of};
+ghost use Rattle.l4_script.specs.Inner.Headings.{heading_of};
 ghost use Rattle.l4_script.specs.Judged.{Leads};
-ghost use Rattle.l4_script.specs.Scripts.{instr_of};
+ghost use Rattle.l4_script.specs.Inner.Scripts.{instr_of};
 ghost use Rattle.l4_script.specs.Statements.{declare, extend};
-ghost use Rattle.l4_script.specs.Texts.{LeadsOn, nothing_read, targets_of, thread_line, extended_at, after_words, after_line, judged_at, is_missed, unless_missed, ended};
-ghost use Rattle.l4_script.specs.Stages.{stage_of};
+ghost use Rattle.l4_script.specs.Texts.{LeadsOn, nothing_read, targets_of, thread_line};
+ghost use Rattle.l4_script.specs.Texts.{extended_at, after_words, after_line, judged_at, is_missed};
+ghost use Rattle.l4_script.specs.Texts.{unless_missed, ended};
+ghost use Rattle.l4_script.specs.Inner.Stages.{stage_of};
 
 use super::fault::{TextFault, TextFaultKind};
 use super::lines::words_of;
@@ -52,7 +55,7 @@ pub struct Reading {
 }
 
 impl Model for Reading {
-    ghost use Rattle.l4_types.specs.FormatView.{format_of};
+    ghost use Rattle.l4_types.specs.Inner.FormatView.{format_of};
     ghost use Rattle.l4_script.specs.Texts.{Reading as ReadSoFar};
 
     ghost Value = { ReadSoFar };

@@ -4,16 +4,21 @@ ghost use Rattle.std.specs.Option.{option_map};
 ghost use Rattle.std.specs.Str.{bytes_eq};
 ghost use Rattle.l4_model.specs.Words.{last_register};
 ghost use Rattle.l4_model.specs.Machine.{most_processors};
-ghost use Rattle.l4_types.specs.FormatView.{format_of};
+ghost use Rattle.l4_types.specs.Inner.FormatView.{format_of};
 ghost use Rattle.l4_types.specs.StepView.{order_kind_of};
 ghost use Rattle.l4_script.specs.declared.text.fault.TextFaultKind.TheVariants.{BadId, BadLine};
 ghost use Rattle.l4_words.specs.Words.{one};
 ghost use Rattle.l4_script.specs.Ids.{id_of};
 ghost use Rattle.l4_script.specs.Judged.{Returns, needs};
-ghost use Rattle.l4_script.specs.Scripts.{instr_of, to_of};
+ghost use Rattle.l4_script.specs.Inner.Scripts.{instr_of, to_of};
 ghost use Rattle.l4_script.specs.Numbers.{number_from};
-ghost use Rattle.l4_script.specs.Statements.{heading_by, format_line, processors_line, processor_of, declaration_of, set_of, copy_of, add_of, tag_of, vs_of, destination_of, ipc_of, bits_of, exregs_of, delete_of, target_of, jump_of, on_error_of, end_of, instruction_of};
-ghost use Rattle.l4_script.specs.Headings.{heading_of};
+ghost use Rattle.l4_script.specs.Statements.{heading_by, format_line, processors_line};
+ghost use Rattle.l4_script.specs.Statements.{processor_of, declaration_of, word_value};
+ghost use Rattle.l4_script.specs.Statements.{register_value, sum_value, assign_of, tag_of, vs_of};
+ghost use Rattle.l4_script.specs.Statements.{destination_of, ipc_of, bits_of, exregs_of, delete_of};
+ghost use Rattle.l4_script.specs.Statements.{target_of, jump_of, on_error_of, end_of};
+ghost use Rattle.l4_script.specs.Statements.{instruction_of};
+ghost use Rattle.l4_script.specs.Inner.Headings.{heading_of};
 
 use super::fault::TextFaultKind;
 use super::ids::{id, thread_in};
@@ -176,9 +181,9 @@ fn source(word: &[u8]) -> Result<Source, TextFaultKind>
 
 /// The instruction `set` with these operands.
 #[inline(never)]
-#[tactic(auto, unfolding(crate::specs::Statements::set_of))]
+#[tactic(auto, unfolding(crate::specs::Statements::assign_of))]
 fn set(format: Format, operands: Words<'_>) -> Result<Instr, TextFaultKind>
-    ensures { Returns instr_of result (set_of (format_of format) operands.entry) }
+    ensures { Returns instr_of result (assign_of (word_value (format_of format)) operands.entry) }
 {
     let (first, second) = operands.two().ok_or(TextFaultKind::BadLine)?;
     let register = register(first)?;
@@ -188,9 +193,9 @@ fn set(format: Format, operands: Words<'_>) -> Result<Instr, TextFaultKind>
 
 /// The instruction `copy` with these operands.
 #[inline(never)]
-#[tactic(auto, unfolding(crate::specs::Statements::copy_of))]
+#[tactic(auto, unfolding(crate::specs::Statements::assign_of))]
 fn copy(operands: Words<'_>) -> Result<Instr, TextFaultKind>
-    ensures { Returns instr_of result (copy_of operands.entry) }
+    ensures { Returns instr_of result (assign_of register_value operands.entry) }
 {
     let (first, second) = operands.two().ok_or(TextFaultKind::BadLine)?;
     let register = register(first)?;
@@ -200,9 +205,9 @@ fn copy(operands: Words<'_>) -> Result<Instr, TextFaultKind>
 
 /// The instruction `add` with these operands.
 #[inline(never)]
-#[tactic(auto, unfolding(crate::specs::Statements::add_of))]
+#[tactic(auto, unfolding(crate::specs::Statements::assign_of))]
 fn add(format: Format, operands: Words<'_>) -> Result<Instr, TextFaultKind>
-    ensures { Returns instr_of result (add_of (format_of format) operands.entry) }
+    ensures { Returns instr_of result (assign_of (sum_value (format_of format)) operands.entry) }
 {
     let (first, second) = operands.two().ok_or(TextFaultKind::BadLine)?;
     let register = register(first)?;
@@ -356,7 +361,7 @@ fn is(word: &[u8], keyword: &[u8]) -> bool
 /// An instruction of this name, or the first fault of its line: `BadLine`, `BadNumber`, `BadId` or
 /// `TypedItems`.
 #[inline(always)]
-#[tactic(auto, unfolding(crate::specs::Statements::instruction_of))]
+#[tactic(auto, unfolding(crate::specs::Statements::instruction_of, crate::specs::Statements::value_of, crate::specs::Statements::other_of))]
 pub fn instruction(format: Format, name: &[u8], operands: Words<'_>) -> Result<Instr, TextFaultKind>
     ensures { Returns instr_of result (instruction_of (format_of format) name.now operands.entry) }
 {

@@ -4,11 +4,11 @@
 ghost use Rattle.std.specs.Prelude.{◌≡◌, ℕ, ◌+◌, ◌<◌, ◌%◌, ◌&&◌, nat_le, not, true, drop, find};
 ghost use Rattle.std.specs.Prelude.{length, slice_get, slice_index, Some};
 ghost use Rattle.std.specs.Option.{option_map};
-ghost use Rattle.tcb_arena.specs.Blocks.{has_entry};
-ghost use Rattle.tcb_arena.specs.Rings.{is_linked, list_at, AreSound};
-ghost use Rattle.tcb_arena.specs.RingSets.{ring_count};
-ghost use Rattle.tcb_arena.specs.Due.{armed_in, armed_of, has_deadline, lesser_of, ArePlaced};
-ghost use Rattle.tcb_arena.specs.Due.{AreOnce};
+ghost use Rattle.tcb_arena.specs.Inner.Blocks.{has_entry};
+ghost use Rattle.tcb_arena.specs.Inner.Rings.{is_linked, list_at, AreSound};
+ghost use Rattle.tcb_arena.specs.Inner.RingSets.{ring_count};
+ghost use Rattle.tcb_arena.specs.Inner.Due.{armed_in, armed_of, has_deadline, lesser_of, ArePlaced};
+ghost use Rattle.tcb_arena.specs.Inner.Due.{AreOnce};
 
 use crate::iter::Blocks;
 use crate::links::Rings;

@@ -4,7 +4,7 @@ use Rattle.l4_explore.specs.Tries.{deepest}
 use Rattle.l4_futures.proofs.Endings.{all_endings}
 use Rattle.l4_futures.proofs.Looked.{looked}
 use Rattle.l4_futures.specs.Endings.{AreAllEndings, HasLooked}
-use Rattle.l4_futures.specs.Search.{state_after, AreTried}
+use Rattle.l4_futures.specs.Inner.Search.{state_after, AreTried}
 use Rattle.l4_futures.specs.Traces.{trace_along}
 use Rattle.l4_all_endings.specs.Tried.{AreLed}
 use Rattle.l4_all_endings.proofs.Leading.{ends_led, low}

@@ -1,5 +1,5 @@
 use Rattle.std.proofs.Common.{◌≡◌, take}
-use Rattle.l4_futures.specs.Search.{ends_of}
+use Rattle.l4_futures.specs.Inner.Search.{ends_of}
 use Rattle.l4_all_endings.specs.Tried.{schedules_from}
 use Rattle.l4_all_endings.proofs.search.ends.Given as goal
 

@@ -1,9 +1,9 @@
 use Rattle.std.proofs.Common.{◌≡◌, Some, get_or, map, refl, subst, sym, arith}
 use Rattle.std.proofs.lemmas.List.{take_all}
 use Rattle.std.specs.Prelude.{IsSome}
-use Rattle.l4_explore.specs.Views.{next_from}
+use Rattle.l4_explore.specs.Inner.Views.{next_from}
 use Rattle.l4_futures.specs.Choices.{after_entry}
-use Rattle.l4_outlooks.specs.Foreseen.{Foreseen}
+use Rattle.l4_outlooks.specs.Inner.Foreseen.{Foreseen}
 use Rattle.l4_all_endings.specs.Tried.{next_at, nexts_at, AreOpen}
 use Rattle.l4_all_endings.proofs.Leading.{last_next, one_next, open_before, open_last}
 use Rattle.l4_all_endings.proofs.tried.choices_by.Goals as goal

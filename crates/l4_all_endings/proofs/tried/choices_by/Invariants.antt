@@ -1,5 +1,5 @@
 use Rattle.std.proofs.Common.{◌≡◌, map, take}
-use Rattle.l4_explore.specs.Views.{next_from}
+use Rattle.l4_explore.specs.Inner.Views.{next_from}
 use Rattle.l4_all_endings.specs.Tried.{nexts_at}
 use Rattle.l4_all_endings.proofs.tried.choices_by.Given as goal
 

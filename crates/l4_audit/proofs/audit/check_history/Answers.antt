@@ -1,7 +1,7 @@
 use Rattle.std.proofs.Common.{ap, ◌∙◌}
 use Rattle.std.specs.Prelude.{filter_map}
 use Rattle.l4_model.specs.History.{view}
-use Rattle.l4_audit.specs.Auditing.{waiting_send}
+use Rattle.l4_audit.specs.Inner.Auditing.{waiting_send}
 use Rattle.l4_audit.proofs.Auditing.{waiting_begun}
 use Rattle.l4_audit.proofs.audit.check_history.Goals as goal
 

@@ -1,5 +1,5 @@
 use Rattle.std.proofs.Common.{◌/◌, ◌++◌, ap, subst, sym, ◌∙◌}
-use Rattle.l4_codes.specs.Written.{IsLeft}
+use Rattle.l4_codes.specs.Inner.Written.{IsLeft}
 use Rattle.l4_codes.proofs.Writing.{begun, goes_on, over}
 use Rattle.l4_codes.proofs.code.push_number.Goals as goal
 

@@ -1,4 +1,4 @@
-use Rattle.l4_codes.specs.Written.{IsLeft}
+use Rattle.l4_codes.specs.Inner.Written.{IsLeft}
 use Rattle.l4_codes.proofs.code.push_number.Given as goal
 
 abbrev pub invariant-loop-left : goal.invariant-loop-left

@@ -1,4 +1,4 @@
-use Rattle.l4_states.specs.Codes.{number_code}
+use Rattle.l4_states.specs.Inner.Codes.{number_code}
 use Rattle.l4_codes.proofs.Writing.{last}
 use Rattle.l4_codes.proofs.ids.put_global.Goals as goal
 

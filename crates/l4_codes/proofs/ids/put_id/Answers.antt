@@ -1,4 +1,4 @@
-use Rattle.l4_states.specs.Codes.{id_code, number_code}
+use Rattle.l4_states.specs.Inner.Codes.{id_code, number_code}
 use Rattle.std.proofs.Common.{sym, ◌∙◌}
 use Rattle.l4_codes.proofs.IdKinds.{local_id, global_id_told}
 use Rattle.l4_codes.proofs.Writing.{last, same_last, then}

@@ -1,8 +1,8 @@
-use Rattle.l4_states.specs.Codes.{cause_code, content_code, flag_code, global_code, message_code, name_code, number_code, owed_code, result_code}
+use Rattle.l4_states.specs.Inner.Codes.{cause_code, content_code, flag_code, global_code, message_code, name_code, number_code, owed_code, result_code}
 use Rattle.l4_model.specs.Steps.{order_kind_code}
-use Rattle.l4_types.specs.LetterHeads.{content_with, message_with}
-use Rattle.l4_types.specs.LetterView.{cause_of_withdrawal, decision_of}
-use Rattle.l4_types.specs.OwedView.{owed_of}
+use Rattle.l4_types.specs.Inner.LetterHeads.{content_with, message_with}
+use Rattle.l4_types.specs.Inner.LetterView.{cause_of_withdrawal, decision_of}
+use Rattle.l4_types.specs.Inner.OwedView.{owed_of}
 use Rattle.l4_types.specs.StepView.{order_kind_of}
 use Rattle.l4_types.specs.declared.letters.Content.{Content}
 use Rattle.std.proofs.Common.{ap, sym}

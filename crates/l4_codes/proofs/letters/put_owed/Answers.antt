@@ -1,4 +1,4 @@
-use Rattle.l4_states.specs.Codes.{global_code, name_code}
+use Rattle.l4_states.specs.Inner.Codes.{global_code, name_code}
 use Rattle.l4_codes.proofs.Writing.{last, then}
 use Rattle.l4_codes.proofs.letters.put_owed.Goals as goal
 

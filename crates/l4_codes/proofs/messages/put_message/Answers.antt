@@ -1,4 +1,4 @@
-use Rattle.l4_states.specs.Codes.{flag_code, global_code, listed, number_code}
+use Rattle.l4_states.specs.Inner.Codes.{flag_code, global_code, listed, number_code}
 use Rattle.l4_codes.proofs.Writing.{last, then}
 use Rattle.l4_codes.proofs.messages.put_message.Goals as goal
 

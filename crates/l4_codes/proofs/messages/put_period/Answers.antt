@@ -1,5 +1,5 @@
-use Rattle.l4_states.specs.Codes.{number_code, optional}
-use Rattle.l4_types.specs.PeriodView.{period_of}
+use Rattle.l4_states.specs.Inner.Codes.{number_code, optional}
+use Rattle.l4_types.specs.Inner.PeriodView.{period_of}
 use Rattle.l4_types.specs.declared.times.Period.{Period}
 use Rattle.std.proofs.Common.{ap, sym}
 use Rattle.l4_codes.proofs.Writing.{last, same_last}

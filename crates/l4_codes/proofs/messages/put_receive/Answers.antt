@@ -1,4 +1,4 @@
-use Rattle.l4_states.specs.Codes.{id_code, number_code, optional}
+use Rattle.l4_states.specs.Inner.Codes.{id_code, number_code, optional}
 use Rattle.l4_codes.proofs.Writing.{last}
 use Rattle.l4_codes.proofs.messages.put_receive.Goals as goal
 

@@ -1,4 +1,4 @@
-use Rattle.l4_states.specs.Codes.{id_code, message_code, number_code, optional, receive_code}
+use Rattle.l4_states.specs.Inner.Codes.{id_code, message_code, number_code, optional, receive_code}
 use Rattle.l4_codes.proofs.Writing.{last, then}
 use Rattle.l4_codes.proofs.messages.put_send.Goals as goal
 

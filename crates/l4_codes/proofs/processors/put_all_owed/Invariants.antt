@@ -1,6 +1,6 @@
 use Rattle.std.proofs.Common.{◌≡◌, ℕ, List, drop, length}
-use Rattle.l4_states.specs.Codes.{each, optional, owed_code, sized}
-use Rattle.l4_codes.specs.Written.{with_numbers}
+use Rattle.l4_states.specs.Inner.Codes.{each, optional, owed_code, sized}
+use Rattle.l4_codes.specs.Inner.Written.{with_numbers}
 use Rattle.l4_codes.proofs.processors.put_all_owed.Given as goal
 
 -- With the threads that are left it is the code of all.

@@ -1,5 +1,5 @@
 use Rattle.std.proofs.Common.{◌-◌}
-use Rattle.l4_states.specs.Codes.{armed_code, number_code}
+use Rattle.l4_states.specs.Inner.Codes.{armed_code, number_code}
 use Rattle.l4_codes.proofs.Writing.{first_told, then}
 use Rattle.l4_codes.proofs.processors.put_armed.Goals as goal
 

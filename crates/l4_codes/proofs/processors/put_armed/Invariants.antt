@@ -1,6 +1,6 @@
 use Rattle.std.proofs.Common.{◌≡◌, ℕ, List}
-use Rattle.l4_states.specs.Codes.{armed_code, chained}
-use Rattle.l4_codes.specs.Written.{with_numbers}
+use Rattle.l4_states.specs.Inner.Codes.{armed_code, chained}
+use Rattle.l4_codes.specs.Inner.Written.{with_numbers}
 use Rattle.l4_codes.proofs.processors.put_armed.Given as goal
 
 -- With the deadlines that are left it is the code of all.

@@ -1,5 +1,5 @@
 use Rattle.std.proofs.Common.{length}
-use Rattle.l4_states.specs.Codes.{lists_code, number_code, optional, owed_code, sized, thread_code}
+use Rattle.l4_states.specs.Inner.Codes.{lists_code, number_code, optional, owed_code, sized, thread_code}
 use Rattle.l4_codes.proofs.Writing.{last, then}
 use Rattle.l4_codes.proofs.processors.put_core.Goals as goal
 

@@ -1,5 +1,5 @@
 use Rattle.std.proofs.Common.{length}
-use Rattle.l4_states.specs.Codes.{armed_code, chained, number_code, sized, waiting_code}
+use Rattle.l4_states.specs.Inner.Codes.{armed_code, chained, number_code, sized, waiting_code}
 use Rattle.l4_codes.proofs.Writing.{last, then}
 use Rattle.l4_codes.proofs.processors.put_lists.Goals as goal
 

@@ -1,8 +1,8 @@
 use Rattle.std.proofs.Common.{Option, ap, sym}
 use Rattle.std.specs.Option.{option_map}
-use Rattle.l4_types.specs.OwedView.{owed_of}
+use Rattle.l4_types.specs.Inner.OwedView.{owed_of}
 use Rattle.l4_types.specs.declared.owed.Owed.{Owed}
-use Rattle.l4_states.specs.Codes.{number_code, optional, owed_code}
+use Rattle.l4_states.specs.Inner.Codes.{number_code, optional, owed_code}
 use Rattle.l4_codes.proofs.Writing.{last, same_last}
 use Rattle.l4_codes.proofs.processors.put_owed_beside.Goals as goal
 

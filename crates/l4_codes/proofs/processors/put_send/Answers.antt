@@ -1,6 +1,6 @@
 use Rattle.std.proofs.Common.{ap}
 use Rattle.l4_core_model.specs.Plain.{Waiting}
-use Rattle.l4_states.specs.Codes.{flag_code, global_code, number_code, waiting_code}
+use Rattle.l4_states.specs.Inner.Codes.{flag_code, global_code, number_code, waiting_code}
 use Rattle.l4_codes.proofs.Writing.{last, same_last, then}
 use Rattle.l4_codes.proofs.processors.put_send.Goals as goal
 

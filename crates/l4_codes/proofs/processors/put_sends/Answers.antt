@@ -1,5 +1,5 @@
 use Rattle.l4_core_model.specs.Plain.{list_of}
-use Rattle.l4_states.specs.Codes.{waiting_code}
+use Rattle.l4_states.specs.Inner.Codes.{waiting_code}
 use Rattle.l4_codes.proofs.Writing.{first_told}
 use Rattle.l4_codes.proofs.processors.put_sends.Goals as goal
 

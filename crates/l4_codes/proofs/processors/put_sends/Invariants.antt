@@ -1,7 +1,7 @@
 use Rattle.std.proofs.Common.{◌≡◌, ℕ, List}
 use Rattle.l4_core_model.specs.Plain.{list_of}
-use Rattle.l4_states.specs.Codes.{chained, waiting_code}
-use Rattle.l4_codes.specs.Written.{with_numbers}
+use Rattle.l4_states.specs.Inner.Codes.{chained, waiting_code}
+use Rattle.l4_codes.specs.Inner.Written.{with_numbers}
 use Rattle.l4_codes.proofs.processors.put_sends.Given as goal
 
 -- With the sends that are left it is the code of all.

@@ -1,4 +1,4 @@
-use Rattle.l4_states.specs.Codes.{each, id_code, length_code, number_code}
+use Rattle.l4_states.specs.Inner.Codes.{each, id_code, length_code, number_code}
 use Rattle.l4_model.specs.Words.{register_count}
 use Rattle.std.proofs.Common.{length}
 use Rattle.l4_codes.proofs.Writing.{last, then}

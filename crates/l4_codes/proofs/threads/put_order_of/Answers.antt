@@ -1,4 +1,4 @@
-use Rattle.l4_states.specs.Codes.{asked_code, global_code, number_code, optional}
+use Rattle.l4_states.specs.Inner.Codes.{asked_code, global_code, number_code, optional}
 use Rattle.l4_model.specs.Steps.{order_kind_code}
 use Rattle.l4_model.specs.World.{PendingOrder}
 use Rattle.std.proofs.Common.{Option, ap, sym}

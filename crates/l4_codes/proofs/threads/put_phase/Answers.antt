@@ -1,4 +1,4 @@
-use Rattle.l4_states.specs.Codes.{number_code, phase_code, receive_code}
+use Rattle.l4_states.specs.Inner.Codes.{number_code, phase_code, receive_code}
 use Rattle.std.proofs.Common.{sym}
 use Rattle.l4_codes.proofs.Phases.{receiving_code}
 use Rattle.l4_codes.proofs.Writing.{last, same_last}

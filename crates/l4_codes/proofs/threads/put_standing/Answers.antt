@@ -1,4 +1,4 @@
-use Rattle.l4_states.specs.Codes.{asked_code, flag_code, optional, phase_code, send_code}
+use Rattle.l4_states.specs.Inner.Codes.{asked_code, flag_code, optional, phase_code, send_code}
 use Rattle.l4_codes.proofs.Writing.{last, then}
 use Rattle.l4_codes.proofs.threads.put_standing.Goals as goal
 

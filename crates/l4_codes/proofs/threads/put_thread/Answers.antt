@@ -1,5 +1,5 @@
-use Rattle.l4_states.specs.Codes.{context_code}
-use Rattle.l4_codes.specs.States.{standing_code}
+use Rattle.l4_states.specs.Inner.Codes.{context_code}
+use Rattle.l4_codes.specs.Inner.States.{standing_code}
 use Rattle.l4_codes.proofs.Writing.{last}
 use Rattle.l4_codes.proofs.threads.put_thread.Goals as goal
 

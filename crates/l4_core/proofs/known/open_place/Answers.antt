@@ -5,7 +5,7 @@ use Rattle.std.proofs.lemmas.List.{get_or_read}
 use Rattle.l4_model.specs.Machine.{Declaration}
 use Rattle.l4_core_model.specs.Plain.{Plain}
 use Rattle.l4_core_model.specs.Local.{declared, is_own, undeclared}
-use Rattle.tcb_arena.specs.Blocks.{is_ready as is_ready_in}
+use Rattle.tcb_arena.specs.Inner.Blocks.{is_ready as is_ready_in}
 use Rattle.l4_core.proofs.Opening.{not_yet, length-map, own_more, other_more}
 use Rattle.l4_core.proofs.known.open_place.Goals as goal
 

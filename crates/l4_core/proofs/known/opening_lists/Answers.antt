@@ -1,5 +1,5 @@
 use Rattle.std.proofs.Common.{◌≡◌, length, ◌∙◌, ap, arith}
-use Rattle.l4_core.specs.Opening.{lists_below}
+use Rattle.l4_core.specs.Inner.Opening.{lists_below}
 use Rattle.l4_core.proofs.Opening.{none_below}
 use Rattle.l4_core.proofs.known.opening_lists.Goals as goal
 

@@ -4,7 +4,7 @@ use Rattle.std.proofs.lemmas.List.{get_or_read}
 use Rattle.l4_model.specs.Machine.{Declaration}
 use Rattle.l4_model.specs.World.{opening_thread}
 use Rattle.l4_core_model.specs.Local.{undeclared}
-use Rattle.l4_thread.specs.Parts.{Block}
+use Rattle.l4_thread.specs.Inner.Parts.{Block}
 use Rattle.l4_core.proofs.Opening.{threads_more, ids_more, take-whole}
 use Rattle.l4_core.proofs.known.opening_threads.Goals as goal
 

@@ -1,7 +1,7 @@
 use Rattle.std.proofs.Common.{◌≡◌, ℕ, ◌<◌, true}
-use Rattle.l4_core.specs.Covered.{Covers}
-use Rattle.l4_core.specs.Places.{has}
-use Rattle.l4_core.specs.Settled.{IsOwn}
+use Rattle.l4_core.specs.Inner.Covered.{Covers}
+use Rattle.l4_core.specs.Inner.Places.{has}
+use Rattle.l4_core.specs.Inner.Settled.{IsOwn}
 use Rattle.l4_core.proofs.processor.note_all.Given as goal
 
 abbrev pub invariant-loop-place : goal.invariant-loop-place

@@ -1,6 +1,6 @@
 use Rattle.std.proofs.Common.{List, ℕ, ◌++◌, ap, ◌∙◌}
 use Rattle.l4_model.specs.Machine.{Declaration}
-use Rattle.l4_counts.specs.Threads.{counts_lines}
+use Rattle.l4_counts.specs.Inner.Threads.{counts_lines}
 use Rattle.l4_counts.proofs.Each.{lines_told}
 use Rattle.l4_counts.proofs.lines.write_counts.Goals as goal
 

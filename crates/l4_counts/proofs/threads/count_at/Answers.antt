@@ -3,7 +3,7 @@ use Rattle.l4_model.proofs.Chains.{set_changed}
 use Rattle.l4_core_model.proofs.Standing.{place_within}
 use Rattle.l4_types.specs.StepView.{seen}
 use Rattle.l4_counts.specs.Counts.{with_step}
-use Rattle.l4_counts.specs.Threads.{with_step_at}
+use Rattle.l4_counts.specs.Inner.Threads.{with_step_at}
 use Rattle.l4_counts.proofs.threads.count_at.Goals as goal
 
 pub returns-in-Some : goal.returns-in-Some

@@ -9,11 +9,11 @@ use Rattle.l4_core_model.specs.Runs.{IsMachine}
 use Rattle.l4_types.specs.declared.step_ref.DeliveryRef.{DeliveryRef}
 use Rattle.l4_types.specs.declared.steps.Step.{Step}
 use Rattle.l4_types.specs.declared.steps.Step.TheVariants.{Local, Begin, Queue, Deliver, Wait, SendTimeout, ReceiveTimeout, SendNobody, ReceiveNobody, SendCancel, ReceiveCancel, Drop, Order, Obey, Tick, Retarget}
-use Rattle.l4_types.specs.ClockTick.{ClockTick}
+use Rattle.l4_types.specs.Inner.ClockTick.{ClockTick}
 use Rattle.l4_types.specs.StepView.{delivered, seen, order_kind_of}
 use Rattle.l4_counts.specs.declared.counts.Counts.{Counts}
-use Rattle.l4_counts.specs.Few.{AreFew}
-use Rattle.l4_counts.specs.Threads.{each_with_step, with_step_at}
+use Rattle.l4_counts.specs.Inner.Few.{AreFew}
+use Rattle.l4_counts.specs.Inner.Threads.{each_with_step, with_step_at}
 use Rattle.l4_counts.proofs.Each.{OfNobody, OfOne, OfTwo, counted_none, counted_one, counted_two, few_after, few_at, of_begin, of_delivery, of_local, of_nobody, of_order, of_own_delivery, of_receive_cancel, of_receive_nobody, of_receive_timeout, of_send_cancel, of_send_nobody, of_send_timeout, of_wait}
 use Rattle.l4_counts.proofs.threads.count_step.Goals as goal
 

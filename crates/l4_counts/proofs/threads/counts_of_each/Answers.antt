@@ -4,8 +4,8 @@ use Rattle.std.proofs.lemmas.List.{take-append-le, take_all}
 use Rattle.l4_model.specs.Machine.{Declaration}
 use Rattle.l4_types.specs.StepView.{seen}
 use Rattle.l4_counts.specs.declared.counts.Counts.{Counts}
-use Rattle.l4_counts.specs.Few.{AreFew}
-use Rattle.l4_counts.specs.Threads.{each_with_step}
+use Rattle.l4_counts.specs.Inner.Few.{AreFew}
+use Rattle.l4_counts.specs.Inner.Threads.{each_with_step}
 use Rattle.l4_counts.proofs.Each.{each_begun, each_few, each_more}
 use Rattle.l4_counts.proofs.threads.counts_of_each.Goals as goal
 

@@ -1,5 +1,5 @@
 use Rattle.std.proofs.Common.{◌≡◌, take}
-use Rattle.l4_counts.specs.Threads.{counts_of_each}
+use Rattle.l4_counts.specs.Inner.Threads.{counts_of_each}
 use Rattle.l4_counts.proofs.threads.counts_of_each.Given as goal
 
 abbrev pub invariant-loop-place : goal.invariant-loop-place

@@ -1,6 +1,6 @@
 use Rattle.l4_states.proofs.Endings.{all_endings}
 use Rattle.l4_states.specs.Choices.{state_after}
-use Rattle.l4_endings.specs.Tried.{schedules, told}
+use Rattle.l4_endings.specs.Inner.Tried.{schedules, told}
 use Rattle.std.proofs.Common.{◌<◌, min, subst}
 use Rattle.l4_endings.proofs.Depths.{deepest_of}
 use Rattle.l4_endings.proofs.Ending.{are_choices, are_endings}

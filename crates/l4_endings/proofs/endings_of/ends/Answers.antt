@@ -2,7 +2,7 @@ use Rattle.std.proofs.Common.{◌≡◌, List, map, subst, arith}
 use Rattle.std.proofs.lemmas.List.{take_all}
 use Rattle.l4_explore.specs.Search.{Seen}
 use Rattle.l4_states.specs.Endings.{ends_of, entries_of}
-use Rattle.l4_endings.specs.Tried.{told}
+use Rattle.l4_endings.specs.Inner.Tried.{told}
 use Rattle.l4_endings.proofs.Ending.{ends_on}
 use Rattle.l4_endings.proofs.endings_of.ends.Goals as goal
 

@@ -1,7 +1,7 @@
 use Rattle.std.proofs.Common.{◌≡◌, ◌+◌, ◌*◌, ◌<◌, get_or, refl, sym, subst, arith}
 use Rattle.std.proofs.lemmas.List.{take_all}
 use Rattle.l4_states.specs.Endings.{entries_of}
-use Rattle.l4_endings.specs.Tried.{entries_from}
+use Rattle.l4_endings.specs.Inner.Tried.{entries_from}
 use Rattle.l4_endings.proofs.Ending.{one_entry}
 use Rattle.l4_endings.proofs.Walking.{entry_is, number_at}
 use Rattle.l4_endings.proofs.endings_of.entries_of.Goals as goal

@@ -1,6 +1,6 @@
 use Rattle.std.proofs.Common.{◌≡◌, take}
 use Rattle.l4_states.specs.Endings.{entries_of}
-use Rattle.l4_endings.specs.Tried.{entries_from}
+use Rattle.l4_endings.specs.Inner.Tried.{entries_from}
 use Rattle.l4_endings.proofs.endings_of.entries_of.Given as goal
 
 -- The entries of the choices before the next one.

@@ -1,6 +1,6 @@
 use Rattle.std.proofs.Common.{ap, sym, ◌∙◌}
 use Rattle.l4_explore.specs.Search.{seen_at}
-use Rattle.l4_endings.specs.Tried.{told}
+use Rattle.l4_endings.specs.Inner.Tried.{told}
 use Rattle.l4_states.specs.Endings.{entries_of}
 use Rattle.l4_endings.proofs.Ending.{no_end, one_end}
 use Rattle.l4_endings.proofs.endings_of.list_end.Goals as goal

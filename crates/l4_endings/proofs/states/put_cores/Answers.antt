@@ -1,9 +1,9 @@
 use Rattle.std.proofs.Common.{◌<◌, length, ap, arith}
 use Rattle.l4_model.specs.Machine.{Machine}
-use Rattle.l4_states.specs.Codes.{local_code, sized}
+use Rattle.l4_states.specs.Inner.Codes.{local_code, sized}
 use Rattle.l4_codes.proofs.Writing.{each_begun, each_over}
 use Rattle.l4_endings.proofs.Coding.{core_told}
-use Rattle.l4_endings.proofs.Walking.{locals_of_run}
+use Rattle.l4_rounds.proofs.Locals.{locals_of_run}
 use Rattle.l4_endings.proofs.states.put_cores.Goals as goal
 
 pub loop-cpu-init : goal.loop-cpu-init

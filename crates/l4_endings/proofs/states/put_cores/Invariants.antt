@@ -2,8 +2,8 @@ use Rattle.std.proofs.Common.{◌≡◌, ℕ, List, drop, length}
 use Rattle.l4_model.specs.Machine.{Machine}
 use Rattle.l4_core_model.specs.Runs.{Run}
 use Rattle.l4_machine.specs.UnderWay.{IsRun}
-use Rattle.l4_states.specs.Codes.{each, local_code, sized}
-use Rattle.l4_codes.specs.Written.{with_numbers}
+use Rattle.l4_states.specs.Inner.Codes.{each, local_code, sized}
+use Rattle.l4_codes.specs.Inner.Written.{with_numbers}
 use Rattle.l4_endings.proofs.states.put_cores.Given as goal
 
 -- With the processors that are left it is the code of all.

@@ -1,7 +1,7 @@
 use Rattle.std.proofs.Common.{◌≡◌, ℕ, List}
-use Rattle.l4_choices.specs.Alike.{contents}
-use Rattle.l4_states.specs.Codes.{chained, content_code}
-use Rattle.l4_codes.specs.Written.{with_numbers}
+use Rattle.l4_bisimilar.specs.Alike.{contents}
+use Rattle.l4_states.specs.Inner.Codes.{chained, content_code}
+use Rattle.l4_codes.specs.Inner.Written.{with_numbers}
 use Rattle.l4_endings.proofs.states.put_letters.Given as goal
 
 -- With the letters that are left it is the code of all.

@@ -2,7 +2,7 @@ use Rattle.std.proofs.Common.{◌<◌, ap, arith}
 use Rattle.std.proofs.lemmas.List.FromFn.{length-range_with_len}
 use Rattle.l4_model.specs.Machine.{Machine}
 use Rattle.l4_core_model.specs.Runs.{processors}
-use Rattle.l4_states.specs.Codes.{mail_code, mail_to_code}
+use Rattle.l4_states.specs.Inner.Codes.{mail_code, mail_to_code}
 use Rattle.l4_codes.proofs.Writing.{each_over}
 use Rattle.l4_endings.proofs.Coding.{one_on}
 use Rattle.l4_endings.proofs.states.put_mail.Goals as goal

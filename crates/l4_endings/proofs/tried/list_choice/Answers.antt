@@ -1,8 +1,8 @@
 use Rattle.std.proofs.Common.{◌+◌, ◌*◌, ◌/◌, ◌<◌, map, refl, ap, sym, subst, ◌∙◌}
 use Rattle.l4_model.specs.Machine.{Machine}
-use Rattle.l4_explore.specs.Views.{next_from}
+use Rattle.l4_explore.specs.Inner.Views.{next_from}
 use Rattle.l4_states.specs.Choices.{state_after, IsNear}
-use Rattle.l4_endings.specs.Tried.{IsTickOf}
+use Rattle.l4_rounds.specs.Inner.Choices.{IsTickOf}
 use Rattle.l4_endings.proofs.Listing.{one_listed}
 use Rattle.l4_endings.proofs.Nexts.{skipped}
 use Rattle.l4_endings.proofs.Walking.{has_run, leads_nowhere, leads_on}

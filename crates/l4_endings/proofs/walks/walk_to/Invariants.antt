@@ -1,5 +1,5 @@
 use Rattle.std.proofs.Common.{take}
-use Rattle.l4_endings.specs.Walked.{IsWalked}
+use Rattle.l4_endings.specs.Inner.Walked.{IsWalked}
 use Rattle.l4_endings.proofs.walks.walk_to.Given as goal
 
 -- The choices before the next one were made.

@@ -1,6 +1,6 @@
 use Rattle.std.proofs.Common.{◌≡◌, drop, map}
 use Rattle.l4_expect.specs.Unmet.{are_met}
-use Rattle.l4_expect.specs.Views.{expected_of}
+use Rattle.l4_expect.specs.Inner.Views.{expected_of}
 use Rattle.l4_expect.proofs.unmet.are_met.Given as goal
 
 -- The expectations that are left decide.

@@ -3,7 +3,7 @@ use Rattle.std.specs.Prelude.{find}
 use Rattle.l4_lines.specs.Lines.{lines_of}
 use Rattle.l4_lines.proofs.Fitting.{first_line}
 use Rattle.l4_expect.specs.Unmet.{is_beside}
-use Rattle.l4_expect.specs.Views.{expected_of}
+use Rattle.l4_expect.specs.Inner.Views.{expected_of}
 use Rattle.l4_expect.proofs.unmet.found_beside.Goals as goal
 
 pub returns-then-is_beside : goal.returns-then-is_beside

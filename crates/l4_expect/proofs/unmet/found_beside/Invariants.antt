@@ -2,7 +2,7 @@ use Rattle.std.proofs.Common.{◌≡◌, length}
 use Rattle.std.specs.Prelude.{find}
 use Rattle.l4_lines.specs.Lines.{lines_of}
 use Rattle.l4_expect.specs.Unmet.{is_beside}
-use Rattle.l4_expect.specs.Views.{expected_of}
+use Rattle.l4_expect.specs.Inner.Views.{expected_of}
 use Rattle.l4_expect.proofs.unmet.found_beside.Given as goal
 
 -- It is among the lines that are left.

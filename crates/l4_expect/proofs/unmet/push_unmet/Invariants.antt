@@ -1,7 +1,7 @@
 use Rattle.std.proofs.Common.{◌≡◌, ◌++◌, take, map}
 use Rattle.std.specs.Prelude.{flat_map}
 use Rattle.l4_expect.specs.Unmet.{unmet_part}
-use Rattle.l4_expect.specs.Views.{expected_of}
+use Rattle.l4_expect.specs.Inner.Views.{expected_of}
 use Rattle.l4_expect.proofs.unmet.push_unmet.Given as goal
 
 abbrev pub invariant-loop-expected : goal.invariant-loop-expected

@@ -1,5 +1,5 @@
 use Rattle.std.proofs.Common.{◌≡◌, ◌<◌, ◌≤◌, length}
-use Rattle.l4_explore.specs.Rows.{numbers_from, numbers_of}
+use Rattle.l4_explore.specs.Inner.Rows.{numbers_from, numbers_of}
 use Rattle.l4_explore.proofs.numbers.first_number.Given as goal
 
 -- What was read of the first number, and the bytes that are left, are the row.

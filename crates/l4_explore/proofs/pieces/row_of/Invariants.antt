@@ -1,5 +1,5 @@
 use Rattle.std.proofs.Common.{length}
-use Rattle.l4_explore.specs.Rows.{AreMore}
+use Rattle.l4_explore.specs.Inner.Rows.{AreMore}
 use Rattle.l4_explore.proofs.Parted.{IsBegun}
 use Rattle.l4_explore.proofs.pieces.row_of.Given as goal
 

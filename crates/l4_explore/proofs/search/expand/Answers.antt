@@ -1,6 +1,6 @@
 use Rattle.std.proofs.Common.{map, ap, sym, subst, ◌∙◌}
 use Rattle.l4_explore.specs.Search.{seen_at}
-use Rattle.l4_explore.specs.Views.{next_from}
+use Rattle.l4_explore.specs.Inner.Views.{next_from}
 use Rattle.l4_explore.proofs.Trying.{HasMet, one_tried, goes_on, all_tried, going_near, no_items, stopped, stopped_near}
 use Rattle.l4_explore.proofs.search.expand.Goals as goal
 

@@ -1,6 +1,6 @@
 use Rattle.std.proofs.Common.{◌≤◌, length, map}
 use Rattle.l4_explore.specs.Search.{seen_at}
-use Rattle.l4_explore.specs.Views.{next_from}
+use Rattle.l4_explore.specs.Inner.Views.{next_from}
 use Rattle.l4_explore.proofs.Trying.{GoingOn}
 use Rattle.l4_explore.proofs.search.expand.Given as goal
 

@@ -1,5 +1,5 @@
 use Rattle.std.proofs.Common.{◌<◌, ◌+◌, ◌-◌, inl, inr, length, refl, ap, subst, sym, ◌∙◌, arith}
-use Rattle.l4_explore.specs.Views.{state_from}
+use Rattle.l4_explore.specs.Inner.Views.{state_from}
 use Rattle.l4_explore.specs.Search.{Seen, seen_at, AreFound, AreWithin, IsSearched}
 use Rattle.l4_explore.proofs.Exploring.{all_shallow, cut_by_depth, is_cut_by_depth, cut_by_states, exhausted, deep_enough, opening_searched, opening_within}
 use Rattle.l4_explore.proofs.Lasting.{after, back, same, searched_as, stopped_as}

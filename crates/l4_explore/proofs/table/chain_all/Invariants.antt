@@ -1,5 +1,5 @@
 use Rattle.std.proofs.Common.{◌≡◌, length}
-use Rattle.l4_explore.specs.Table.{AreChains}
+use Rattle.l4_explore.specs.Inner.Table.{AreChains}
 use Rattle.l4_explore.proofs.table.chain_all.Given as goal
 
 -- The codes before the next place are in their chains.

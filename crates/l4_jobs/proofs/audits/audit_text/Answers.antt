@@ -1,7 +1,7 @@
 use Rattle.std.proofs.Common.{ap, inr, ◌∙◌}
 use Rattle.std.proofs.lemmas.Result.{err_from_is_err_and}
 use Rattle.l4_types.specs.StepView.{seen}
-use Rattle.l4_trace.specs.Forward.{Ahead}
+use Rattle.l4_trace.specs.Inner.Forward.{Ahead}
 use Rattle.l4_trace.proofs.ReadingOn.{next_line, none_left, stays}
 use Rattle.l4_jobs.proofs.Audited.{opened, went_on, line_faulty, not_taken, all_read, all_counted}
 use Rattle.l4_jobs.proofs.audits.audit_text.Goals as goal

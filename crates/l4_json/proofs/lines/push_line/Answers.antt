@@ -6,7 +6,7 @@ use Rattle.l4_words.specs.Words.{words_in}
 use Rattle.l4_json.specs.Lines.{kind_of}
 use Rattle.l4_json.specs.Objects.{One, member_text}
 use Rattle.l4_json.specs.Rows.{row_of, told}
-use Rattle.l4_json.specs.Views.{more_of}
+use Rattle.l4_json.specs.Inner.Views.{more_of}
 use Rattle.l4_json.proofs.Texts.{assembled}
 use Rattle.l4_json.proofs.lines.push_line.Goals as goal
 

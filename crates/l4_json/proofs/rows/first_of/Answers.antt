@@ -1,7 +1,7 @@
 use Rattle.std.proofs.Common.{sym, ◌∙◌}
 use Rattle.l4_words.specs.Words.{words_in}
 use Rattle.l4_json.specs.Rows.{fits, plain_row}
-use Rattle.l4_json.specs.Views.{row_view}
+use Rattle.l4_json.specs.Inner.Views.{row_view}
 use Rattle.l4_json.proofs.Fitting.{found_here, not_here}
 use Rattle.l4_json.proofs.rows.first_of.Goals as goal
 

@@ -1,5 +1,5 @@
 use Rattle.std.proofs.Common.{map}
-use Rattle.l4_lint.specs.Views.{doubtful_of}
+use Rattle.l4_lint.specs.Inner.Views.{doubtful_of}
 use Rattle.l4_lint.proofs.Sure.{found_so}
 use Rattle.l4_lint.proofs.doubts.doubts.Goals as goal
 

@@ -4,7 +4,7 @@ use Rattle.std.specs.Int.{from_bool}
 use Rattle.l4_model.specs.Machine.{Declaration}
 use Rattle.l4_lint.specs.Doubts.{begun_behind, doubts_from, line_doubts, lines_of, thread_after}
 use Rattle.l4_lint.specs.Reading.{begins_script}
-use Rattle.l4_lint.specs.Views.{doubtful_of}
+use Rattle.l4_lint.specs.Inner.Views.{doubtful_of}
 use Rattle.l4_lint.proofs.Doubting.{one_more}
 use Rattle.l4_lint.proofs.doubts.doubts_in.Goals as goal
 

@@ -1,6 +1,6 @@
 use Rattle.std.proofs.Common.{◌≡◌, ◌+◌, ◌≤◌, ◌++◌, length, map}
 use Rattle.l4_lint.specs.Doubts.{doubts_from, lines_of}
-use Rattle.l4_lint.specs.Views.{doubtful_of}
+use Rattle.l4_lint.specs.Inner.Views.{doubtful_of}
 use Rattle.l4_lint.proofs.doubts.doubts_in.Given as goal
 
 -- What was found, and the doubts of the lines that are left, are all doubts.

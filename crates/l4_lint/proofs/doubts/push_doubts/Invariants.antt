@@ -1,6 +1,6 @@
 use Rattle.std.proofs.Common.{◌≡◌, ◌++◌, take, map}
 use Rattle.l4_lint.specs.Doubts.{doubts_text}
-use Rattle.l4_lint.specs.Views.{doubtful_of}
+use Rattle.l4_lint.specs.Inner.Views.{doubtful_of}
 use Rattle.l4_lint.proofs.doubts.push_doubts.Given as goal
 
 abbrev pub invariant-loop-doubtful : goal.invariant-loop-doubtful

@@ -2,7 +2,7 @@ use Rattle.std.proofs.Common.{◌≡◌, ◌+◌, ◌++◌, Bool, true, false, l
 use Rattle.std.proofs.lemmas.Grind.{common_steps}
 use Rattle.l4_words.specs.Lines.{parts_of}
 use Rattle.l4_lint.specs.Faults.{faults_from, not_read}
-use Rattle.l4_lint.specs.Views.{fault_of, reader_of}
+use Rattle.l4_lint.specs.Inner.Views.{fault_of, reader_of}
 use Rattle.l4_lint.proofs.Steps.{going, goes_on, stops}
 use Rattle.l4_lint.proofs.faults.faults_in.Goals as goal
 

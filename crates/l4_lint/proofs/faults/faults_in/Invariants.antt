@@ -1,7 +1,7 @@
 use Rattle.std.proofs.Common.{◌≡◌, ◌+◌, ◌≤◌, ◌++◌, length, map}
 use Rattle.l4_words.specs.Lines.{parts_of}
 use Rattle.l4_lint.specs.Faults.{faults_from, not_read}
-use Rattle.l4_lint.specs.Views.{fault_of, reader_of}
+use Rattle.l4_lint.specs.Inner.Views.{fault_of, reader_of}
 use Rattle.l4_lint.proofs.faults.faults_in.Given as goal
 
 abbrev pub invariant-lines : goal.invariant-lines

@@ -3,7 +3,7 @@ use Rattle.std.specs.Prelude.{filter}
 use Rattle.l4_words.specs.Lines.{parts_of}
 use Rattle.l4_script.specs.Texts.{is_missed}
 use Rattle.l4_lint.specs.Faults.{missed_fault}
-use Rattle.l4_lint.specs.Views.{fault_of}
+use Rattle.l4_lint.specs.Inner.Views.{fault_of}
 use Rattle.l4_lint.proofs.missed.push_missed.Given as goal
 
 abbrev pub invariant-loop-target : goal.invariant-loop-target

@@ -1,6 +1,6 @@
 use Rattle.std.proofs.Common.{◌≡◌, ◌++◌, take, map}
 use Rattle.l4_lint.specs.Spelling.{faults_text}
-use Rattle.l4_lint.specs.Views.{fault_of}
+use Rattle.l4_lint.specs.Inner.Views.{fault_of}
 use Rattle.l4_lint.proofs.spelling.push_faults.Given as goal
 
 abbrev pub invariant-loop-fault : goal.invariant-loop-fault

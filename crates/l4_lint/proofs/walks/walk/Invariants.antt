@@ -1,6 +1,6 @@
 use Rattle.std.proofs.Common.{◌≡◌, ◌≤◌, drop, length}
 use Rattle.l4_lint.specs.Walks.{walk}
-use Rattle.l4_lint.specs.Views.{context_of}
+use Rattle.l4_lint.specs.Inner.Views.{context_of}
 use Rattle.l4_lint.proofs.walks.walk.Given as goal
 
 abbrev pub invariant-loop-operand : goal.invariant-loop-operand

@@ -5,7 +5,7 @@ use Rattle.l4_machine.specs.Outcomes.{compact_findings_of}
 use Rattle.l4_machine.specs.Gathers.{pasts_of}
 use Rattle.l4_core_model.specs.Local.{Local}
 use Rattle.l4_merge.specs.LocalTraces.{LocalTrace, all_events}
-use Rattle.l4_machine.specs.Homes.{EndsIn}
+use Rattle.l4_machine.specs.Inner.Homes.{EndsIn}
 use Rattle.l4_machine.proofs.Cores.{handled_there}
 use Rattle.l4_machine.proofs.Outcomes.{sound}
 use Rattle.l4_machine.proofs.EventsLeft.{is_merge, logs_rise}

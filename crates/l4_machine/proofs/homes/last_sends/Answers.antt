@@ -1,8 +1,8 @@
 use Rattle.std.proofs.Common.{ℕ, [], ◌∷◌, ◌++◌, map, ap₂, sym, ◌∙◌, arith, Bor}
 use Rattle.std.proofs.lemmas.List.FromFn.{map-range_with_len_more}
 use Rattle.l4_core.specs.Processor.{Processor as Core}
-use Rattle.l4_split.specs.Laws.{home_thread}
-use Rattle.l4_machine.specs.Homes.{last_send, locals_of}
+use Rattle.l4_refines.specs.Laws.{home_thread}
+use Rattle.l4_machine.specs.Inner.Homes.{last_send, locals_of}
 use Rattle.l4_machine.proofs.Cores.{send_there}
 use Rattle.l4_machine.proofs.homes.last_sends.Goals as goal
 

@@ -1,7 +1,7 @@
 use Rattle.std.proofs.Common.{◌≡◌, map}
 use Rattle.std.specs.List.{range_with_len}
-use Rattle.l4_split.specs.Laws.{home_thread}
-use Rattle.l4_machine.specs.Homes.{last_send, locals_of}
+use Rattle.l4_refines.specs.Laws.{home_thread}
+use Rattle.l4_machine.specs.Inner.Homes.{last_send, locals_of}
 use Rattle.l4_machine.proofs.homes.last_sends.Given as goal
 
 abbrev pub invariant-loop-place : goal.invariant-loop-place

@@ -3,8 +3,8 @@ use Rattle.std.proofs.lemmas.List.{map-append}
 use Rattle.std.proofs.lemmas.List.FromFn.{map-range_with_len_more}
 use Rattle.l4_types.specs.ReportView.{report_of_view}
 use Rattle.l4_core.specs.Processor.{Processor as Core}
-use Rattle.l4_split.specs.Laws.{home_report}
-use Rattle.l4_machine.specs.Homes.{locals_of}
+use Rattle.l4_refines.specs.Laws.{home_report}
+use Rattle.l4_machine.specs.Inner.Homes.{locals_of}
 use Rattle.l4_machine.proofs.Cores.{report_there}
 use Rattle.l4_machine.proofs.homes.threads.Goals as goal
 

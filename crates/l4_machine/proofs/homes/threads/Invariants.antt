@@ -1,8 +1,8 @@
 use Rattle.std.proofs.Common.{◌≡◌, map}
 use Rattle.std.specs.List.{range_with_len}
 use Rattle.l4_types.specs.ReportView.{report_of_view}
-use Rattle.l4_split.specs.Laws.{home_report}
-use Rattle.l4_machine.specs.Homes.{locals_of}
+use Rattle.l4_refines.specs.Laws.{home_report}
+use Rattle.l4_machine.specs.Inner.Homes.{locals_of}
 use Rattle.l4_machine.proofs.homes.threads.Given as goal
 
 abbrev pub invariant-loop-place : goal.invariant-loop-place

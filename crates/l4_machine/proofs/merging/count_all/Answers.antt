@@ -1,7 +1,7 @@
 use Rattle.std.proofs.Common.{List, length, ap, sym, ◌∙◌, subst}
 use Rattle.std.specs.List.{AllByRecursion}
 use Rattle.std.proofs.lemmas.Result.{IfOk-weaker}
-use Rattle.l4_machine.specs.EventsLeft.{all_left, IsUnmerged}
+use Rattle.l4_machine.specs.Inner.EventsLeft.{all_left, IsUnmerged}
 use Rattle.l4_machine.specs.declared.unmerged.Unmerged.{Unmerged}
 use Rattle.l4_machine.proofs.EventsLeft.{all_left_are}
 use Rattle.l4_machine.proofs.merging.count_all.Goals as goal

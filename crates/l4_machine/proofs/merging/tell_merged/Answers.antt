@@ -2,8 +2,8 @@ use Rattle.std.proofs.Common.{List, OnOk, map, ap, sym, subst, ◌∙◌}
 use Rattle.std.specs.List.{range_with_len}
 use Rattle.l4_model.specs.Steps.{Step}
 use Rattle.l4_core_model.specs.Runs.{merged, told}
-use Rattle.l4_machine.specs.EventsLeft.{all_left, left}
-use Rattle.l4_machine.specs.Rising.{RiseFrom}
+use Rattle.l4_machine.specs.Inner.EventsLeft.{all_left, left}
+use Rattle.l4_machine.specs.Inner.Rising.{RiseFrom}
 use Rattle.l4_machine.specs.Gathers.{events_of, with_number}
 use Rattle.l4_machine.specs.declared.unmerged.Unmerged.{Unmerged}
 use Rattle.l4_machine.proofs.EventsLeft.{all_left_are}

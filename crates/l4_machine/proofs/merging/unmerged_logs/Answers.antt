@@ -4,9 +4,9 @@ use Rattle.std.proofs.lemmas.List.{map-append}
 use Rattle.std.proofs.lemmas.List.FromFn.{map-range_with_len_more}
 use Rattle.l4_core_model.specs.Runs.{Event, Action}
 use Rattle.l4_core_model.proofs.Lists.{all-append}
-use Rattle.l4_machine.specs.EventsLeft.{left, IsUnmerged}
+use Rattle.l4_machine.specs.Inner.EventsLeft.{left, IsUnmerged}
 use Rattle.l4_machine.specs.Gathers.{events_of, with_number}
-use Rattle.l4_machine.specs.Recorded.{happened_left, actions_of}
+use Rattle.l4_machine.specs.Inner.Recorded.{happened_left, actions_of}
 use Rattle.l4_machine.proofs.merging.unmerged_logs.Goals as goal
 
 pub loop-cpu-preserved : goal.loop-cpu-preserved

@@ -3,10 +3,10 @@ use Rattle.std.specs.Prelude.{is_some, slice_get}
 use Rattle.std.specs.List.{range_with_len}
 use Rattle.std.proofs.lemmas.Option.{slice_get-get_or}
 use Rattle.std.proofs.lemmas.Result.{IfOk-weaker}
-use Rattle.l4_machine.specs.EventsLeft.{left}
-use Rattle.l4_machine.specs.Rising.{RiseFrom}
+use Rattle.l4_machine.specs.Inner.EventsLeft.{left}
+use Rattle.l4_machine.specs.Inner.Rising.{RiseFrom}
 use Rattle.l4_machine.specs.Gathers.{events_of, with_number}
-use Rattle.l4_machine.specs.Recorded.{entries_left}
+use Rattle.l4_machine.specs.Inner.Recorded.{entries_left}
 use Rattle.l4_proc.specs.declared.processor.Processor.{Processor}
 use Rattle.l4_machine.specs.declared.unmerged.Unmerged.{Unmerged}
 use Rattle.l4_machine.proofs.Recorded.{all_entries_left, found_within, recorded_is_own}

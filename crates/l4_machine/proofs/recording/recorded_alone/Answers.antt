@@ -2,7 +2,8 @@ use Rattle.std.proofs.Common.{Vec, Global, ◌≡◌, ◌<◌, ◌≤◌, List, 
 use Rattle.std.proofs.lemmas.List.{length-map, map-set}
 use Rattle.std.specs.Option.{option_map}
 use Rattle.std.proofs.lemmas.Option.{get_or_from_slice_get, slice_get-map}
-use Rattle.l4_choices.specs.Entries.{CoreOf, Entry, entry_of}
+use Rattle.l4_bisimilar.specs.Entries.{entry_of}
+use Rattle.l4_core_model.specs.Schedules.{CoreOf, Entry}
 use Rattle.l4_proc.specs.Choices.{action_of}
 use Rattle.l4_proc.specs.Logs.{actions}
 use Rattle.l4_proc.specs.declared.log.Log.{Log}

@@ -1,5 +1,6 @@
 use Rattle.std.proofs.Common.{◌≡◌, map}
-use Rattle.l4_choices.specs.Entries.{CoreOf, entry_of}
+use Rattle.l4_bisimilar.specs.Entries.{entry_of}
+use Rattle.l4_core_model.specs.Schedules.{CoreOf}
 use Rattle.l4_proc.specs.Logs.{actions}
 use Rattle.l4_machine.specs.Entries.{entry_from}
 use Rattle.l4_machine.proofs.Named.{named}

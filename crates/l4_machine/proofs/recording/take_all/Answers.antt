@@ -1,12 +1,13 @@
 use Rattle.std.proofs.Common.{◌++◌, ◌∷◌, [], List, ◌∙◌, None, ap, append_assoc, map, set, sym, rules}
 use Rattle.std.specs.Prelude.{is_some}
 use Rattle.std.proofs.lemmas.List.{append-nil, map-append}
-use Rattle.l4_choices.specs.Entries.{Entry, entry_of}
+use Rattle.l4_bisimilar.specs.Entries.{entry_of}
 use Rattle.l4_core_model.specs.Runs.{Event, merged}
+use Rattle.l4_core_model.specs.Schedules.{Entry}
 use Rattle.l4_merge.specs.Recorded.{actions_in}
 use Rattle.l4_machine.specs.Entries.{entry_from}
-use Rattle.l4_machine.specs.EventsLeft.{first_stamp}
-use Rattle.l4_machine.specs.Recorded.{entries_left, happened_left}
+use Rattle.l4_machine.specs.Inner.EventsLeft.{first_stamp}
+use Rattle.l4_machine.specs.Inner.Recorded.{entries_left, happened_left}
 use Rattle.l4_machine.proofs.EventsLeft.{at_place, chosen, none_chosen}
 use Rattle.l4_machine.proofs.Recorded.{taken_entry}
 use Rattle.l4_machine.specs.declared.unmerged.Unmerged.{Unmerged}

@@ -1,9 +1,9 @@
 use Rattle.std.proofs.Common.{◌≡◌, ◌++◌, length, map}
 use Rattle.std.specs.List.{AllByRecursion}
 use Rattle.l4_machine.specs.Entries.{entry_from}
-use Rattle.l4_machine.specs.EventsLeft.{all_left, left, IsUnmerged}
-use Rattle.l4_machine.specs.Recorded.{entries_left}
-use Rattle.l4_machine.specs.Rising.{RiseFrom}
+use Rattle.l4_machine.specs.Inner.EventsLeft.{all_left, left, IsUnmerged}
+use Rattle.l4_machine.specs.Inner.Recorded.{entries_left}
+use Rattle.l4_machine.specs.Inner.Rising.{RiseFrom}
 use Rattle.l4_machine.proofs.recording.take_all.Given as goal
 
 abbrev pub invariant-loop-place : goal.invariant-loop-place

@@ -3,11 +3,11 @@ use Rattle.std.specs.Prelude.{is_some, slice_get}
 use Rattle.std.specs.Option.{option_map}
 use Rattle.std.proofs.lemmas.Option.{slice_get-get_or}
 use Rattle.l4_core_model.specs.Runs.{Event, Action}
-use Rattle.l4_choices.specs.Entries.{entry_of}
+use Rattle.l4_bisimilar.specs.Entries.{entry_of}
 use Rattle.l4_proc.specs.Choices.{action_of}
 use Rattle.l4_proc.specs.declared.log.Log.{Log}
 use Rattle.l4_machine.specs.Gathers.{events_of}
-use Rattle.l4_machine.specs.Recorded.{actions_of}
+use Rattle.l4_machine.specs.Inner.Recorded.{actions_of}
 use Rattle.l4_machine.proofs.EventsLeft.{some_left, stamp_left}
 use Rattle.l4_machine.proofs.InLogs.{log_at}
 use Rattle.l4_machine.proofs.Recorded.{happened_at, one_less}

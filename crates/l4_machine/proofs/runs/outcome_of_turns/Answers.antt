@@ -4,7 +4,7 @@ use Rattle.l4_model.specs.Machine.{Machine}
 use Rattle.l4_merge.specs.Rounds.{IsInRounds}
 use Rattle.l4_machine.specs.Gathers.{AreResting}
 use Rattle.l4_machine.specs.Outcomes.{IsFoundFor, compact_findings_of}
-use Rattle.l4_machine.specs.Teams.{count_events}
+use Rattle.l4_machine.specs.Inner.Teams.{count_events}
 use Rattle.l4_machine.proofs.Founds.{found}
 use Rattle.l4_machine.proofs.runs.outcome_of_turns.Goals as goal
 

@@ -1,14 +1,13 @@
 use Rattle.std.proofs.Common.{◌≡◌, ◌⊎◌, ◌+◌, ◌<◌, ◌≤◌, None, List, map, ap, sym, ◌∙◌, subst, arith}
 use Rattle.l4_model.specs.Machine.{Machine}
-use Rattle.l4_choices.specs.Entries.{Entry}
+use Rattle.l4_core_model.specs.Schedules.{Entry, replay_entries}
 use Rattle.l4_merge.specs.Rounds.{IsInRounds}
 use Rattle.l4_machine.specs.Entries.{entries_fault, entry_from}
 use Rattle.l4_machine.specs.Gathers.{AreResting}
 use Rattle.l4_machine.specs.Outcomes.{IsFoundFor, IsOutcomeOf, compact_findings_of}
-use Rattle.l4_machine.specs.Teams.{count_events}
+use Rattle.l4_machine.specs.Inner.Teams.{count_events}
 use Rattle.l4_machine.proofs.Founds.{found}
 use Rattle.l4_machine.proofs.Recorded.{are_lawful, is_replayed}
-use Rattle.l4_choices.specs.Entries.{replay_entries}
 use Rattle.l4_machine.proofs.runs.recorded_turns.Goals as goal
 
 pub returns-clause-ok : goal.returns-clause-ok

@@ -1,7 +1,7 @@
 use Rattle.std.proofs.Common.{◌≡◌, ◌≢◌, ◌<◌, length, get_or, set, subst, ap, arith, sym, ◌∙◌}
 use Rattle.std.specs.Prelude.{slice_get}
 use Rattle.l4_machine.specs.declared.station.Station as program
-use Rattle.l4_machine.specs.Inboxes.{letters_in}
+use Rattle.l4_machine.specs.Inner.Inboxes.{letters_in}
 use Rattle.l4_machine.specs.Stations.{letters_out}
 use Rattle.l4_machine.specs.declared.inbox.Inbox.{Inbox}
 use Rattle.l4_machine.proofs.Delivered.{has_come, next_known, on_ok, one_delivered, put_back, read_beside, written, IsRead}

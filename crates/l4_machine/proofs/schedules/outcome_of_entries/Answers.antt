@@ -1,9 +1,9 @@
 use Rattle.std.proofs.Common.{map, refl, sym, ◌∙◌, subst}
 use Rattle.l4_model.specs.History.{IsHistory}
 use Rattle.l4_core_model.specs.Runs.{opening_run}
-use Rattle.l4_choices.specs.Entries.{replay_entries}
+use Rattle.l4_core_model.specs.Schedules.{replay_entries}
 use Rattle.l4_machine.specs.Entries.{entry_from}
-use Rattle.l4_machine.specs.Homes.{EndsIn, IsAtHome}
+use Rattle.l4_machine.specs.Inner.Homes.{EndsIn, IsAtHome}
 use Rattle.l4_machine.proofs.Cores.{stations_handled}
 use Rattle.l4_machine.proofs.Replays.{as_many}
 use Rattle.l4_machine.proofs.Endings.{rests, are_resting}

@@ -1,8 +1,8 @@
 use Rattle.std.proofs.Common.{◌≡◌, List, map, ap, sym, ◌∙◌, subst}
 use Rattle.l4_core_model.specs.Runs.{Run}
-use Rattle.l4_choices.specs.Entries.{Entry, replay_entries}
+use Rattle.l4_core_model.specs.Schedules.{Entry, replay_entries, numbered}
 use Rattle.l4_machine.specs.declared.entries.Entry as code
-use Rattle.l4_machine.specs.Entries.{entry_from, numbered}
+use Rattle.l4_machine.specs.Entries.{entry_from}
 use Rattle.l4_machine.specs.Outcomes.{Findings, IsOutcomeOf, findings_of}
 use Rattle.l4_machine.proofs.Replays.{numbers_replayed}
 use Rattle.l4_machine.proofs.schedules.replay.Goals as goal

@@ -1,5 +1,5 @@
 use Rattle.std.proofs.Common.{◌≤◌, ◌+◌, drop}
-use Rattle.l4_machine.specs.Waiting.{all_at_end, count_sought, count_undecided, sought}
+use Rattle.l4_machine.specs.Inner.Waiting.{all_at_end, count_sought, count_undecided, sought}
 use Rattle.l4_machine.proofs.searching.begin_all.Given as goal
 
 abbrev pub invariant-loop-log : goal.invariant-loop-log

@@ -2,10 +2,10 @@ use Rattle.std.proofs.Common.{◌++◌, ◌∷◌, List, ◌∙◌, None, ap, sy
 use Rattle.std.specs.Prelude.{filter_map, is_some}
 use Rattle.std.proofs.lemmas.List.{append-nil}
 use Rattle.l4_core_model.specs.Runs.{Event, merged, told}
-use Rattle.l4_machine.specs.EventsLeft.{first_stamp}
+use Rattle.l4_machine.specs.Inner.EventsLeft.{first_stamp}
 use Rattle.l4_machine.proofs.EventsLeft.{at_place, chosen, none_chosen}
 use Rattle.l4_machine.proofs.Sought.{looked_at}
-use Rattle.l4_machine.specs.Waiting.{sought}
+use Rattle.l4_machine.specs.Inner.Waiting.{sought}
 use Rattle.l4_machine.specs.declared.unmerged.Unmerged.{Unmerged}
 use Rattle.l4_machine.proofs.searching.find_all.Goals as goal
 

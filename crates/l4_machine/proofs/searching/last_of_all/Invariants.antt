@@ -1,7 +1,7 @@
 use Rattle.std.proofs.Common.{◌≡◌, map, take}
 use Rattle.std.specs.List.{AllByRecursion}
-use Rattle.l4_machine.specs.EventsLeft.{left, IsUnmerged}
-use Rattle.l4_machine.specs.Waiting.{at_end}
+use Rattle.l4_machine.specs.Inner.EventsLeft.{left, IsUnmerged}
+use Rattle.l4_machine.specs.Inner.Waiting.{at_end}
 use Rattle.l4_machine.proofs.searching.last_of_all.Given as goal
 
 abbrev pub invariant-loop-log : goal.invariant-loop-log

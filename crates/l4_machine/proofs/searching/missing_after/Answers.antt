@@ -3,9 +3,9 @@ use Rattle.std.specs.Prelude.{filter_map, slice_get}
 use Rattle.l4_core_model.specs.Runs.{Event, told}
 use Rattle.l4_model.specs.Steps.{Step}
 use Rattle.l4_proc.specs.Logs.{events}
-use Rattle.l4_machine.specs.EventsLeft.{left}
+use Rattle.l4_machine.specs.Inner.EventsLeft.{left}
 use Rattle.l4_machine.specs.Gathers.{events_of}
-use Rattle.l4_machine.specs.Waiting.{at_end, count_sought, sought}
+use Rattle.l4_machine.specs.Inner.Waiting.{at_end, count_sought, sought}
 use Rattle.l4_machine.proofs.Enough.{at_end_is, next_event}
 use Rattle.l4_machine.proofs.InLogs.{log_at}
 use Rattle.l4_machine.proofs.searching.missing_after.Goals as goal

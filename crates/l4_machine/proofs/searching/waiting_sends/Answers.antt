@@ -3,10 +3,10 @@ use Rattle.std.specs.Prelude.{filter_map}
 use Rattle.std.specs.List.{range_with_len}
 use Rattle.std.proofs.lemmas.Result.{IfOk-weaker}
 use Rattle.l4_core_model.specs.Runs.{Event, merged, told}
-use Rattle.l4_machine.specs.EventsLeft.{all_left, left}
+use Rattle.l4_machine.specs.Inner.EventsLeft.{all_left, left}
 use Rattle.l4_machine.specs.Gathers.{events_of, with_number}
-use Rattle.l4_machine.specs.Rising.{RiseFrom}
-use Rattle.l4_machine.specs.Waiting.{sought, AreBegunOnce}
+use Rattle.l4_machine.specs.Inner.Rising.{RiseFrom}
+use Rattle.l4_machine.specs.Inner.Waiting.{sought, AreBegunOnce}
 use Rattle.l4_machine.specs.declared.unmerged.Unmerged.{Unmerged}
 use Rattle.l4_machine.proofs.EventsLeft.{all_left_are}
 use Rattle.l4_machine.proofs.searching.waiting_sends.Goals as goal

@@ -6,7 +6,7 @@ use Rattle.l4_model.specs.Words.{period_limit}
 use Rattle.l4_core_model.specs.Schedules.{earliest}
 use Rattle.l4_core.specs.Processor.{Processor as Core}
 use Rattle.l4_proc.specs.declared.processor.Processor.{Processor}
-use Rattle.l4_machine.specs.Teams.{deadline_of, first_deadline}
+use Rattle.l4_machine.specs.Inner.Teams.{deadline_of, first_deadline}
 use Rattle.l4_machine.proofs.Ticked.{both_near, deadline_assoc, first_and_rest, nearer}
 use Rattle.l4_machine.proofs.team.first_deadline.Goals as goal
 

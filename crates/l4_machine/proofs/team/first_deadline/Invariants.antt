@@ -3,7 +3,7 @@ use Rattle.std.specs.Prelude.{slice_get, IfSome}
 use Rattle.l4_model.specs.Words.{period_limit}
 use Rattle.l4_core_model.specs.Schedules.{earliest}
 use Rattle.l4_proc.specs.declared.processor.Processor.{Processor}
-use Rattle.l4_machine.specs.Teams.{first_deadline}
+use Rattle.l4_machine.specs.Inner.Teams.{first_deadline}
 use Rattle.l4_machine.proofs.team.first_deadline.Given as goal
 
 abbrev pub invariant-loop-processor : goal.invariant-loop-processor

@@ -1,7 +1,7 @@
 use Rattle.std.proofs.Common.{◌≡◌, ℕ, ◌<◌, ◌≤◌, Some, length}
 use Rattle.std.specs.Prelude.{slice_get}
 use Rattle.l4_proc.specs.declared.processor.Processor.{Processor}
-use Rattle.l4_machine.specs.Teams.{HasComeTo}
+use Rattle.l4_machine.specs.Inner.Teams.{HasComeTo}
 use Rattle.l4_machine.proofs.team.tick_all.Given as goal
 
 abbrev pub invariant-loop-place : goal.invariant-loop-place

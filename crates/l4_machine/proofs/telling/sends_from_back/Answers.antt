@@ -7,7 +7,7 @@ use Rattle.l4_model.specs.Words.{Id}
 use Rattle.l4_model.specs.World.{Name}
 use Rattle.l4_core_model.specs.Runs.{Event, told}
 use Rattle.l4_proc.specs.Logs.{events}
-use Rattle.l4_machine.specs.Waiting.{count_undecided, sought}
+use Rattle.l4_machine.specs.Inner.Waiting.{count_undecided, sought}
 use Rattle.l4_machine.proofs.Enough.{event_from_back, few_sought, found_behind}
 use Rattle.l4_machine.proofs.InOrder.{are_logs, as_many, event_here, event_next, events_told, places_before, some_before, station_within}
 use Rattle.l4_machine.proofs.Told.{place_within, places_all, ArePlaces}

@@ -1,7 +1,7 @@
 use Rattle.std.proofs.Common.{◌≡◌, ◌≤◌, drop, length, reverse}
 use Rattle.std.specs.Prelude.{filter_map}
 use Rattle.l4_core_model.specs.Runs.{told}
-use Rattle.l4_machine.specs.Waiting.{sought}
+use Rattle.l4_machine.specs.Inner.Waiting.{sought}
 use Rattle.l4_machine.proofs.InOrder.{events_told}
 use Rattle.l4_machine.proofs.Told.{ArePlaces}
 use Rattle.l4_machine.proofs.telling.sends_from_back.Given as goal

@@ -1,7 +1,7 @@
 use Rattle.std.proofs.Common.{◌≡◌, ◌+◌, length, drop, List}
 use Rattle.std.specs.List.{AllByRecursion}
 use Rattle.l4_proc.specs.declared.processor.Processor.{Processor}
-use Rattle.l4_machine.specs.EventsLeft.{all_left, IsUnmerged}
+use Rattle.l4_machine.specs.Inner.EventsLeft.{all_left, IsUnmerged}
 use Rattle.l4_machine.proofs.unmerged.count_left.Given as goal
 
 abbrev pub invariant-loop-log : goal.invariant-loop-log

@@ -1,6 +1,6 @@
 use Rattle.std.proofs.Common.{◌≡◌, ℕ, ◌+◌, ◌≤◌, length, drop, map}
 use Rattle.std.specs.Option.{option_map}
-use Rattle.l4_machine.specs.EventsLeft.{least_place}
+use Rattle.l4_machine.specs.Inner.EventsLeft.{least_place}
 use Rattle.l4_machine.specs.declared.unmerged.Unmerged.{Unmerged}
 use Rattle.l4_machine.proofs.unmerged.first_place.Given as goal
 

@@ -3,7 +3,7 @@ use Rattle.std.specs.Prelude.{is_some}
 use Rattle.std.proofs.lemmas.List.{append-nil}
 use Rattle.l4_model.specs.Steps.{Step}
 use Rattle.l4_core_model.specs.Runs.{Event, merged, told}
-use Rattle.l4_machine.specs.EventsLeft.{all_left, first_stamp}
+use Rattle.l4_machine.specs.Inner.EventsLeft.{all_left, first_stamp}
 use Rattle.l4_machine.proofs.EventsLeft.{at_place, chosen, none_chosen, taken}
 use Rattle.l4_machine.specs.declared.unmerged.Unmerged.{Unmerged}
 use Rattle.l4_machine.proofs.unmerged.tell_all.Goals as goal

@@ -2,8 +2,8 @@ use Rattle.std.proofs.Common.{◌≡◌, ◌++◌, List, length, map}
 use Rattle.std.specs.List.{AllByRecursion}
 use Rattle.l4_model.specs.Steps.{Step}
 use Rattle.l4_core_model.specs.Runs.{merged, told}
-use Rattle.l4_machine.specs.EventsLeft.{all_left, left, IsUnmerged}
-use Rattle.l4_machine.specs.Rising.{RiseFrom}
+use Rattle.l4_machine.specs.Inner.EventsLeft.{all_left, left, IsUnmerged}
+use Rattle.l4_machine.specs.Inner.Rising.{RiseFrom}
 use Rattle.l4_machine.proofs.unmerged.tell_all.Given as goal
 
 abbrev pub invariant-loop-place : goal.invariant-loop-place

@@ -1,5 +1,5 @@
 use Rattle.std.proofs.Common.{◌≡◌, ◌≤◌, take}
-use Rattle.l4_machine.specs.Waiting.{count_undecided}
+use Rattle.l4_machine.specs.Inner.Waiting.{count_undecided}
 use Rattle.l4_machine.proofs.waiting.count_undecided.Given as goal
 
 abbrev pub invariant-loop-send : goal.invariant-loop-send

@@ -1,6 +1,6 @@
 use Rattle.std.proofs.Common.{sym, refl, []}
 use Rattle.std.specs.Prelude.{slice_index_or}
-use Rattle.l4_machine.specs.Inboxes.{letters_in}
+use Rattle.l4_machine.specs.Inner.Inboxes.{letters_in}
 use Rattle.l4_machine.proofs.Inboxes.{no_first}
 use Rattle.l4_machine.proofs.workers.handle_first.Goals as goal
 

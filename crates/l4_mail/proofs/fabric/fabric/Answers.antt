@@ -1,5 +1,5 @@
 use Rattle.std.proofs.Common.{◌≡◌, subst, arith}
-use Rattle.l4_mail.specs.Fabrics.{AreMembers}
+use Rattle.l4_mail.specs.Inner.Fabrics.{AreMembers}
 use Rattle.l4_mail.proofs.Growing.{fresh}
 use Rattle.l4_mail.proofs.fabric.fabric.Goals as goal
 

@@ -1,4 +1,4 @@
-use Rattle.l4_mail.specs.Fabrics.{AreMembers}
+use Rattle.l4_mail.specs.Inner.Fabrics.{AreMembers}
 use Rattle.l4_mail.proofs.fabric.fabric.Given as goal
 
 abbrev pub invariant-loop-cpu : goal.invariant-loop-cpu

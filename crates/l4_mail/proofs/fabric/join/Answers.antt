@@ -1,5 +1,5 @@
 use Rattle.std.proofs.Common.{◌≡◌, ◌<◌, length, get_or, subst, refl, arith}
-use Rattle.l4_mail.specs.Fabrics.{AreJoined}
+use Rattle.l4_mail.specs.Inner.Fabrics.{AreJoined}
 use Rattle.l4_mail.proofs.Growing.{joined_more, all_joined, few_back, few_ends, out_then_in, in_then_out, own_place, stands_there}
 use Rattle.l4_mail.proofs.Unlinked.{first_joined}
 use Rattle.l4_mail.proofs.fabric.join.Goals as goal

@@ -1,4 +1,4 @@
-use Rattle.l4_mail.specs.Fabrics.{AreJoined}
+use Rattle.l4_mail.specs.Inner.Fabrics.{AreJoined}
 use Rattle.l4_mail.proofs.fabric.join.Given as goal
 
 abbrev pub invariant-loop-port : goal.invariant-loop-port

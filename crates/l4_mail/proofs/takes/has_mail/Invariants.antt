@@ -1,6 +1,6 @@
 use Rattle.std.proofs.Common.{◌≡◌, ℕ, ◌<◌, [], map, get_or}
 use Rattle.l4_mail.specs.Ends.{kept, here}
-use Rattle.l4_mail.specs.Takes.{NoneIsTaken}
+use Rattle.l4_mail.specs.Inner.Takes.{NoneIsTaken}
 use Rattle.l4_mail.proofs.takes.has_mail.Given as goal
 
 abbrev pub invariant-loop-from : goal.invariant-loop-from

@@ -1,7 +1,7 @@
 use Rattle.std.proofs.Common.{◌<◌, ◌∙◌, length, ap, sym, arith, rules}
 use Rattle.std.proofs.Math.Seq.{map-set_same}
 use Rattle.l4_mail.specs.Ends.{kept}
-use Rattle.l4_mail.specs.Takes.{NoneIsKept}
+use Rattle.l4_mail.specs.Inner.Takes.{NoneIsKept}
 use Rattle.l4_mail.proofs.Keeping.{keeps_none}
 use Rattle.l4_mail.proofs.Looking.{seen_next, none_taken_set, none_before, none_at_all, none_still, here_before, none_here_at_all}
 use Rattle.l4_mail.proofs.takes.next_inlet.Goals as goal

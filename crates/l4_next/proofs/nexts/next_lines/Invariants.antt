@@ -1,5 +1,5 @@
 use Rattle.std.proofs.Common.{◌≡◌, map, true}
-use Rattle.l4_choices.specs.Entries.{replay_entries}
+use Rattle.l4_core_model.specs.Schedules.{replay_entries}
 use Rattle.l4_machine.specs.Entries.{entry_from}
 use Rattle.l4_next.specs.Nexts.{are_spelled, nexts_text}
 use Rattle.l4_next.proofs.Telling.{firsts}

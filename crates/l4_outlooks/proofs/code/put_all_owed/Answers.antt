@@ -1,6 +1,6 @@
 use Rattle.std.proofs.Common.{arith}
-use Rattle.l4_types.specs.OwedView.{owed_of}
-use Rattle.l4_states.specs.Codes.{owed_code}
+use Rattle.l4_types.specs.Inner.OwedView.{owed_of}
+use Rattle.l4_states.specs.Inner.Codes.{owed_code}
 use Rattle.l4_outlooks.proofs.Coding.{viewed_on}
 use Rattle.l4_outlooks.proofs.code.put_all_owed.Goals as goal
 

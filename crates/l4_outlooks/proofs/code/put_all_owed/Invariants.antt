@@ -1,7 +1,7 @@
 use Rattle.std.proofs.Common.{◌≡◌, ℕ, List, drop, map}
-use Rattle.l4_types.specs.OwedView.{owed_of}
-use Rattle.l4_states.specs.Codes.{chained, owed_code}
-use Rattle.l4_codes.specs.Written.{with_numbers}
+use Rattle.l4_types.specs.Inner.OwedView.{owed_of}
+use Rattle.l4_states.specs.Inner.Codes.{chained, owed_code}
+use Rattle.l4_codes.specs.Inner.Written.{with_numbers}
 use Rattle.l4_outlooks.proofs.code.put_all_owed.Given as goal
 
 -- With the retargets that are left it is the code of all.

@@ -1,5 +1,5 @@
 use Rattle.l4_model.specs.World.{list_at}
-use Rattle.l4_states.specs.Codes.{number_code}
+use Rattle.l4_states.specs.Inner.Codes.{number_code}
 use Rattle.l4_codes.proofs.Writing.{first_told}
 use Rattle.l4_outlooks.proofs.code.put_as_queued.Goals as goal
 

@@ -1,7 +1,7 @@
 use Rattle.std.proofs.Common.{◌≡◌, ℕ, List}
 use Rattle.l4_model.specs.World.{list_at}
-use Rattle.l4_states.specs.Codes.{chained, number_code}
-use Rattle.l4_codes.specs.Written.{with_numbers}
+use Rattle.l4_states.specs.Inner.Codes.{chained, number_code}
+use Rattle.l4_codes.specs.Inner.Written.{with_numbers}
 use Rattle.l4_outlooks.proofs.code.put_as_queued.Given as goal
 
 -- With the senders that are left it is the code of all.

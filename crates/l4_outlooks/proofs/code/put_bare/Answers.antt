@@ -1,7 +1,7 @@
 use Rattle.std.proofs.Common.{ap, sym, ◌∙◌}
 use Rattle.l4_model.specs.World.{opening_context}
-use Rattle.l4_states.specs.Codes.{context_code, thread_code}
-use Rattle.l4_codes.specs.States.{standing_code}
+use Rattle.l4_states.specs.Inner.Codes.{context_code, thread_code}
+use Rattle.l4_codes.specs.Inner.States.{standing_code}
 use Rattle.l4_codes.proofs.Writing.{last, same_last}
 use Rattle.l4_worlds.specs.Bare.{bare_thread}
 use Rattle.l4_outlooks.proofs.Coding.{forgotten_is, forgotten_told, kept_is}

@@ -1,6 +1,6 @@
 use Rattle.std.proofs.Common.{arith, length}
 use Rattle.l4_model.specs.World.{list_at}
-use Rattle.l4_states.specs.Codes.{chained, number_code}
+use Rattle.l4_states.specs.Inner.Codes.{chained, number_code}
 use Rattle.l4_worlds.specs.Bare.{in_order}
 use Rattle.l4_outlooks.proofs.Coding.{falls_on, fallen}
 use Rattle.l4_outlooks.proofs.code.put_falling.Goals as goal

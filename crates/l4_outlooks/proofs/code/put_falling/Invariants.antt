@@ -1,7 +1,7 @@
 use Rattle.std.proofs.Common.{◌≡◌, ℕ, List, length}
 use Rattle.l4_model.specs.World.{list_at}
-use Rattle.l4_states.specs.Codes.{chained, number_code}
-use Rattle.l4_codes.specs.Written.{with_numbers}
+use Rattle.l4_states.specs.Inner.Codes.{chained, number_code}
+use Rattle.l4_codes.specs.Inner.Written.{with_numbers}
 use Rattle.l4_worlds.specs.Bare.{in_order}
 use Rattle.l4_outlooks.proofs.code.put_falling.Given as goal
 

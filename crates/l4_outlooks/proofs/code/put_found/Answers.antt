@@ -1,6 +1,6 @@
 use Rattle.std.proofs.Common.{Some, ap, sym, ◌∙◌}
 use Rattle.l4_model.specs.Conditions.{Found}
-use Rattle.l4_states.specs.Codes.{thread_code}
+use Rattle.l4_states.specs.Inner.Codes.{thread_code}
 use Rattle.l4_codes.proofs.Writing.{same_last}
 use Rattle.l4_worlds.specs.Bare.{bare_thread}
 use Rattle.l4_outlooks.proofs.Coding.{bare_at, found_now, found_there}

@@ -1,7 +1,7 @@
 use Rattle.std.proofs.Common.{ap, sym, ◌∙◌}
-use Rattle.l4_states.specs.Codes.{number_code}
+use Rattle.l4_states.specs.Inner.Codes.{number_code}
 use Rattle.l4_codes.proofs.Writing.{last, same_last}
-use Rattle.l4_outlooks.specs.Named.{sender_code}
+use Rattle.l4_outlooks.specs.Inner.Named.{sender_code}
 use Rattle.l4_outlooks.proofs.code.put_if_waiting.Goals as goal
 
 pub returns : goal.returns

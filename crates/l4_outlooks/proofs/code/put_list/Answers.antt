@@ -1,6 +1,6 @@
 use Rattle.std.proofs.Common.{Some, ap, arith, sym, ◌∙◌}
 use Rattle.l4_model.specs.World.{list_at}
-use Rattle.l4_states.specs.Codes.{chained, number_code}
+use Rattle.l4_states.specs.Inner.Codes.{chained, number_code}
 use Rattle.l4_codes.proofs.Writing.{same_last}
 use Rattle.l4_worlds.specs.Bare.{in_order}
 use Rattle.l4_outlooks.proofs.Falling.{list_falls, list_stays}

@@ -1,7 +1,7 @@
 use Rattle.std.proofs.Common.{ap, arith, length}
 use Rattle.std.specs.Prelude.{[]}
 use Rattle.l4_model.specs.Machine.{Machine}
-use Rattle.l4_states.specs.Codes.{chained, number_code, sized}
+use Rattle.l4_states.specs.Inner.Codes.{chained, number_code, sized}
 use Rattle.l4_codes.proofs.Writing.{each_begun, each_on, each_over}
 use Rattle.l4_worlds.specs.Bare.{bare}
 use Rattle.l4_outlooks.proofs.Falling.{lists_counted}

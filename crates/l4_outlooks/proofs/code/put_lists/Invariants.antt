@@ -1,6 +1,6 @@
 use Rattle.std.proofs.Common.{◌≡◌, ℕ, List, drop, length}
-use Rattle.l4_states.specs.Codes.{chained, each, number_code, sized}
-use Rattle.l4_codes.specs.Written.{with_numbers}
+use Rattle.l4_states.specs.Inner.Codes.{chained, each, number_code, sized}
+use Rattle.l4_codes.specs.Inner.Written.{with_numbers}
 use Rattle.l4_worlds.specs.Bare.{bare}
 use Rattle.l4_outlooks.proofs.code.put_lists.Given as goal
 

@@ -1,7 +1,7 @@
 use Rattle.std.proofs.Common.{ap, arith, length}
 use Rattle.l4_model.specs.World.{opening_thread}
 use Rattle.l4_model.specs.Machine.{Machine}
-use Rattle.l4_states.specs.Codes.{sized, thread_code}
+use Rattle.l4_states.specs.Inner.Codes.{sized, thread_code}
 use Rattle.l4_codes.proofs.Writing.{each_begun, each_on, each_over}
 use Rattle.l4_worlds.specs.Bare.{bare}
 use Rattle.l4_outlooks.proofs.Coding.{bare_counted}

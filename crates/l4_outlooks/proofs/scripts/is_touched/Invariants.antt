@@ -2,7 +2,7 @@ use Rattle.std.proofs.Common.{◌≡◌, drop}
 use Rattle.std.specs.Prelude.{not, ◌&&◌}
 use Rattle.std.specs.List.{list_any}
 use Rattle.l4_model.specs.Words.{same_id}
-use Rattle.l4_outlooks.specs.Touches.{touches}
+use Rattle.l4_outlooks.specs.Inner.Touches.{touches}
 use Rattle.l4_outlooks.proofs.scripts.is_touched.Given as goal
 
 -- The threads that are left decide.

@@ -1,6 +1,6 @@
 use Rattle.std.proofs.Common.{◌≡◌, drop, map}
 use Rattle.std.specs.List.{list_any}
-use Rattle.l4_script.specs.Scripts.{instr_of}
+use Rattle.l4_script.specs.Inner.Scripts.{instr_of}
 use Rattle.l4_first.specs.First.{may_ask}
 use Rattle.l4_outlooks.proofs.scripts.script_asks.Given as goal
 

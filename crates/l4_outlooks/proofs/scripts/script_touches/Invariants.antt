@@ -1,7 +1,7 @@
 use Rattle.std.proofs.Common.{◌≡◌, drop, map}
 use Rattle.std.specs.List.{list_any}
-use Rattle.l4_script.specs.Scripts.{instr_of}
-use Rattle.l4_outlooks.specs.Touches.{touches}
+use Rattle.l4_script.specs.Inner.Scripts.{instr_of}
+use Rattle.l4_outlooks.specs.Inner.Touches.{touches}
 use Rattle.l4_outlooks.proofs.scripts.script_touches.Given as goal
 
 -- The instructions that are left decide.

@@ -1,6 +1,6 @@
 use Rattle.std.proofs.Common.{◌≡◌, drop}
 use Rattle.std.specs.List.{list_any}
-use Rattle.l4_outlooks.specs.Touches.{script_asks}
+use Rattle.l4_outlooks.specs.Inner.Touches.{script_asks}
 use Rattle.l4_outlooks.proofs.scripts.some_script_asks.Given as goal
 
 -- The threads that are left decide.

@@ -1,6 +1,6 @@
 use Rattle.std.proofs.Common.{drop, map}
 use Rattle.std.specs.List.{AllByRecursion}
-use Rattle.l4_script.specs.Scripts.{instr_of}
+use Rattle.l4_script.specs.Inner.Scripts.{instr_of}
 use Rattle.l4_worlds.specs.Histories.{IsShortIn}
 use Rattle.l4_outlooks.proofs.timed.know_script.Given as goal
 

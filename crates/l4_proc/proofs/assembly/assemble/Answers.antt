@@ -1,6 +1,6 @@
 use Rattle.std.proofs.Common.{◌∙◌, ◌++◌, List, subst, sym, ap}
 use Rattle.l4_core.specs.Processor as cores
-use Rattle.l4_mail.specs.Fabrics.{AreFresh}
+use Rattle.l4_mail.specs.Inner.Fabrics.{AreFresh}
 use Rattle.l4_mail.specs.declared.ports.Port.{Port}
 use Rattle.l4_proc.proofs.Assembling.{HaveProcessors, assembled, next_port_of, next_fresh, next_has}
 use Rattle.l4_proc.proofs.assembly.assemble.Goals as goal

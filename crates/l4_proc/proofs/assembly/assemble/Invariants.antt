@@ -1,8 +1,8 @@
 use Rattle.std.proofs.Common.{◌≡◌, ℕ, Some, ◌++◌, map}
 use Rattle.std.specs.Prelude.{slice_get}
-use Rattle.l4_mail.specs.Fabrics.{AreFresh}
+use Rattle.l4_mail.specs.Inner.Fabrics.{AreFresh}
 use Rattle.l4_proc.specs.declared.processor.Processor.{Processor}
-use Rattle.l4_proc.specs.Assembled.{IsOpening}
+use Rattle.l4_proc.specs.Inner.Assembled.{IsOpening}
 use Rattle.l4_proc.proofs.assembly.assemble.Given as goal
 
 -- The ports so far have their processors, in order.

@@ -1,12 +1,12 @@
-use Rattle.std.proofs.Common.{◌≡◌, ◌++◌, ℕ, List, [], map, ap, subst, sym, ◌∙◌, arith}
+use Rattle.std.proofs.Common.{◌++◌, ℕ, List, [], map, ap, subst, sym, ◌∙◌}
 use Rattle.std.specs.List.{AllByRecursion}
 use Rattle.std.specs.Option.{option_copied}
 use Rattle.l4_futures.specs.Endings.{HasLooked}
 use Rattle.l4_questions.specs.Answers.{endings_after, traces_along}
-use Rattle.l4_questions.specs.Found.{led_ending, IsLed}
+use Rattle.l4_questions.specs.Inner.Found.{led_ending, IsLed}
 use Rattle.l4_questions.specs.Printed.{IsTold}
 use Rattle.l4_questions.specs.Stuck.{asks_who_is_stuck, stuck_lines}
-use Rattle.l4_questions.specs.Writing.{AreWritten}
+use Rattle.l4_questions.specs.Inner.Writing.{AreWritten}
 use Rattle.l4_stuck.specs.Stuck.{stuck_of}
 use Rattle.l4_questions.proofs.StuckThreads.{all_stuck}
 use Rattle.l4_questions.proofs.Lists.{endings_are, all_led, none_alike}
@@ -27,14 +27,14 @@ pub returns-clause-ok : goal.returns-clause-ok
 returns-clause-ok g c =
     let m = c.args.machine.now in
     let q = c.args.question.now in
-    let waits = c.args.beside.waits in
+    let shown = c.args.beside.shown in
     let expected = option_copied c.args.beside.expected in
     let found = c.in_ok-found.found in
     let traces = traces_along m found.endings.items in
     let limits = c.in_ok-depth.ensures.ok in
     let stuck = c.in_ok-stuck.stuck in
     let answer = c.in_ok-answer.answer in
-    let written = subst (λ es. AreWritten q waits expected es [] c.in_ok-written.written)
+    let written = subst (λ es. AreWritten q shown expected es [] c.in_ok-written.written)
     (ap (map (led_ending m)) c.deref.ensures.value ∙ endings_are m found.endings.items)
     c.in_ok-written.ensures in
     record {
@@ -56,11 +56,11 @@ returns-clause-ok g c =
       stuck_are = c.in_ok-stuck.ensures;
       told_status = answer.status;
       told =
-          subst (λ (last : List ℕ). IsTold q waits expected (endings_after m traces) last
+          subst (λ (last : List ℕ). IsTold q shown expected (endings_after m traces) last
           found.is_whole answer.lines.items answer.unmet.items answer.status)
           (c.deref-2.ensures.value ∙ c.in_ok-last.ensures
           ∙ ap (λ last. stuck_lines m (stuck_of stuck.threads.items) stuck.is_whole ++ last)
           (none_alike m found.endings.items found.worlds found.depth found.is_whole))
-          (c.in_ok-answer.ensures waits expected (endings_after m traces) written);
+          (c.in_ok-answer.ensures shown expected (endings_after m traces) written);
       status_is = c.stuck_status.ensures;
     }

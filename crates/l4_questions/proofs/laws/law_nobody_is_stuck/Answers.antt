@@ -1,4 +1,4 @@
-use Rattle.std.proofs.Common.{◌≡◌, ℕ, ◌<◌, Bool, true, false, List, [], ◌∷◌, length, refl, subst}
+use Rattle.std.proofs.Common.{◌≡◌, ℕ, ◌<◌, Bool, true, false, List, [], ◌∷◌, length, subst}
 use Rattle.l4_model.specs.Machine.{Machine}
 use Rattle.l4_forever.specs.Moves.{IsNeverStuck}
 use Rattle.l4_stuck.specs.Stuck.{Stuck}
@@ -14,7 +14,7 @@ none_of m [] is_whole none whole are thread inside = are.complete whole thread i
 none_of m (s ∷ stuck) is_whole none whole are thread inside = cc
 
 pub returns : goal.returns
-returns c = λ m q waits expected lines unmet asks none a.
+returns c = λ m q shown expected lines unmet asks none a.
     let is = nobody (is_any a.stuck) a.is_stuck_whole a.told_status
     (subst (λ (w : Wanted). 0 ≡ stuck_status w (is_any a.stuck) a.is_stuck_whole a.told_status) none
     a.status_is) in

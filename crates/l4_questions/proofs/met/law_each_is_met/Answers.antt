@@ -7,7 +7,7 @@ use Rattle.l4_questions.proofs.Statuses.{all_told, met_by_status, status_told}
 use Rattle.l4_questions.proofs.met.law_each_is_met.Goals as goal
 
 pub returns-clause-by_status : goal.returns-clause-by_status
-returns-clause-by_status c = λ m q waits expected lines unmet may asked any a h w ending.
+returns-clause-by_status c = λ m q shown expected lines unmet may asked any a h w ending.
     let endings = endings_after m a.traces in
     let is = met_by_status q (Some expected) endings a.is_whole (status_told a) any in
     let all = subst (AreAllEndings m a.traces a.depth) is.1 a.searched.all in
@@ -15,7 +15,7 @@ returns-clause-by_status c = λ m q waits expected lines unmet may asked any a h
     asked is.0
 
 pub returns-clause-whole : goal.returns-clause-whole
-returns-clause-whole c = λ m q waits expected lines status may asked a whole h w ending.
+returns-clause-whole c = λ m q shown expected lines status may asked a whole h w ending.
     let endings = endings_after m a.traces in
     let all = subst (AreAllEndings m a.traces a.depth) whole a.searched.all in
     each_met q may endings (ending_in m h w) (found m a.traces a.depth all h w ending) expected

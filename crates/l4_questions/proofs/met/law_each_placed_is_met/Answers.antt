@@ -7,7 +7,7 @@ use Rattle.l4_questions.proofs.Statuses.{all_told, met_by_status}
 use Rattle.l4_questions.proofs.met.law_each_placed_is_met.Goals as goal
 
 pub returns-clause-by_status : goal.returns-clause-by_status
-returns-clause-by_status c = λ m q waits expected lines unmet machine may asked any a r run.
+returns-clause-by_status c = λ m q shown expected lines unmet machine may asked any a r run.
     let endings = placed_endings m a.endings in
     let is = met_by_status q (Some expected) endings a.is_whole a.told.status_is any in
     let all = subst (AreAllEndings m a.endings a.depth) is.1 a.searched.all in
@@ -15,7 +15,7 @@ returns-clause-by_status c = λ m q waits expected lines unmet machine may asked
     (placed_found m a.endings a.depth machine all r run) expected asked is.0
 
 pub returns-clause-whole : goal.returns-clause-whole
-returns-clause-whole c = λ m q waits expected lines status machine may asked a whole r run.
+returns-clause-whole c = λ m q shown expected lines status machine may asked a whole r run.
     let endings = placed_endings m a.endings in
     let all = subst (AreAllEndings m a.endings a.depth) whole a.searched.all in
     each_met q may endings (ending_of_run m r)

@@ -1,11 +1,11 @@
-use Rattle.std.proofs.Common.{◌≡◌, ℕ, List, [], map, ap, subst, ◌∙◌, arith}
+use Rattle.std.proofs.Common.{ℕ, List, [], map, ap, subst, ◌∙◌, arith}
 use Rattle.std.specs.Option.{option_copied}
 use Rattle.l4_states.specs.Endings.{AreEndings}
-use Rattle.l4_endings.specs.Tried.{told}
-use Rattle.l4_questions.specs.Found.{placed_by}
+use Rattle.l4_endings.specs.Inner.Tried.{told}
+use Rattle.l4_questions.specs.Inner.Found.{placed_by}
 use Rattle.l4_questions.specs.Placed.{placed_endings}
 use Rattle.l4_questions.specs.Printed.{IsTold}
-use Rattle.l4_questions.specs.Writing.{AreWritten}
+use Rattle.l4_questions.specs.Inner.Writing.{AreWritten}
 use Rattle.l4_questions.proofs.Lists.{all_replayed, placed_are}
 use Rattle.l4_questions.proofs.placed_answering.placed_answer.Goals as goal
 
@@ -16,13 +16,13 @@ pub returns-clause-ok : goal.returns-clause-ok
 returns-clause-ok g c =
     let m = c.args.machine.now in
     let q = c.args.question.now in
-    let waits = c.args.beside.waits in
+    let shown = c.args.beside.shown in
     let expected = option_copied c.args.beside.expected in
     let found = c.in_ok-found.found in
     let endings = told found.endings.items in
     let limits = c.in_ok-depth.ensures.ok in
     let answer = c.in_ok-into_answer.field-0 in
-    let written = subst (λ es. AreWritten q waits expected es [] c.in_ok-written.written)
+    let written = subst (λ es. AreWritten q shown expected es [] c.in_ok-written.written)
     (ap (map (placed_by m)) c.deref.ensures.value ∙ placed_are m found.endings.items)
     c.in_ok-written.ensures in
     record {
@@ -44,8 +44,8 @@ returns-clause-ok g c =
             (omega (arith, far.0, limits.1), far.1);
       };
       told =
-          subst (λ (last : List ℕ). IsTold q waits expected (placed_endings m endings) last
+          subst (λ (last : List ℕ). IsTold q shown expected (placed_endings m endings) last
           found.is_whole answer.lines.items answer.unmet.items answer.status)
           (c.deref-2.ensures.value ∙ c.in_ok-last.ensures)
-          (c.in_ok-into_answer.ensures waits expected (placed_endings m endings) written);
+          (c.in_ok-into_answer.ensures shown expected (placed_endings m endings) written);
     }

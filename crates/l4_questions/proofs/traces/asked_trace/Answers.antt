@@ -1,6 +1,6 @@
 use Rattle.std.proofs.Common.{subst, sym}
 use Rattle.std.specs.List.{AllByRecursion}
-use Rattle.l4_questions.specs.Found.{IsLed}
+use Rattle.l4_questions.specs.Inner.Found.{IsLed}
 use Rattle.l4_questions.specs.Stuck.{asks_who_is_stuck, AreAllStuck}
 use Rattle.l4_questions.proofs.Lists.{all_led}
 use Rattle.l4_questions.proofs.StuckThreads.{all_stuck}

@@ -1,4 +1,4 @@
-use Rattle.std.proofs.Common.{◌≡◌, ◌+◌, ◌-◌, ◌<◌, ◌≤◌, ◌++◌, ◌∷◌, ℕ, suc, zero, Bool, true, false, cond, Option, None, Some, List, [], Global, drop, get_or, length, ap, arith, refl, subst, sym, ◌∙◌}
+use Rattle.std.proofs.Common.{◌≡◌, ◌+◌, ◌-◌, ◌<◌, ◌≤◌, ◌++◌, ◌∷◌, ℕ, suc, zero, Bool, true, false, cond, Option, Some, List, [], Global, drop, get_or, length, ap, arith, refl, subst, sym, ◌∙◌}
 use Rattle.std.specs.Prelude.{◌≢◌, slice_get, IsSome, Vec}
 use Rattle.std.specs.List.{AllByRecursion}
 use Rattle.std.specs.Option.{option_map}
@@ -10,11 +10,11 @@ use Rattle.l4_all_endings.specs.Tried.{LeadsToWorld}
 use Rattle.l4_futures.specs.Choices.{world_after}
 use Rattle.l4_futures.specs.Traces.{trace_along}
 use Rattle.l4_stuck.proofs.Growing.{item_at}
-use Rattle.l4_stuck.specs.Stuck.{stuck_from, stuck_of, IsStuck}
+use Rattle.l4_stuck.specs.Stuck.{stuck_of}
 use Rattle.l4_stuck.specs.declared.search.StuckThread.{StuckThread}
 use Rattle.l4_questions.specs.Answers.{asked_traces, numbered, traces_along}
 use Rattle.l4_questions.specs.Asked.{is_asked}
-use Rattle.l4_questions.specs.Found.{led_ending, IsLed}
+use Rattle.l4_questions.specs.Inner.Found.{led_ending, IsLed}
 use Rattle.l4_questions.specs.Stuck.{stuck_traces}
 use Rattle.l4_questions.specs.declared.question.Question.{Question}
 use Rattle.l4_questions.proofs.StuckThreads.{at_place}

@@ -1,6 +1,6 @@
 use Rattle.std.proofs.Common.{◌≡◌, ◌+◌, drop, map, take}
 use Rattle.l4_machine.specs.Entries.{entry_from, first_stranger}
-use Rattle.l4_rounds.specs.Replays.{entries_of, IsReplay}
+use Rattle.l4_rounds.specs.Inner.Replays.{entries_of, IsReplay}
 use Rattle.l4_rounds.proofs.rest.replayed.Given as goal
 
 -- It is the replay of the entries before the next one.

@@ -2,7 +2,7 @@ use Rattle.std.proofs.Common.{◌≡◌, ◌≤◌, ◌+◌, ◌++◌, length, m
 use Rattle.l4_machine.specs.Entries.{most_events}
 use Rattle.l4_schedules.specs.Faulty.{faults_from}
 use Rattle.l4_schedules.specs.Items.{items_of}
-use Rattle.l4_schedules.specs.Views.{fault_of}
+use Rattle.l4_schedules.specs.Inner.Views.{fault_of}
 use Rattle.l4_schedules.proofs.faulty.faults_in.Given as goal
 
 -- What was found, and the faults of the items that are left, are all faults.

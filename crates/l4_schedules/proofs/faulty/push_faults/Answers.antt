@@ -3,7 +3,7 @@ use Rattle.std.proofs.lemmas.Grind.{flat_map-append}
 use Rattle.std.proofs.lemmas.List.{map-append, take_more}
 use Rattle.l4_schedules.specs.declared.faulty.ItemFault.{ItemFault}
 use Rattle.l4_schedules.specs.Faulty.{fault_line, faults_text}
-use Rattle.l4_schedules.specs.Views.{fault_of}
+use Rattle.l4_schedules.specs.Inner.Views.{fault_of}
 use Rattle.l4_schedules.proofs.faulty.push_faults.Goals as goal
 
 -- The line of one more fault comes last.

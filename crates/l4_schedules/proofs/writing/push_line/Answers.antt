@@ -1,7 +1,7 @@
 use Rattle.std.proofs.Common.{◌≡◌, ◌++◌, length, replicate, ap, sym, ◌∙◌, append_assoc, rules}
 use Rattle.std.specs.Prelude.{codes}
 use Rattle.std.proofs.lemmas.Result.{on_ok_weaker}
-use Rattle.l4_choices.specs.Entries.{CoreOf}
+use Rattle.l4_core_model.specs.Schedules.{CoreOf}
 use Rattle.l4_schedules.specs.Written.{in_lines, separator}
 use Rattle.l4_schedules.proofs.WholeLines.{are_cores, core_line}
 use Rattle.l4_schedules.proofs.writing.push_line.Goals as goal

@@ -1,7 +1,7 @@
 use Rattle.std.proofs.Common.{arith}
 use Rattle.std.proofs.lemmas.Result.{err_from_is_err_and}
 use Rattle.l4_words.specs.Lines.{parts_of}
-use Rattle.l4_script.specs.Stages.{stage_of}
+use Rattle.l4_script.specs.Inner.Stages.{stage_of}
 use Rattle.l4_script.specs.Texts.{Start, read}
 use Rattle.l4_script.proofs.ReadingLines.{goes_on, stops}
 use Rattle.l4_script.proofs.text.read.Goals as goal

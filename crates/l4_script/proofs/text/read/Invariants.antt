@@ -1,6 +1,6 @@
 use Rattle.std.proofs.Common.{◌≡◌, ◌+◌, ◌≤◌, length}
 use Rattle.l4_words.specs.Lines.{parts_of}
-use Rattle.l4_script.specs.Stages.{stage_of}
+use Rattle.l4_script.specs.Inner.Stages.{stage_of}
 use Rattle.l4_script.specs.Texts.{Start, read}
 use Rattle.l4_script.proofs.text.read.Given as goal
 

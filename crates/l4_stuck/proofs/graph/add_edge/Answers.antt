@@ -1,6 +1,6 @@
 use Rattle.std.proofs.Common.{◌≡◌, Some, subst, ◌∙◌}
-use Rattle.l4_explore.specs.Views.{next_from}
-use Rattle.l4_outlooks.specs.Foreseen.{Foreseen}
+use Rattle.l4_explore.specs.Inner.Views.{next_from}
+use Rattle.l4_outlooks.specs.Inner.Foreseen.{Foreseen}
 use Rattle.l4_all_endings.specs.Tried.{next_at}
 use Rattle.l4_stuck.proofs.Growing.{code_behind, edge_added}
 use Rattle.l4_stuck.proofs.graph.add_edge.Goals as goal

@@ -3,11 +3,11 @@ use Rattle.std.proofs.lemmas.List.{map-append}
 use Rattle.std.specs.Prelude.{IsSome}
 use Rattle.l4_model.specs.Machine.{Machine}
 use Rattle.l4_explore.specs.Search.{seen_at}
-use Rattle.l4_forever.specs.Graph.{AreReached}
+use Rattle.l4_forever.specs.Inner.Graph.{AreReached}
 use Rattle.l4_futures.proofs.Kept.{state_led}
 use Rattle.l4_futures.specs.Choices.{world_after}
-use Rattle.l4_outlooks.specs.Foreseen.{IsLed}
-use Rattle.l4_stuck.specs.Going.{IsLeft}
+use Rattle.l4_outlooks.specs.Inner.Foreseen.{IsLed}
+use Rattle.l4_stuck.specs.Inner.Going.{IsLeft}
 use Rattle.l4_stuck.proofs.Placing.{place_more, AreBuilt}
 use Rattle.l4_stuck.proofs.graph.graph_of.Goals as goal
 

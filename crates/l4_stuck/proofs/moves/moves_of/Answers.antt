@@ -1,7 +1,7 @@
 use Rattle.std.proofs.Common.{inl, ap, sym, ◌∙◌, arith}
 use Rattle.l4_forever.specs.Waits.{is_waiting}
 use Rattle.l4_forever.proofs.Grounds.{wait_row}
-use Rattle.l4_stuck.specs.Going.{rows_of}
+use Rattle.l4_stuck.specs.Inner.Going.{rows_of}
 use Rattle.l4_stuck.proofs.moves.moves_of.Goals as goal
 
 pub loop-init : goal.loop-init

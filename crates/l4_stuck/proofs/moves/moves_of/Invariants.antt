@@ -2,11 +2,11 @@ use Rattle.std.proofs.Common.{◌≡◌, ◌<◌, ◌≤◌, ℕ, false, true, l
 use Rattle.l4_model.specs.Machine.{Machine}
 use Rattle.l4_worlds.specs.Histories.{IsTimed}
 use Rattle.l4_explore.specs.Search.{Seen}
-use Rattle.l4_forever.specs.Graph.{AreReached}
+use Rattle.l4_forever.specs.Inner.Graph.{AreReached}
 use Rattle.l4_forever.specs.Moves.{moves_at, AreJustified}
-use Rattle.l4_forever.specs.Rows.{wait_by}
+use Rattle.l4_forever.specs.Inner.Rows.{wait_by}
 use Rattle.l4_forever.specs.Waits.{is_waiting}
-use Rattle.l4_stuck.specs.Going.{rows_of, unmarked, IsGraphOf}
+use Rattle.l4_stuck.specs.Inner.Going.{rows_of, unmarked, IsGraphOf}
 use Rattle.l4_stuck.proofs.moves.moves_of.Given as goal
 
 -- What is not marked was not marked at first, and each mark is justified.

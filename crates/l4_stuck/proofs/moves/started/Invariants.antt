@@ -1,4 +1,4 @@
-use Rattle.l4_stuck.specs.Going.{rows_of}
+use Rattle.l4_stuck.specs.Inner.Going.{rows_of}
 use Rattle.l4_stuck.proofs.Marking.{AreStartedSoFar}
 use Rattle.l4_stuck.proofs.moves.started.Given as goal
 

@@ -1,8 +1,8 @@
 use Rattle.std.proofs.Common.{subst, sym}
 use Rattle.l4_forever.specs.Moves.{AreJustified}
-use Rattle.l4_forever.specs.Rows.{AreSpread}
+use Rattle.l4_forever.specs.Inner.Rows.{AreSpread}
 use Rattle.l4_stuck.proofs.Standing.{none_at, still_at, AreFree}
-use Rattle.l4_stuck.specs.Going.{rows_of}
+use Rattle.l4_stuck.specs.Inner.Going.{rows_of}
 use Rattle.l4_stuck.proofs.search.stuck_place.Goals as goal
 
 pub returns-clause-some : goal.returns-clause-some

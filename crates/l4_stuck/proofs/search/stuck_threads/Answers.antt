@@ -4,11 +4,11 @@ use Rattle.std.specs.Prelude.{IfNone, IfSome}
 use Rattle.l4_model.specs.World.{World}
 use Rattle.l4_explore.specs.Search.{seen_at, IsExplored}
 use Rattle.l4_explore.specs.Tries.{deepest}
-use Rattle.l4_futures.specs.Search.{state_after}
+use Rattle.l4_futures.specs.Inner.Search.{state_after}
 use Rattle.l4_forever.specs.Forever.{WaitsForEver}
-use Rattle.l4_forever.specs.Graph.{IsWorldAt}
+use Rattle.l4_forever.specs.Inner.Graph.{IsWorldAt}
 use Rattle.l4_forever.specs.Moves.{IsNeverStuck}
-use Rattle.l4_forever.specs.Walks.{AreWalked}
+use Rattle.l4_forever.specs.Inner.Walks.{AreWalked}
 use Rattle.l4_all_endings.proofs.Leading.{low}
 use Rattle.l4_stuck.specs.Stuck.{stuck_from, stuck_of, AreStuckBelow}
 use Rattle.l4_stuck.proofs.Telling.{first_found, none_told, not_told, one_told, stuck_by}

@@ -1,7 +1,7 @@
 use Rattle.std.proofs.Common.{◌≡◌, map, take, true}
 use Rattle.l4_explore.specs.Search.{seen_at}
-use Rattle.l4_explore.specs.Views.{next_from}
-use Rattle.l4_forever.specs.Walks.{are_fresh}
+use Rattle.l4_explore.specs.Inner.Views.{next_from}
+use Rattle.l4_forever.specs.Inner.Walks.{are_fresh}
 use Rattle.l4_stuck.proofs.walks.are_later.Given as goal
 
 -- So far each leads to a later state.

@@ -1,8 +1,8 @@
 use Rattle.std.proofs.Common.{◌≡◌, Some, get_or, refl, subst, sym, arith}
 use Rattle.std.specs.Prelude.{IsSome}
-use Rattle.l4_explore.specs.Views.{next_from}
+use Rattle.l4_explore.specs.Inner.Views.{next_from}
 use Rattle.l4_futures.specs.Choices.{after_entry}
-use Rattle.l4_outlooks.specs.Foreseen.{Foreseen}
+use Rattle.l4_outlooks.specs.Inner.Foreseen.{Foreseen}
 use Rattle.l4_all_endings.specs.Tried.{next_at}
 use Rattle.l4_all_endings.proofs.Leading.{one_next, open_at}
 use Rattle.l4_stuck.proofs.walks.choices_by.Goals as goal

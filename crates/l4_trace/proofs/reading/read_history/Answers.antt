@@ -1,6 +1,6 @@
 use Rattle.std.proofs.lemmas.Result.{err_from_is_err_and}
 use Rattle.l4_types.specs.StepView.{seen}
-use Rattle.l4_trace.specs.Forward.{Ahead}
+use Rattle.l4_trace.specs.Inner.Forward.{Ahead}
 use Rattle.l4_trace.proofs.ReadingOn.{one_more, ended, next_line, none_left, line_faulty}
 use Rattle.l4_trace.proofs.reading.read_history.Goals as goal
 

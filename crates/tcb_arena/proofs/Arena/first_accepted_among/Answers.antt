@@ -3,7 +3,7 @@ use Rattle.std.proofs.Common.{◌≡◌, ◌<◌, ℕ, true, false, List, [], le
 use Rattle.std.proofs.lemmas.List.{get_or_read}
 use Rattle.l4_model.specs.Rules.{takes}
 use Rattle.tcb_arena.specs.declared.Sender.{Sender}
-use Rattle.tcb_arena.specs.Shown.{no_sender, sender_at, waiting_at}
+use Rattle.tcb_arena.specs.Inner.Shown.{no_sender, sender_at, waiting_at}
 use Rattle.tcb_arena.proofs.Finding.{accepts, found-here, found-later, found-none, taken-shown}
 use Rattle.tcb_arena.proofs.Arena.first_accepted_among.Goals as goal
 

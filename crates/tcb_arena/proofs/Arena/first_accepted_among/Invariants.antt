@@ -1,6 +1,6 @@
 use Rattle.std.specs.Prelude.{slice_get}
 use Rattle.std.proofs.Common.{◌≡◌, [], get_or}
-use Rattle.tcb_arena.specs.Rings.{AreSound}
+use Rattle.tcb_arena.specs.Inner.Rings.{AreSound}
 use Rattle.tcb_arena.proofs.Finding.{found_from}
 use Rattle.tcb_arena.proofs.Arena.first_accepted_among.Given as goal
 

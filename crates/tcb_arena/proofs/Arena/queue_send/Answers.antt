@@ -1,7 +1,7 @@
 use Rattle.std.proofs.Common.{◌≡◌, ◌<◌, false, length, map, ap, ◌∙◌, arith}
 use Rattle.std.proofs.lemmas.List.{length-map}
 use Rattle.l4_core_model.specs.Plain.{Plain, Waiting, is_queued, queued}
-use Rattle.tcb_arena.specs.Shown.{waiting_at}
+use Rattle.tcb_arena.specs.Inner.Shown.{waiting_at}
 use Rattle.tcb_arena.proofs.Showing.{free-shown, shown-queued}
 use Rattle.tcb_arena.proofs.Arena.queue_send.Goals as goal
 

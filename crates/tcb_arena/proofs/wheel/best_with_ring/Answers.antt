@@ -1,6 +1,6 @@
 use Rattle.std.specs.Prelude.{slice_get, Some, None}
 use Rattle.std.proofs.Common.{◌≡◌, ◌<◌, ◌∙◌, ℕ, List, [], length, map, get_or, sym, subst, true, arith}
-use Rattle.tcb_arena.specs.Due.{IsBest, at_most, put_all, entry}
+use Rattle.tcb_arena.specs.Inner.Due.{IsBest, at_most, put_all, entry}
 use Rattle.tcb_arena.proofs.Entries.{E}
 use Rattle.tcb_arena.proofs.Seeking.{empty-ring, best-ring, at_most-ring, floors-raised}
 use Rattle.tcb_arena.proofs.wheel.best_with_ring.Goals as goal

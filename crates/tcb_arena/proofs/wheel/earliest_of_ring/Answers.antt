@@ -1,7 +1,7 @@
 use Rattle.std.specs.Prelude.{slice_get, Some, Option}
 use Rattle.std.proofs.Common.{◌≡◌, ◌<◌, ◌≤◌, ℕ, List, [], length, get_or, ap, ◌∙◌, sym, subst, arith}
 use Rattle.std.proofs.lemmas.List.{get_or_read}
-use Rattle.tcb_arena.specs.Due.{earlier_of}
+use Rattle.tcb_arena.specs.Inner.Due.{earlier_of}
 use Rattle.tcb_arena.proofs.Entries.{E, best-more, best_at}
 use Rattle.tcb_arena.proofs.Seeking.{IsLater, later-one, earliest-now}
 use Rattle.tcb_arena.proofs.wheel.earliest_of_ring.Goals as goal

@@ -1,6 +1,6 @@
 use Rattle.std.specs.Prelude.{slice_get}
 use Rattle.std.proofs.Common.{◌≡◌, [], get_or}
-use Rattle.tcb_arena.specs.Rings.{AreSound}
+use Rattle.tcb_arena.specs.Inner.Rings.{AreSound}
 use Rattle.tcb_arena.proofs.Entries.{best_at}
 use Rattle.tcb_arena.proofs.Seeking.{IsLater}
 use Rattle.tcb_arena.proofs.wheel.earliest_of_ring.Given as goal

@@ -1,7 +1,7 @@
 use Rattle.std.specs.Prelude.{slice_get, Some, Option}
 use Rattle.std.proofs.Common.{◌≡◌, ℕ, List, [], true, false, get_or, sym, subst}
-use Rattle.tcb_arena.specs.RingSets.{has}
-use Rattle.tcb_arena.specs.Due.{IsBest, IsLeast, at_most}
+use Rattle.tcb_arena.specs.Inner.RingSets.{has}
+use Rattle.tcb_arena.specs.Inner.Due.{IsBest, IsLeast, at_most}
 use Rattle.tcb_arena.proofs.Entries.{E}
 use Rattle.tcb_arena.proofs.Seeking.{first-found, none-unfilled, best-floored, least-ahead, least-seen}
 use Rattle.tcb_arena.proofs.wheel.search.Goals as goal

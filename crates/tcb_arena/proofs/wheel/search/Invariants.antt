@@ -1,7 +1,7 @@
 use Rattle.std.specs.Prelude.{slice_get, Some}
 use Rattle.std.proofs.Common.{◌≡◌, ℕ, [], true, false, get_or}
-use Rattle.tcb_arena.specs.RingSets.{has}
-use Rattle.tcb_arena.specs.Due.{at_most, IsBest, AreFloors}
+use Rattle.tcb_arena.specs.Inner.RingSets.{has}
+use Rattle.tcb_arena.specs.Inner.Due.{at_most, IsBest, AreFloors}
 use Rattle.tcb_arena.proofs.wheel.search.Given as goal
 
 abbrev pub invariant-loop-ahead : goal.invariant-loop-ahead

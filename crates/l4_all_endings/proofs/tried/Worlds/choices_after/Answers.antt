@@ -1,6 +1,6 @@
 use Rattle.std.proofs.Common.{ap, subst, sym, ◌∙◌}
 use Rattle.l4_futures.specs.Choices.{tried}
-use Rattle.l4_outlooks.specs.Foreseen.{IsLed}
+use Rattle.l4_outlooks.specs.Inner.Foreseen.{IsLed}
 use Rattle.l4_all_endings.specs.Tried.{entries_of, nexts_at, AreOpen}
 use Rattle.l4_all_endings.proofs.Leading.{by_entries, tried_open}
 use Rattle.l4_all_endings.proofs.tried.Worlds.choices_after.Goals as goal

@@ -2,7 +2,7 @@ use Rattle.std.proofs.Common.{◌≡◌, Some, subst, sym, ◌∙◌}
 use Rattle.l4_explore.specs.Search.{seen_at}
 use Rattle.l4_explore.specs.Tries.{LeadOn}
 use Rattle.l4_futures.specs.Choices.{world_after}
-use Rattle.l4_futures.specs.Search.{state_after}
+use Rattle.l4_futures.specs.Inner.Search.{state_after}
 use Rattle.l4_all_endings.proofs.Leading.{nexts_lead}
 use Rattle.l4_all_endings.proofs.tried.WorldsTries.choices.Goals as goal
 

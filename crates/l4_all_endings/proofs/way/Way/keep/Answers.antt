@@ -1,5 +1,5 @@
 use Rattle.std.proofs.Common.{subst, sym, ◌∙◌}
-use Rattle.l4_all_endings.specs.Way.{AreStops}
+use Rattle.l4_all_endings.specs.Inner.Way.{AreStops}
 use Rattle.l4_all_endings.proofs.Stopping.{stops_before, stops_more}
 use Rattle.l4_all_endings.proofs.way.Way.keep.Goals as goal
 

@@ -1,7 +1,7 @@
 use Rattle.std.proofs.Common.{◌-◌, length, ap, subst, sym, ◌∙◌}
 use Rattle.std.specs.Option.{option_copied}
-use Rattle.l4_outlooks.specs.Foreseen.{opens}
-use Rattle.l4_all_endings.specs.Way.{AreStops, IsOnWay}
+use Rattle.l4_outlooks.specs.Inner.Foreseen.{opens}
+use Rattle.l4_all_endings.specs.Inner.Way.{AreStops, IsOnWay}
 use Rattle.l4_all_endings.proofs.Stopping.{opens_here, stop_at, stops_before, stops_here}
 use Rattle.l4_all_endings.proofs.way.Way.nearest.Goals as goal
 

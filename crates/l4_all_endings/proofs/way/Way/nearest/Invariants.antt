@@ -1,5 +1,5 @@
 use Rattle.std.proofs.Common.{◌≡◌, length}
-use Rattle.l4_all_endings.specs.Way.{AreStops}
+use Rattle.l4_all_endings.specs.Inner.Way.{AreStops}
 use Rattle.l4_all_endings.proofs.way.Way.nearest.Given as goal
 
 -- Those that are left are of the machine.

@@ -1,5 +1,5 @@
 use Rattle.std.proofs.Common.{◌+◌, arith, refl, subst, sym, take, ◌∙◌}
-use Rattle.l4_outlooks.specs.Foreseen.{IsLed}
+use Rattle.l4_outlooks.specs.Inner.Foreseen.{IsLed}
 use Rattle.l4_all_endings.proofs.Leading.{one_led, open_on_way}
 use Rattle.l4_all_endings.proofs.way.Way.outlook.Goals as goal
 

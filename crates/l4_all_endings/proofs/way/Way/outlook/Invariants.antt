@@ -1,5 +1,5 @@
 use Rattle.std.proofs.Common.{◌≡◌, take}
-use Rattle.l4_outlooks.specs.Foreseen.{IsLed}
+use Rattle.l4_outlooks.specs.Inner.Foreseen.{IsLed}
 use Rattle.l4_all_endings.proofs.way.Way.outlook.Given as goal
 
 -- The entries before the next one were taken.

@@ -2,8 +2,8 @@ use Rattle.std.proofs.Common.{◌<◌, length, ap, sym, ◌∙◌, arith}
 use Rattle.std.proofs.lemmas.List.{length-map}
 use Rattle.l4_model.specs.Effects.{asked}
 use Rattle.l4_types.specs.StepView.{order_kind_of}
-use Rattle.l4_thread.specs.Parts.{Block}
-use Rattle.l4_audit.specs.Audited.{Audited, senders_of}
+use Rattle.l4_thread.specs.Inner.Parts.{Block}
+use Rattle.l4_audit.specs.Inner.Audited.{Audited, senders_of}
 use Rattle.l4_audit.proofs.Writing.{as_many, written, still_of}
 use Rattle.l4_audit.proofs.world.World.ask.Goals as goal
 

@@ -1,8 +1,8 @@
 use Rattle.std.proofs.Common.{ap, sym, ◌∙◌}
 use Rattle.std.specs.Result.{result_err}
-use Rattle.l4_script.specs.Scripts.{instr_of}
-use Rattle.l4_thread.specs.Ipcs.{may_show}
-use Rattle.l4_audit.specs.Audited.{Audited, with_world}
+use Rattle.l4_script.specs.Inner.Scripts.{instr_of}
+use Rattle.l4_thread.specs.Inner.Ipcs.{may_show}
+use Rattle.l4_audit.specs.Inner.Audited.{Audited, with_world}
 use Rattle.l4_audit.specs.Starting.{starting}
 use Rattle.l4_audit.proofs.Taking.{begins_on}
 use Rattle.l4_audit.proofs.Starting.{can_start}

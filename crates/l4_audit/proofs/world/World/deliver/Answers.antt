@@ -1,7 +1,7 @@
 use Rattle.std.proofs.Common.{ap, sym, ◌∙◌, refl}
 use Rattle.std.specs.Result.{result_err}
 use Rattle.l4_model.specs.Rules.{owed_by}
-use Rattle.l4_audit.specs.Audited.{Audited}
+use Rattle.l4_audit.specs.Inner.Audited.{Audited}
 use Rattle.l4_audit.proofs.Delivering.{delivers_now}
 use Rattle.l4_audit.proofs.Places.{receiver_within, sender_within}
 use Rattle.l4_audit.proofs.world.World.deliver.Goals as goal

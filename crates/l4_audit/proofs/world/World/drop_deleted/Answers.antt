@@ -3,7 +3,7 @@ use Rattle.std.specs.Result.{result_err}
 use Rattle.l4_model.specs.World.{change, unqueued}
 use Rattle.l4_model.specs.Effects.{decided}
 use Rattle.l4_model.specs.Conditions.{Found}
-use Rattle.l4_audit.specs.Audited.{with_world}
+use Rattle.l4_audit.specs.Inner.Audited.{with_world}
 use Rattle.l4_audit.proofs.Taking.{is_dropped}
 use Rattle.l4_audit.proofs.Places.{sender_within}
 use Rattle.l4_audit.proofs.world.World.drop_deleted.Goals as goal

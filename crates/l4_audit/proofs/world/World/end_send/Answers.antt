@@ -1,8 +1,8 @@
 use Rattle.std.proofs.Common.{ap}
 use Rattle.l4_core_model.specs.Local.{after_decision}
-use Rattle.l4_types.specs.LetterView.{decision_of}
-use Rattle.l4_thread.specs.Parts.{Block}
-use Rattle.l4_audit.specs.Audited.{senders_of}
+use Rattle.l4_types.specs.Inner.LetterView.{decision_of}
+use Rattle.l4_thread.specs.Inner.Parts.{Block}
+use Rattle.l4_audit.specs.Inner.Audited.{senders_of}
 use Rattle.l4_audit.proofs.Writing.{written, still_of}
 use Rattle.l4_audit.proofs.world.World.end_send.Goals as goal
 

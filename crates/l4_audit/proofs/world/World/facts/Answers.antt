@@ -1,4 +1,4 @@
-use Rattle.l4_audit.specs.Audited.{senders_of}
+use Rattle.l4_audit.specs.Inner.Audited.{senders_of}
 use Rattle.l4_audit.proofs.Lists.{lists_as_many}
 use Rattle.l4_audit.proofs.Writing.{as_many}
 use Rattle.l4_audit.proofs.world.World.facts.Goals as goal

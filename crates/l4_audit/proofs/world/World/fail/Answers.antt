@@ -1,8 +1,8 @@
 use Rattle.std.proofs.Common.{ap}
 use Rattle.l4_model.specs.Effects.{fails}
-use Rattle.l4_types.specs.Codes.{code_of}
-use Rattle.l4_thread.specs.Parts.{Block}
-use Rattle.l4_audit.specs.Audited.{senders_of}
+use Rattle.l4_types.specs.Inner.Codes.{code_of}
+use Rattle.l4_thread.specs.Inner.Parts.{Block}
+use Rattle.l4_audit.specs.Inner.Audited.{senders_of}
 use Rattle.l4_audit.proofs.Writing.{written, still_of}
 use Rattle.l4_audit.proofs.world.World.fail.Goals as goal
 

@@ -1,8 +1,8 @@
 use Rattle.std.specs.Prelude.{not}
 use Rattle.std.proofs.Common.{rules, tests}
 use Rattle.std.proofs.lemmas.Fn.{filter_same}
-use Rattle.l4_audit.specs.Audited.{senders_of}
-use Rattle.l4_audit.specs.Owing.{is_of_name}
+use Rattle.l4_audit.specs.Inner.Audited.{senders_of}
+use Rattle.l4_audit.specs.Inner.Owing.{is_of_name}
 use Rattle.l4_audit.proofs.Owing.{forgotten}
 use Rattle.l4_audit.proofs.world.World.forget.Goals as goal
 

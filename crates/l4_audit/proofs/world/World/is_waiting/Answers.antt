@@ -2,7 +2,7 @@ use Rattle.std.proofs.Common.{ap, sym, ◌∙◌}
 use Rattle.std.proofs.lemmas.Option.{slice_get_within}
 use Rattle.l4_model.specs.World.{is_queued}
 use Rattle.l4_core_model.proofs.Waiting.{queued_same}
-use Rattle.l4_audit.specs.Audited.{Audited}
+use Rattle.l4_audit.specs.Inner.Audited.{Audited}
 use Rattle.l4_audit.proofs.Lists.{senders_within}
 use Rattle.l4_audit.proofs.world.World.is_waiting.Goals as goal
 

@@ -2,8 +2,8 @@ use Rattle.std.proofs.Common.{ap, sym, ◌∙◌}
 use Rattle.std.specs.Result.{result_err}
 use Rattle.l4_model.specs.World.{change}
 use Rattle.l4_model.specs.Effects.{runs}
-use Rattle.l4_script.specs.Scripts.{instr_of}
-use Rattle.l4_audit.specs.Audited.{with_world}
+use Rattle.l4_script.specs.Inner.Scripts.{instr_of}
+use Rattle.l4_audit.specs.Inner.Audited.{with_world}
 use Rattle.l4_audit.proofs.Taking.{runs_on}
 use Rattle.l4_audit.proofs.world.World.local.Goals as goal
 

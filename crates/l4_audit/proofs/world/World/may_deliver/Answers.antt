@@ -1,5 +1,5 @@
 use Rattle.std.proofs.Common.{ap, sym, ◌∙◌}
-use Rattle.l4_audit.specs.Audited.{Audited}
+use Rattle.l4_audit.specs.Inner.Audited.{Audited}
 use Rattle.l4_audit.proofs.Delivering.{sender_is_found, receiver_is_found}
 use Rattle.l4_audit.proofs.world.World.may_deliver.Goals as goal
 

@@ -1,8 +1,8 @@
 use Rattle.std.proofs.Common.{ap, ◌∙◌}
 use Rattle.std.specs.List.{list_any}
 use Rattle.l4_model.specs.World.{must_wait}
-use Rattle.l4_audit.specs.Audited.{Audited}
-use Rattle.l4_audit.specs.Owing.{holds_up}
+use Rattle.l4_audit.specs.Inner.Audited.{Audited}
+use Rattle.l4_audit.specs.Inner.Owing.{holds_up}
 use Rattle.l4_audit.proofs.Owing.{any_holds_up}
 use Rattle.l4_audit.proofs.world.World.must_wait.Goals as goal
 

@@ -1,7 +1,7 @@
 use Rattle.std.proofs.Common.{map, ap, ◌∙◌}
 use Rattle.std.specs.Prelude.{length, replicate, []}
 use Rattle.l4_core_model.specs.Plain.{Plain}
-use Rattle.l4_types.specs.OwedView.{owed_of}
+use Rattle.l4_types.specs.Inner.OwedView.{owed_of}
 use Rattle.l4_audit.proofs.Reporting.{opened_is, opened_of}
 use Rattle.l4_audit.proofs.world.World.new.Goals as goal
 

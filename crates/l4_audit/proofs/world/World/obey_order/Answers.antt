@@ -2,7 +2,7 @@ use Rattle.std.proofs.Common.{ap, sym, ◌∙◌}
 use Rattle.std.specs.Result.{result_err}
 use Rattle.l4_model.specs.World.{change}
 use Rattle.l4_model.specs.Effects.{obeyed}
-use Rattle.l4_audit.specs.Audited.{with_world}
+use Rattle.l4_audit.specs.Inner.Audited.{with_world}
 use Rattle.l4_audit.proofs.Taking.{obeys_on}
 use Rattle.l4_audit.proofs.Obeying.{room_to_obey, target_within}
 use Rattle.l4_audit.proofs.world.World.obey_order.Goals as goal

@@ -3,7 +3,7 @@ use Rattle.std.specs.Result.{result_err}
 use Rattle.l4_model.specs.World.{change}
 use Rattle.l4_model.specs.Effects.{orders}
 use Rattle.l4_types.specs.StepView.{order_kind_of}
-use Rattle.l4_audit.specs.Audited.{with_world}
+use Rattle.l4_audit.specs.Inner.Audited.{with_world}
 use Rattle.l4_audit.proofs.Taking.{orders_on}
 use Rattle.l4_audit.proofs.Places.{found_within}
 use Rattle.l4_audit.proofs.world.World.order.Goals as goal

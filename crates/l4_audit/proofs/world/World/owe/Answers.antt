@@ -1,4 +1,4 @@
-use Rattle.l4_audit.specs.Audited.{senders_of}
+use Rattle.l4_audit.specs.Inner.Audited.{senders_of}
 use Rattle.l4_audit.proofs.Owing.{owes_more}
 use Rattle.l4_audit.proofs.world.World.owe.Goals as goal
 

@@ -2,9 +2,9 @@ use Rattle.std.proofs.Common.{ap, ◌∙◌}
 use Rattle.std.specs.Prelude.{find}
 use Rattle.std.specs.Option.{option_map}
 use Rattle.l4_model.specs.World as world
-use Rattle.l4_types.specs.OwedView.{owed_of}
-use Rattle.l4_audit.specs.Audited.{Audited}
-use Rattle.l4_audit.specs.Owing.{is_of_name}
+use Rattle.l4_types.specs.Inner.OwedView.{owed_of}
+use Rattle.l4_audit.specs.Inner.Audited.{Audited}
+use Rattle.l4_audit.specs.Inner.Owing.{is_of_name}
 use Rattle.l4_audit.proofs.Owing.{named_is}
 use Rattle.l4_audit.proofs.world.World.owed_named.Goals as goal
 

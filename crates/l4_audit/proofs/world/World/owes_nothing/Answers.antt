@@ -1,6 +1,6 @@
 use Rattle.std.proofs.Common.{length, ap, ◌∙◌}
 use Rattle.std.specs.Prelude.{◌==◌}
-use Rattle.l4_audit.specs.Audited.{senders_of}
+use Rattle.l4_audit.specs.Inner.Audited.{senders_of}
 use Rattle.l4_audit.proofs.Owing.{as_many_owed}
 use Rattle.l4_audit.proofs.world.World.owes_nothing.Goals as goal
 

@@ -3,7 +3,7 @@ use Rattle.std.specs.Prelude.{flat_map}
 use Rattle.l4_model.specs.Machine.{Declaration}
 use Rattle.l4_model.specs.Conditions.{found}
 use Rattle.l4_types.specs.StepView.{step_of}
-use Rattle.l4_audit.specs.Audited.{Audited}
+use Rattle.l4_audit.specs.Inner.Audited.{Audited}
 use Rattle.l4_audit.specs.Possible.{possible_of}
 use Rattle.l4_audit.proofs.Listing.{possible_more}
 use Rattle.l4_audit.proofs.Replaying.{take_whole}

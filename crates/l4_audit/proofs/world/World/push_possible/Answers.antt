@@ -4,7 +4,7 @@ use Rattle.std.proofs.lemmas.Result.{on_ok_weaker}
 use Rattle.l4_model.specs.Conditions.{act_of}
 use Rattle.l4_model.specs.Steps.{Local, Begin, Queue, Wait, SendTimeout, ReceiveTimeout, SendNobody, ReceiveNobody, SendCancel, ReceiveCancel, Drop, Obey, order_of}
 use Rattle.l4_types.specs.StepView.{step_of}
-use Rattle.l4_audit.specs.Audited.{Audited}
+use Rattle.l4_audit.specs.Inner.Audited.{Audited}
 use Rattle.l4_audit.specs.Possible.{candidates, delivery, order, turn, where_possible}
 use Rattle.l4_audit.proofs.Listing.{push_then, mapped}
 use Rattle.l4_audit.proofs.world.World.push_possible.Goals as goal

@@ -3,9 +3,9 @@ use Rattle.std.specs.Option.{option_to_list}
 use Rattle.std.specs.Prelude.{filter_map}
 use Rattle.std.proofs.lemmas.List.{append-nil}
 use Rattle.l4_types.specs.declared.owed.Owed.{Owed}
-use Rattle.l4_types.specs.OwedView.{owed_of}
+use Rattle.l4_types.specs.Inner.OwedView.{owed_of}
 use Rattle.l4_types.specs.StepView.{step_of}
-use Rattle.l4_audit.specs.Audited.{Audited}
+use Rattle.l4_audit.specs.Inner.Audited.{Audited}
 use Rattle.l4_audit.specs.Possible.{turn, where_possible}
 use Rattle.l4_audit.proofs.Listing.{turns_more, turns_are}
 use Rattle.l4_audit.proofs.Replaying.{take_whole}

@@ -1,7 +1,7 @@
 use Rattle.std.proofs.Common.{◌≡◌, ◌++◌, map, take}
 use Rattle.std.specs.Prelude.{filter_map}
 use Rattle.l4_types.specs.declared.owed.Owed.{Owed}
-use Rattle.l4_types.specs.OwedView.{owed_of}
+use Rattle.l4_types.specs.Inner.OwedView.{owed_of}
 use Rattle.l4_types.specs.StepView.{step_of}
 use Rattle.l4_audit.specs.Possible.{turn, where_possible}
 use Rattle.l4_audit.proofs.world.World.push_turns.Given as goal

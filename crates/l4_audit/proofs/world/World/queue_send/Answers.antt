@@ -2,7 +2,7 @@ use Rattle.std.proofs.Common.{ap, sym, ◌∙◌}
 use Rattle.std.specs.Result.{result_err}
 use Rattle.l4_model.specs.World.{queued}
 use Rattle.l4_model.specs.Conditions.{Found}
-use Rattle.l4_audit.specs.Audited.{with_world}
+use Rattle.l4_audit.specs.Inner.Audited.{with_world}
 use Rattle.l4_audit.proofs.Taking.{queues_on}
 use Rattle.l4_audit.proofs.Places.{receiver_within, sender_within}
 use Rattle.l4_audit.proofs.world.World.queue_send.Goals as goal

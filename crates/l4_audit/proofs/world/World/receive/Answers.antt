@@ -2,8 +2,8 @@ use Rattle.std.proofs.Common.{ap}
 use Rattle.std.proofs.Common.{refl, ◌∙◌}
 use Rattle.l4_model.specs.Rules.{received_tag}
 use Rattle.l4_model.specs.Effects.{receives}
-use Rattle.l4_thread.specs.Parts.{Block}
-use Rattle.l4_audit.specs.Audited.{senders_of}
+use Rattle.l4_thread.specs.Inner.Parts.{Block}
+use Rattle.l4_audit.specs.Inner.Audited.{senders_of}
 use Rattle.l4_audit.proofs.Writing.{written, still_of}
 use Rattle.l4_audit.proofs.world.World.receive.Goals as goal
 

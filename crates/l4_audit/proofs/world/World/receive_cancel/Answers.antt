@@ -2,8 +2,9 @@ use Rattle.std.proofs.Common.{ap, sym, ◌∙◌}
 use Rattle.std.specs.Result.{result_err}
 use Rattle.l4_model.specs.World.{change}
 use Rattle.l4_model.specs.Effects.{fails}
-use Rattle.l4_audit.specs.Audited.{with_world}
-use Rattle.l4_audit.proofs.Taking.{receive_is_cancelled}
+use Rattle.l4_audit.specs.Inner.Audited.{with_world}
+use Rattle.l4_model.specs.Rules.{CancelAsked}
+use Rattle.l4_audit.proofs.Taking.{receive_fails}
 use Rattle.l4_audit.proofs.Places.{found_within}
 use Rattle.l4_audit.proofs.world.World.receive_cancel.Goals as goal
 
@@ -14,5 +15,5 @@ pub returns : goal.returns
 returns c =
     let a = c.args.self.now in
     let none = sym c.may_receive_cancel.ensures.reason ∙ ap result_err c.in_ok-thread.was in
-    receive_is_cancelled a _ c.args.id c.in_ok-thread.thread c.in_ok-thread.ensures.thread none
+    receive_fails a _ c.args.id c.in_ok-thread.thread CancelAsked c.in_ok-thread.ensures.thread none
     (c.fail.ensures ∙ ap (λ x. with_world a (change a.world x (fails 7))) c.place-place.ensures)

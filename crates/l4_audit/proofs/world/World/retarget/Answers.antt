@@ -2,8 +2,8 @@ use Rattle.std.proofs.Common.{ap, sym, ◌∙◌}
 use Rattle.std.specs.Result.{result_err}
 use Rattle.l4_model.specs.World.{change}
 use Rattle.l4_model.specs.Effects.{turns}
-use Rattle.l4_types.specs.OwedView.{owed_of}
-use Rattle.l4_audit.specs.Audited.{with_world}
+use Rattle.l4_types.specs.Inner.OwedView.{owed_of}
+use Rattle.l4_audit.specs.Inner.Audited.{with_world}
 use Rattle.l4_audit.proofs.Taking.{turns_on}
 use Rattle.l4_audit.proofs.Places.{found_within}
 use Rattle.l4_audit.proofs.world.World.retarget.Goals as goal

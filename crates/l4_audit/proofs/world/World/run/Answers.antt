@@ -1,10 +1,10 @@
 use Rattle.std.proofs.Common.{ap}
 use Rattle.std.proofs.Common.{◌≡◌, ◌+◌, ◌<◌, ◌^◌, false}
 use Rattle.l4_model.specs.Effects.{runs}
-use Rattle.l4_script.specs.Scripts.{instr_of}
-use Rattle.l4_thread.specs.Requests.{is_end}
-use Rattle.l4_thread.specs.Parts.{Block}
-use Rattle.l4_audit.specs.Audited.{senders_of}
+use Rattle.l4_script.specs.Inner.Scripts.{instr_of}
+use Rattle.l4_thread.specs.Inner.Requests.{is_end}
+use Rattle.l4_thread.specs.Inner.Parts.{Block}
+use Rattle.l4_audit.specs.Inner.Audited.{senders_of}
 use Rattle.l4_audit.proofs.Writing.{written, still_of, is_within}
 use Rattle.l4_audit.proofs.world.World.run.Goals as goal
 

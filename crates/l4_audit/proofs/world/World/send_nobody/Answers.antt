@@ -2,8 +2,9 @@ use Rattle.std.proofs.Common.{ap, sym, ◌∙◌}
 use Rattle.std.specs.Result.{result_err}
 use Rattle.l4_model.specs.World.{change, unqueued}
 use Rattle.l4_model.specs.Effects.{refused}
-use Rattle.l4_audit.specs.Audited.{with_world}
-use Rattle.l4_audit.proofs.Taking.{finds_nobody}
+use Rattle.l4_audit.specs.Inner.Audited.{with_world}
+use Rattle.l4_model.specs.Rules.{NobodyThere}
+use Rattle.l4_audit.proofs.Taking.{is_refused}
 use Rattle.l4_audit.proofs.Places.{sender_within}
 use Rattle.l4_audit.proofs.world.World.send_nobody.Goals as goal
 
@@ -17,5 +18,5 @@ returns c =
     let a = c.args.self.now in
     let none = sym c.may_send_nobody.ensures.reason ∙ ap result_err c.in_ok-pending.was in
     let p = c.in_ok-pending.pending in
-    finds_nobody a _ c.args.name p c.in_ok-pending.ensures.send none
+    is_refused a _ c.args.name p NobodyThere c.in_ok-pending.ensures.send none
     (c.refuse.ensures ∙ ap (λ x. with_world a (change (unqueued a.world x) x (refused 4))) (ap (λ x. x.0) c.sender_now-sender.ensures))

@@ -1,7 +1,7 @@
 use Rattle.std.proofs.Common.{ap}
-use Rattle.l4_thread.specs.Parts.{Block}
-use Rattle.l4_script.specs.Scripts.{instr_of}
-use Rattle.l4_audit.specs.Audited.{senders_of}
+use Rattle.l4_thread.specs.Inner.Parts.{Block}
+use Rattle.l4_script.specs.Inner.Scripts.{instr_of}
+use Rattle.l4_audit.specs.Inner.Audited.{senders_of}
 use Rattle.l4_audit.proofs.Starting.{start_shown, started, started_block}
 use Rattle.l4_audit.proofs.Writing.{still_of}
 use Rattle.l4_audit.proofs.world.World.start.Goals as goal

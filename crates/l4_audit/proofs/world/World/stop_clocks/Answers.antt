@@ -1,6 +1,6 @@
 use Rattle.std.proofs.Common.{arith}
 use Rattle.std.proofs.lemmas.Grind.{common_steps}
-use Rattle.l4_audit.specs.Audited.{senders_of}
+use Rattle.l4_audit.specs.Inner.Audited.{senders_of}
 use Rattle.l4_audit.proofs.Stilling.{stopped}
 use Rattle.l4_audit.proofs.world.World.stop_clocks.Goals as goal
 

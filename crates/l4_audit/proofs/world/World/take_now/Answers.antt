@@ -1,6 +1,6 @@
 use Rattle.std.proofs.Common.{subst}
 use Rattle.l4_types.specs.StepView.{seen}
-use Rattle.l4_audit.specs.Taking.{Explains}
+use Rattle.l4_audit.specs.Inner.Taking.{Explains}
 use Rattle.l4_audit.proofs.Reasoning.{is_impossible}
 use Rattle.l4_audit.proofs.world.World.take_now.Goals as goal
 

@@ -1,7 +1,7 @@
 use Rattle.std.proofs.Common.{map, ap, ◌∙◌, arith}
 use Rattle.l4_model.specs.History.{report_of}
-use Rattle.l4_thread.specs.Parts.{Block}
-use Rattle.l4_audit.specs.Audited.{senders_of}
+use Rattle.l4_thread.specs.Inner.Parts.{Block}
+use Rattle.l4_audit.specs.Inner.Audited.{senders_of}
 use Rattle.l4_audit.proofs.Replaying.{take_whole}
 use Rattle.l4_audit.proofs.Reporting.{reports-all}
 use Rattle.l4_audit.proofs.world.World.threads.Goals as goal

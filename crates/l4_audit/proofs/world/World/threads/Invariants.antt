@@ -1,7 +1,7 @@
 use Rattle.std.proofs.Common.{◌≡◌, map, take}
 use Rattle.l4_model.specs.History.{report_of}
 use Rattle.l4_types.specs.ReportView.{report_of_view}
-use Rattle.l4_thread.specs.Parts.{Block}
+use Rattle.l4_thread.specs.Inner.Parts.{Block}
 use Rattle.l4_audit.proofs.world.World.threads.Given as goal
 
 abbrev pub invariant-loop-tcb : goal.invariant-loop-tcb

@@ -1,5 +1,5 @@
 use Rattle.std.proofs.Common.{arith}
-use Rattle.l4_audit.specs.Auditing.{waiting_send}
+use Rattle.l4_audit.specs.Inner.Auditing.{waiting_send}
 use Rattle.l4_audit.proofs.Auditing.{waiting_more}
 use Rattle.l4_audit.proofs.world.World.waiting.Goals as goal
 

@@ -1,6 +1,6 @@
 use Rattle.std.proofs.Common.{ap, ◌∙◌, arith}
 use Rattle.std.specs.Prelude.{filter_map}
-use Rattle.l4_audit.specs.Audited.{senders_of}
+use Rattle.l4_audit.specs.Inner.Audited.{senders_of}
 use Rattle.l4_audit.proofs.Replaying.{take_whole}
 use Rattle.l4_audit.proofs.Waited.{waiting_block, waits-all, waits_more}
 use Rattle.l4_audit.proofs.world.World.waits.Goals as goal

@@ -1,6 +1,6 @@
 use Rattle.std.proofs.Common.{◌≡◌, ℕ, List, drop}
-use Rattle.l4_states.specs.Codes.{each, number_code}
-use Rattle.l4_codes.specs.Written.{with_numbers}
+use Rattle.l4_states.specs.Inner.Codes.{each, number_code}
+use Rattle.l4_codes.specs.Inner.Written.{with_numbers}
 use Rattle.l4_codes.proofs.code.Code.put_all.Given as goal
 
 -- With the numbers that are left it is the code of all.

@@ -1,4 +1,4 @@
-use Rattle.l4_states.specs.Codes.{length_code, number_code}
+use Rattle.l4_states.specs.Inner.Codes.{length_code, number_code}
 use Rattle.std.proofs.Common.{◌+◌, ◌∷◌, ap, sym}
 use Rattle.l4_codes.proofs.Writing.{other_length, same_last, usual_length}
 use Rattle.l4_codes.proofs.code.Code.put_length.Goals as goal

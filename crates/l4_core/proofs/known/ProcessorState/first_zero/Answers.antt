@@ -5,7 +5,7 @@ use Rattle.std.specs.Prelude.{find}
 use Rattle.std.proofs.lemmas.Iterator.Adapters.{option_map_id}
 use Rattle.std.proofs.lemmas.Iterator.Consumers.{YieldsList-from_first}
 use Rattle.std.proofs.lemmas.Iterator.Search.{find_from_yields_List}
-use Rattle.l4_core.specs.Covered.{is_zero_send}
+use Rattle.l4_core.specs.Inner.Covered.{is_zero_send}
 use Rattle.l4_core.specs.Processor.{Processor}
 use Rattle.l4_core.proofs.Parting.{find_blocks}
 use Rattle.l4_core.proofs.known.ProcessorState.first_zero.Goals as goal

@@ -1,7 +1,7 @@
 use Rattle.std.proofs.Common.{sym, subst, ap, ◌∙◌}
 use Rattle.l4_model.specs.World.{Thread, is_ready}
 use Rattle.l4_core.specs.Processor.{Processor}
-use Rattle.l4_core.specs.Turning.{IsOwnOf}
+use Rattle.l4_core.specs.Inner.Turning.{IsOwnOf}
 use Rattle.l4_core.proofs.Writing.{block_thread, kept-settled, state}
 use Rattle.l4_core.proofs.Settling.{settled-readied, ready_is}
 use Rattle.l4_core.proofs.known.ProcessorState.make_ready.Goals as goal

@@ -3,7 +3,7 @@ use Rattle.std.specs.Prelude.{◌==◌, ℕ, IfSome}
 use Rattle.std.specs.List.{list_any}
 use Rattle.l4_core_model.specs.Plain.{Plain, disarmed}
 use Rattle.l4_core.specs.Processor.{Processor}
-use Rattle.l4_core.specs.Turning.{IsOwnOf}
+use Rattle.l4_core.specs.Inner.Turning.{IsOwnOf}
 use Rattle.l4_core.proofs.Writing.{kept-settled, state, with_lists}
 use Rattle.l4_core.proofs.Settling.{settled-disarmed, settled-armed, none-filter}
 use Rattle.l4_core.proofs.known.ProcessorState.rearm.Goals as goal

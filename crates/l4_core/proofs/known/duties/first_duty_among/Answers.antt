@@ -2,8 +2,8 @@ use Rattle.std.proofs.Common.{◌≡◌, sym, ap, ◌∙◌, None}
 use Rattle.std.specs.Prelude.{not}
 use Rattle.std.specs.Option.{option_map}
 use Rattle.l4_core_model.specs.Plain.{list_of}
-use Rattle.l4_core.specs.Choosing.{duty_of}
-use Rattle.l4_core.specs.Covered.{first_zero}
+use Rattle.l4_core.specs.Inner.Choosing.{duty_of}
+use Rattle.l4_core.specs.Inner.Covered.{first_zero}
 use Rattle.l4_core.proofs.Covering.{covers-removed, fewer}
 use Rattle.l4_core.proofs.Zeros.{none_found, zeros-removed}
 use Rattle.l4_core.proofs.known.duties.first_duty_among.Goals as goal

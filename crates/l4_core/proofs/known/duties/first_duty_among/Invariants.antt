@@ -1,5 +1,5 @@
-use Rattle.l4_core.specs.Places.{count}
-use Rattle.l4_core.specs.Covered.{Covers, CoversZeros}
+use Rattle.l4_core.specs.Inner.Places.{count}
+use Rattle.l4_core.specs.Inner.Covered.{Covers, CoversZeros}
 use Rattle.l4_core.proofs.known.duties.first_duty_among.Given as goal
 
 abbrev pub invariant-places : goal.invariant-places

@@ -1,6 +1,6 @@
 use Rattle.std.proofs.Common.{◌≡◌, ◌+◌, ◌-◌, ◌<◌, ℕ, List, Some, get_or, refl, ap, sym, ◌∙◌, subst, take, drop, length, arith}
 use Rattle.std.specs.Prelude.{slice_get}
-use Rattle.l4_types.specs.LetterHeads.{letter_with, word_count}
+use Rattle.l4_types.specs.Inner.LetterHeads.{letter_with, word_count}
 use Rattle.l4_core.proofs.Outboxes.{first-posted, first-at, Posted}
 use Rattle.l4_core.proofs.outbox.Outbox.first.Goals as goal
 

@@ -1,8 +1,8 @@
 use Rattle.std.proofs.Common.{◌≡◌, ◌++◌, ◌∷◌, ◌-◌, ◌+◌, ◌≤◌, ◌<◌, [], List, drop, take, ℕ, arith, ap, ap₂, length, set, subst, sym, ◌∙◌}
 use Rattle.std.proofs.lemmas.Grind.{common_steps}
-use Rattle.l4_types.specs.LetterHeads.{letter_with, posted_in}
+use Rattle.l4_types.specs.Inner.LetterHeads.{letter_with, posted_in}
 use Rattle.l4_core_model.specs.Letters.{Letter}
-use Rattle.l4_core.specs.Outboxes.{Outbox, IsOutbox}
+use Rattle.l4_core.specs.Inner.Outboxes.{Outbox, IsOutbox}
 use Rattle.l4_core.proofs.Outboxes.{outbox-more, posted-more, one-more, Posted}
 use Rattle.l4_core.proofs.outbox.Outbox.post.Goals as goal
 

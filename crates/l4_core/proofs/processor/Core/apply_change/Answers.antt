@@ -1,12 +1,12 @@
 use Rattle.std.proofs.Common.{ap, sym, subst, ◌∙◌}
-use Rattle.l4_thread.specs.Changes.{change_of}
+use Rattle.l4_thread.specs.Inner.Changes.{change_of}
 use Rattle.l4_model.specs.World.{Thread}
 use Rattle.l4_core_model.specs.Local.{comes_to, thread}
-use Rattle.l4_core.specs.Changing.{IsFitting}
-use Rattle.l4_core.specs.Covered.{IsCovered}
-use Rattle.l4_core.specs.Parts.{AreCore}
+use Rattle.l4_core.specs.Inner.Changing.{IsFitting}
+use Rattle.l4_core.specs.Inner.Covered.{IsCovered}
+use Rattle.l4_core.specs.Inner.Parts.{AreCore}
 use Rattle.l4_core.specs.Processor.{Processor, with_local}
-use Rattle.l4_core.specs.Turning.{IsFree}
+use Rattle.l4_core.specs.Inner.Turning.{IsFree}
 use Rattle.l4_core.proofs.Fitting.{calm-change, fits-keeps, keeps-change, next-change}
 use Rattle.l4_core.proofs.Noting.{but-come}
 use Rattle.l4_core.proofs.Writing.{block_thread, come-written, kept-changed, state}

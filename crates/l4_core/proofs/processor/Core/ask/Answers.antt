@@ -2,7 +2,7 @@ use Rattle.std.proofs.Common.{sym, subst, ◌∙◌, arith}
 use Rattle.l4_model.specs.Effects.{asked}
 use Rattle.l4_types.specs.StepView.{order_kind_of}
 use Rattle.l4_core.specs.Processor.{Processor}
-use Rattle.l4_core.specs.Turning.{IsOwnOf}
+use Rattle.l4_core.specs.Inner.Turning.{IsOwnOf}
 use Rattle.l4_core.proofs.Asking.{asks_other, not_delete}
 use Rattle.l4_core.proofs.Fitting.{fits-asked}
 use Rattle.l4_core.proofs.Noting.{covered-asked, covered-put, put_there}

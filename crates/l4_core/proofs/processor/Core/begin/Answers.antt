@@ -1,8 +1,8 @@
 use Rattle.std.proofs.Common.{◌≡◌, is_some, sym, subst, ◌∙◌, arith}
 use Rattle.l4_model.specs.Rules.{originator}
 use Rattle.l4_core_model.specs.Local.{declared, thread}
-use Rattle.l4_core.specs.Covered.{IsCovered}
-use Rattle.l4_core.specs.Parts.{AreCore}
+use Rattle.l4_core.specs.Inner.Covered.{IsCovered}
+use Rattle.l4_core.specs.Inner.Parts.{AreCore}
 use Rattle.l4_core.specs.Processor.{Processor}
 use Rattle.l4_core.proofs.Noting.{but-begun}
 use Rattle.l4_core.proofs.Starting.{began, nothing_begun, nothing_changed, start_began, start_is, start_kept, start_shown}

@@ -3,7 +3,7 @@ use Rattle.std.specs.Prelude.{slice_get}
 use Rattle.std.specs.Option.{option_map}
 use Rattle.l4_core_model.specs.Plain.{due_block}
 use Rattle.l4_core_model.specs.Turns as turns
-use Rattle.l4_core.specs.Choosing.{choice_of, duty_of}
+use Rattle.l4_core.specs.Inner.Choosing.{choice_of, duty_of}
 use Rattle.l4_core.specs.Processor.{Processor}
 use Rattle.l4_core.proofs.Choosing.{chooses_duty, chooses_other, due_first, ready_next}
 use Rattle.l4_core.proofs.processor.Core.choice.Goals as goal

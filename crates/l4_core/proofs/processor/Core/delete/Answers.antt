@@ -1,6 +1,6 @@
 use Rattle.std.proofs.Common.{sym, subst, ◌∙◌, arith}
 use Rattle.l4_core.specs.Processor.{Processor}
-use Rattle.l4_core.specs.Turning.{IsOwnOf}
+use Rattle.l4_core.specs.Inner.Turning.{IsOwnOf}
 use Rattle.l4_core.proofs.Asking.{deleted-written, kept-deleted, unready-dropped}
 use Rattle.l4_core.proofs.Noting.{covered-deleted}
 use Rattle.l4_core.proofs.processor.Core.delete.Goals as goal

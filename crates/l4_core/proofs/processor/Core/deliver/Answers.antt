@@ -2,7 +2,7 @@ use Rattle.std.proofs.Common.{◌≡◌, Some, None, ap, sym, ◌∙◌, subst}
 use Rattle.std.specs.Option.{option_map}
 use Rattle.l4_model.specs.World.{Send}
 use Rattle.l4_model.specs.Rules.{owed_by}
-use Rattle.l4_types.specs.OwedView.{owed_of}
+use Rattle.l4_types.specs.Inner.OwedView.{owed_of}
 use Rattle.l4_core_model.specs.Local.{declared, last_name, thread}
 use Rattle.l4_core.specs.Processor.{Processor}
 use Rattle.l4_core.proofs.Owing.{delivers_both, owes_nothing}

@@ -1,7 +1,7 @@
 use Rattle.std.proofs.Common.{subst, sym}
-use Rattle.l4_core.specs.Parts.{AreCore}
+use Rattle.l4_core.specs.Inner.Parts.{AreCore}
 use Rattle.l4_core.specs.Processor.{Processor}
-use Rattle.l4_core.specs.Turning.{IsOwnOf}
+use Rattle.l4_core.specs.Inner.Turning.{IsOwnOf}
 use Rattle.l4_core.proofs.Dues.{due_armed}
 use Rattle.l4_core.proofs.processor.Core.do_due.Goals as goal
 

@@ -1,8 +1,8 @@
 use Rattle.std.proofs.Common.{Some, subst, sym, ap, ◌∙◌}
 use Rattle.l4_core_model.specs.Turns.{does_duty}
-use Rattle.l4_core.specs.Choosing.{duty_of, kept_beside}
-use Rattle.l4_core.specs.Parts.{AreCore}
-use Rattle.l4_core.specs.Turning.{Does}
+use Rattle.l4_core.specs.Inner.Choosing.{duty_of, kept_beside}
+use Rattle.l4_core.specs.Inner.Parts.{AreCore}
+use Rattle.l4_core.specs.Inner.Turning.{Does}
 use Rattle.l4_core.proofs.Dues.{kept_there, refused_sends, delivered_sends, zero_sends}
 use Rattle.l4_core.proofs.processor.Core.do_duty.Goals as goal
 

@@ -1,6 +1,6 @@
 use Rattle.std.proofs.Common.{◌≡◌, ◌<◌, true, subst, sym}
 use Rattle.l4_core_model.specs.Local.{is_own, thread}
-use Rattle.l4_core.specs.Parts.{AreCore}
+use Rattle.l4_core.specs.Inner.Parts.{AreCore}
 use Rattle.l4_core.specs.Processor.{Processor}
 use Rattle.l4_core.proofs.Turning.{taken_at_hand}
 use Rattle.l4_core.proofs.processor.Core.do_ready.Goals as goal

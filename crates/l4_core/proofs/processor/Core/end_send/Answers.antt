@@ -1,6 +1,6 @@
 use Rattle.std.proofs.Common.{◌≡◌, true, sym, subst, ◌∙◌}
 use Rattle.l4_core_model.specs.Local.{is_own}
-use Rattle.l4_core.specs.Parts.{AreCore}
+use Rattle.l4_core.specs.Inner.Parts.{AreCore}
 use Rattle.l4_core.specs.Processor.{Processor}
 use Rattle.l4_core.proofs.Deciding.{sender_free, unqueued_is}
 use Rattle.l4_core.proofs.processor.Core.end_send.Goals as goal

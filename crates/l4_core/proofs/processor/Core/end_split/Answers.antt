@@ -1,5 +1,5 @@
 use Rattle.std.proofs.Common.{subst}
-use Rattle.l4_core.specs.Parts.{AreCore}
+use Rattle.l4_core.specs.Inner.Parts.{AreCore}
 use Rattle.l4_core.proofs.Handling.{split_free}
 use Rattle.l4_core.proofs.processor.Core.end_split.Goals as goal
 

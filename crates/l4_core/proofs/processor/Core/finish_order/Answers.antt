@@ -1,7 +1,7 @@
 use Rattle.std.proofs.Common.{◌≡◌, true, false, subst, sym, ◌∙◌}
 use Rattle.l4_model.specs.World.{is_deleted}
 use Rattle.l4_core_model.specs.Local.{thread}
-use Rattle.l4_core.specs.Parts.{AreCore}
+use Rattle.l4_core.specs.Inner.Parts.{AreCore}
 use Rattle.l4_core.specs.Processor.{Processor}
 use Rattle.l4_core.proofs.Handling.{caller_unready, caller_free, caller_fits, deleted_obeys}
 use Rattle.l4_core.proofs.processor.Core.finish_order.Goals as goal

@@ -1,6 +1,6 @@
 use Rattle.std.proofs.Common.{◌∙◌, sym}
 use Rattle.std.proofs.lemmas.Bool.{or_parts}
-use Rattle.l4_core.specs.Covered.{duty_at}
+use Rattle.l4_core.specs.Inner.Covered.{duty_at}
 use Rattle.l4_core.proofs.Covering.{covers-removed, no_duty}
 use Rattle.l4_core.proofs.processor.Core.forget_duty.Goals as goal
 

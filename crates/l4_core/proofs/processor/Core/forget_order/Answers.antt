@@ -1,9 +1,9 @@
 use Rattle.std.proofs.Common.{refl, set, sym, subst, ◌∙◌, inr, arith}
-use Rattle.l4_core.specs.Changing.{forgets_order}
-use Rattle.l4_core.specs.Covered.{IsCovered}
-use Rattle.l4_core.specs.Parts.{AreCore}
+use Rattle.l4_core.specs.Inner.Changing.{forgets_order}
+use Rattle.l4_core.specs.Inner.Covered.{IsCovered}
+use Rattle.l4_core.specs.Inner.Parts.{AreCore}
 use Rattle.l4_core.specs.Processor.{Processor}
-use Rattle.l4_core.specs.Turning.{IsOwnOf}
+use Rattle.l4_core.specs.Inner.Turning.{IsOwnOf}
 use Rattle.l4_core.proofs.Fitting.{fits-forgotten_order}
 use Rattle.l4_core.proofs.Noting.{covered-changed, covered-put, covered-relisted, put_there}
 use Rattle.l4_core.proofs.Writing.{change-written, come-written, kept-changed, of_parts, state, with_blocks}

@@ -1,8 +1,8 @@
 use Rattle.std.proofs.Common.{◌≡◌, ◌<◌, true, false, length, refl, sym, ◌∙◌, subst, inl, arith}
 use Rattle.l4_model.specs.Effects.{decided}
 use Rattle.l4_core_model.specs.Plain.{is_queued}
-use Rattle.l4_core.specs.Covered.{IsCovered}
-use Rattle.l4_core.specs.Parts.{AreCore}
+use Rattle.l4_core.specs.Inner.Covered.{IsCovered}
+use Rattle.l4_core.specs.Inner.Parts.{AreCore}
 use Rattle.l4_core.specs.Processor.{Processor}
 use Rattle.l4_core.proofs.Fitting.{fits-forgotten}
 use Rattle.l4_core.proofs.Noting.{covered-changed}

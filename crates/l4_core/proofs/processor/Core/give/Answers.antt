@@ -3,9 +3,9 @@ use Rattle.l4_model.specs.World.{PendingOrder}
 use Rattle.l4_model.specs.Machine.{place_of}
 use Rattle.l4_model.specs.Effects.{orders}
 use Rattle.l4_core_model.specs.Local.{comes_to, declared, is_own}
-use Rattle.l4_types.specs.LetterHeads.{letter_with}
+use Rattle.l4_types.specs.Inner.LetterHeads.{letter_with}
 use Rattle.l4_types.specs.StepView.{order_kind_of}
-use Rattle.l4_core.specs.Parts.{AreCore}
+use Rattle.l4_core.specs.Inner.Parts.{AreCore}
 use Rattle.l4_core.specs.Processor.{Processor, with_local}
 use Rattle.l4_core.proofs.Ordering.{obeyed_is, still_free, still_fitting, gives_here, gives_away, gives_nobody}
 use Rattle.l4_core.proofs.processor.Core.give.Goals as goal

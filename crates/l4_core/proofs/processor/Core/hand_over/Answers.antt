@@ -4,8 +4,8 @@ use Rattle.l4_model.specs.Words.{word_of_tag}
 use Rattle.l4_model.specs.World.{Send}
 use Rattle.l4_core_model.specs.Local.{is_own, last_name, declared, thread}
 use Rattle.l4_model.specs.Effects.{receives}
-use Rattle.l4_thread.specs.Messages.{outgoing}
-use Rattle.l4_core.specs.Parts.{AreCore}
+use Rattle.l4_thread.specs.Inner.Messages.{outgoing}
+use Rattle.l4_core.specs.Inner.Parts.{AreCore}
 use Rattle.l4_core.specs.Processor.{Processor}
 use Rattle.l4_core.proofs.Delivering.{apart, still_sends, hand_over_does}
 use Rattle.l4_core.proofs.processor.Core.hand_over.Goals as goal

@@ -2,8 +2,8 @@ use Rattle.std.proofs.Common.{◌≡◌, Some, refl, ap, sym, ◌∙◌, subst}
 use Rattle.l4_core_model.specs.Letters.{Letter}
 use Rattle.l4_core_model.specs.Mail.{handle}
 use Rattle.l4_core.specs.Processor.{Processor}
-use Rattle.l4_core.specs.Tasks.{task_of}
-use Rattle.l4_core.specs.Turning.{IsEvent}
+use Rattle.l4_core.specs.Inner.Tasks.{task_of}
+use Rattle.l4_core.specs.Inner.Turning.{IsEvent}
 use Rattle.l4_core.proofs.Handling.{handled_event, lawful}
 use Rattle.l4_core.proofs.processor.Core.handle_into.Goals as goal
 

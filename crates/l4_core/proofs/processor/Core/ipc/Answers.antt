@@ -1,10 +1,10 @@
 use Rattle.std.proofs.Common.{subst, sym, ◌∙◌, ap}
 use Rattle.l4_model.specs.Steps.{Begin}
 use Rattle.l4_core_model.specs.Local.{last_name}
-use Rattle.l4_core.specs.Parts.{AreCore}
+use Rattle.l4_core.specs.Inner.Parts.{AreCore}
 use Rattle.l4_core.specs.Processor.{Processor}
 use Rattle.l4_core.specs.EventBuffers.{with_step}
-use Rattle.l4_core.specs.Turning.{IsSender}
+use Rattle.l4_core.specs.Inner.Turning.{IsSender}
 use Rattle.l4_core.proofs.Beginning.{new_sender, act_sends, goes_there}
 use Rattle.l4_core.proofs.processor.Core.ipc.Goals as goal
 

@@ -1,7 +1,7 @@
 use Rattle.std.proofs.Common.{◌≡◌, true, Some, sym, subst, ◌∙◌}
-use Rattle.l4_types.specs.OwedView.{owed_of}
+use Rattle.l4_types.specs.Inner.OwedView.{owed_of}
 use Rattle.l4_core.specs.Processor.{Processor}
-use Rattle.l4_core.specs.Turning.{IsOwnOf}
+use Rattle.l4_core.specs.Inner.Turning.{IsOwnOf}
 use Rattle.l4_core.proofs.Keeping.{beside-written, kept-beside}
 use Rattle.l4_core.proofs.Noting.{covered-kept, covered-put, put_there}
 use Rattle.l4_core.proofs.processor.Core.keep_owed.Goals as goal

@@ -1,7 +1,7 @@
 use Rattle.std.proofs.Common.{sym, subst, ◌∙◌}
 use Rattle.l4_core_model.specs.Local.{is_gone_now}
 use Rattle.l4_core.specs.Processor.{Processor}
-use Rattle.l4_core.specs.Tasks.{IsForeign}
+use Rattle.l4_core.specs.Inner.Tasks.{IsForeign}
 use Rattle.l4_core.proofs.Arriving.{covered-gone}
 use Rattle.l4_core.proofs.Fitting.{fits-gone}
 use Rattle.l4_core.proofs.Writing.{change-written, kept-changed, state}

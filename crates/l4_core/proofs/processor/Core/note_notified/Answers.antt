@@ -1,6 +1,6 @@
 use Rattle.std.proofs.Common.{◌<◌, sym, subst, ◌∙◌}
 use Rattle.l4_core.specs.Processor.{Processor}
-use Rattle.l4_core.specs.Turning.{IsOwnOf}
+use Rattle.l4_core.specs.Inner.Turning.{IsOwnOf}
 use Rattle.l4_core.proofs.Noting.{covered-put, covered-told, put_there}
 use Rattle.l4_core.proofs.Telling.{kept-told, told-written}
 use Rattle.l4_core.proofs.processor.Core.note_notified.Goals as goal

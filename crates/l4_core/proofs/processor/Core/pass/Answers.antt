@@ -1,13 +1,13 @@
 use Rattle.std.proofs.Common.{◌<◌, Option, ap, sym, subst, ◌∙◌}
 use Rattle.l4_model.specs.World.{Receive, is_deleted}
 use Rattle.l4_model.specs.Rules.{receive_phase}
-use Rattle.l4_types.specs.PeriodView.{period_of}
+use Rattle.l4_types.specs.Inner.PeriodView.{period_of}
 use Rattle.l4_core_model.specs.Local.{comes_to, thread}
-use Rattle.l4_thread.specs.Ipcs.{passes}
-use Rattle.l4_core.specs.Covered.{IsCovered}
-use Rattle.l4_core.specs.Parts.{AreCore}
+use Rattle.l4_thread.specs.Inner.Ipcs.{passes}
+use Rattle.l4_core.specs.Inner.Covered.{IsCovered}
+use Rattle.l4_core.specs.Inner.Parts.{AreCore}
 use Rattle.l4_core.specs.Processor.{Processor, with_local}
-use Rattle.l4_core.specs.Turning.{IsAtHand}
+use Rattle.l4_core.specs.Inner.Turning.{IsAtHand}
 use Rattle.l4_core.proofs.Fitting.{fits-passes, passes_alive, ready_not_sends, unqueued}
 use Rattle.l4_core.proofs.Noting.{but-come, hand_free}
 use Rattle.l4_core.proofs.Writing.{come-written, kept-changed, state}

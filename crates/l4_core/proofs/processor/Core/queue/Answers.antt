@@ -7,7 +7,7 @@ use Rattle.l4_model.specs.Machine.{is_place}
 use Rattle.l4_core_model.specs.Acts.{entry, first_acceptable}
 use Rattle.l4_core.specs.Processor.{Processor}
 use Rattle.l4_core.specs.EventBuffers.{with_step}
-use Rattle.l4_core.specs.Turning.{IsNotSplit, IsSender}
+use Rattle.l4_core.specs.Inner.Turning.{IsNotSplit, IsSender}
 use Rattle.l4_core.proofs.Sending.{has_send}
 use Rattle.l4_core.proofs.Queueing.{queue_delivers, queue_waits}
 use Rattle.l4_core.proofs.processor.Core.queue.Goals as goal

@@ -1,9 +1,9 @@
 use Rattle.std.proofs.Common.{◌≡◌, true, ap, sym, subst, ◌∙◌}
 use Rattle.l4_core_model.specs.Plain.{Waiting, queued}
 use Rattle.l4_core_model.specs.Local.{thread}
-use Rattle.l4_core.specs.Covered.{CoversBut, is_zero_send}
+use Rattle.l4_core.specs.Inner.Covered.{CoversBut, is_zero_send}
 use Rattle.l4_core.specs.Processor.{Processor}
-use Rattle.l4_core.specs.Turning.{IsNotSplit, IsSender}
+use Rattle.l4_core.specs.Inner.Turning.{IsNotSplit, IsSender}
 use Rattle.l4_core.proofs.Noting.{but_queued, zeros_queued}
 use Rattle.l4_core.proofs.Settling.{settled-queued}
 use Rattle.l4_core.proofs.Writing.{kept-settled, lists-written, of_parts, state, with_lists}

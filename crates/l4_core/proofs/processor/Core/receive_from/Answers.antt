@@ -4,13 +4,13 @@ use Rattle.l4_model.specs.Words.{word_of_tag}
 use Rattle.l4_model.specs.World.{Message}
 use Rattle.l4_model.specs.Effects.{receives}
 use Rattle.l4_core_model.specs.Local.{declared, thread}
-use Rattle.l4_thread.specs.Messages.{outgoing}
-use Rattle.l4_thread.specs.Parts.{Block}
-use Rattle.l4_core.specs.Covered.{IsCovered}
-use Rattle.l4_core.specs.Parts.{AreCore}
-use Rattle.l4_core.specs.PhaseLists.{enters_lists}
+use Rattle.l4_thread.specs.Inner.Messages.{outgoing}
+use Rattle.l4_thread.specs.Inner.Parts.{Block}
+use Rattle.l4_core.specs.Inner.Covered.{IsCovered}
+use Rattle.l4_core.specs.Inner.Parts.{AreCore}
+use Rattle.l4_core.specs.Inner.PhaseLists.{enters_lists}
 use Rattle.l4_core.specs.Processor.{Processor, with_local}
-use Rattle.l4_core.specs.Turning.{IsReceiver}
+use Rattle.l4_core.specs.Inner.Turning.{IsReceiver}
 use Rattle.l4_core.proofs.Fitting.{keeps-receives, unqueued, waits_alive, waits_not_sends}
 use Rattle.l4_core.proofs.Noting.{but-come}
 use Rattle.l4_core.proofs.Passing.{kept-passed, passed-written, passed_is, passed_size}

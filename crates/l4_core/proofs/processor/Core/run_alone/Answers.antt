@@ -1,12 +1,12 @@
 use Rattle.std.proofs.Common.{ap, sym, subst, ◌∙◌}
 use Rattle.l4_model.specs.World.{is_deleted}
 use Rattle.l4_model.specs.Effects.{runs}
-use Rattle.l4_script.specs.Scripts.{instr_of}
+use Rattle.l4_script.specs.Inner.Scripts.{instr_of}
 use Rattle.l4_core_model.specs.Local.{thread}
-use Rattle.l4_core.specs.Covered.{IsCovered}
-use Rattle.l4_core.specs.Parts.{AreCore}
+use Rattle.l4_core.specs.Inner.Covered.{IsCovered}
+use Rattle.l4_core.specs.Inner.Parts.{AreCore}
 use Rattle.l4_core.specs.Processor.{Processor}
-use Rattle.l4_core.specs.Turning.{IsAtHand}
+use Rattle.l4_core.specs.Inner.Turning.{IsAtHand}
 use Rattle.l4_core.proofs.Fitting.{fits-runs, keeps-runs}
 use Rattle.l4_core.proofs.Noting.{but-come, hand_free}
 use Rattle.l4_core.proofs.Writing.{come-written, kept-changed, state}

@@ -2,12 +2,12 @@ use Rattle.std.proofs.Common.{false, refl, ap, subst, ◌∙◌}
 use Rattle.l4_model.specs.Words.{Id, word_of_tag}
 use Rattle.l4_model.specs.World.{Message}
 use Rattle.l4_model.specs.Rules.{destination}
-use Rattle.l4_types.specs.PeriodView.{period_of}
-use Rattle.l4_script.specs.Scripts.{to_of}
+use Rattle.l4_types.specs.Inner.PeriodView.{period_of}
+use Rattle.l4_script.specs.Inner.Scripts.{to_of}
 use Rattle.l4_core_model.specs.Local.{declared, thread}
-use Rattle.l4_thread.specs.Messages.{outgoing}
-use Rattle.l4_core.specs.FastPath.{next_name}
-use Rattle.l4_core.specs.Parts.{AreCore}
+use Rattle.l4_thread.specs.Inner.Messages.{outgoing}
+use Rattle.l4_core.specs.Inner.FastPath.{next_name}
+use Rattle.l4_core.specs.Inner.Parts.{AreCore}
 use Rattle.l4_core.specs.Processor.{Processor}
 use Rattle.l4_core.proofs.FastPath.{receives_here, apart_from, still_at_hand, still_room, still_counted, fast_does}
 use Rattle.l4_core.proofs.processor.Core.send_fast.Goals as goal

@@ -1,8 +1,8 @@
 use Rattle.std.proofs.Common.{◌≡◌, ◌<◌, true, is_none, length, ap, sym, subst, ◌∙◌}
 use Rattle.l4_core_model.specs.Local.{changes, declared, stand_in, stands_in, thread}
-use Rattle.l4_core.specs.Parts.{AreCore}
+use Rattle.l4_core.specs.Inner.Parts.{AreCore}
 use Rattle.l4_core.specs.Processor.{Processor, with_local}
-use Rattle.l4_core.specs.Tasks.{IsForeign}
+use Rattle.l4_core.specs.Inner.Tasks.{IsForeign}
 use Rattle.l4_core.proofs.Arriving.{covered-stands_in}
 use Rattle.l4_core.proofs.Fitting.{fits-stands_in}
 use Rattle.l4_core.proofs.Writing.{change-written, kept-changed, state}

@@ -1,6 +1,6 @@
 use Rattle.std.proofs.Common.{None, sym, subst, ◌∙◌}
 use Rattle.l4_core.specs.Processor.{Processor}
-use Rattle.l4_core.specs.Turning.{IsOwnOf}
+use Rattle.l4_core.specs.Inner.Turning.{IsOwnOf}
 use Rattle.l4_core.proofs.Keeping.{beside-written, kept-beside, nothing-written}
 use Rattle.l4_core.proofs.Noting.{covered-kept, covered-put, put_there}
 use Rattle.l4_core.proofs.processor.Core.take_owed.Goals as goal

@@ -1,7 +1,7 @@
 use Rattle.std.proofs.Common.{◌<◌, length, sym, subst, ◌∙◌, arith}
 use Rattle.l4_model.specs.Effects.{turns}
-use Rattle.l4_types.specs.OwedView.{owed_of}
-use Rattle.l4_core.specs.Parts.{AreCore}
+use Rattle.l4_types.specs.Inner.OwedView.{owed_of}
+use Rattle.l4_core.specs.Inner.Parts.{AreCore}
 use Rattle.l4_core.specs.Processor.{Processor}
 use Rattle.l4_core.proofs.Noting.{covered-turned}
 use Rattle.l4_core.proofs.Turned.{fits-turned}

@@ -1,7 +1,7 @@
 use Rattle.std.proofs.Common.{ap, sym, ◌∙◌, subst, arith}
 use Rattle.l4_types.specs.StepView.{seen}
 use Rattle.l4_counts.specs.Counts.{with_step}
-use Rattle.l4_counts.specs.Few.{AreFew}
+use Rattle.l4_counts.specs.Inner.Few.{AreFew}
 use Rattle.l4_counts.proofs.Counting.{few, counts_begun, counts_more}
 use Rattle.l4_counts.proofs.counts.Counts.of.Goals as goal
 

@@ -1,9 +1,10 @@
 use Rattle.std.proofs.Common.{◌+◌, ◌*◌, ◌<◌, ◌≤◌, List, map, sym, subst, arith}
-use Rattle.l4_explore.specs.Views.{next_from}
+use Rattle.l4_explore.specs.Inner.Views.{next_from}
 use Rattle.l4_states.specs.Choices.{state_after}
 use Rattle.l4_states.proofs.Following.{stands_for_all}
 use Rattle.l4_explore.specs.declared.tries.Choice.{Choice}
-use Rattle.l4_endings.specs.Tried.{AreUpTo, IsTickOf}
+use Rattle.l4_endings.specs.Inner.Tried.{AreUpTo}
+use Rattle.l4_rounds.specs.Inner.Choices.{IsTickOf}
 use Rattle.l4_endings.proofs.Listing.{have_led, one_more}
 use Rattle.l4_endings.proofs.Nexts.{all_nexts, none_yet}
 use Rattle.l4_endings.proofs.Walking.{IsNearAfter, early_here, near_after, none_above}

@@ -1,7 +1,8 @@
 use Rattle.std.proofs.Common.{ℕ, ◌<◌, map}
-use Rattle.l4_explore.specs.Views.{next_from}
+use Rattle.l4_explore.specs.Inner.Views.{next_from}
 use Rattle.l4_states.specs.Choices.{state_after}
-use Rattle.l4_endings.specs.Tried.{AreUpTo, IsTickOf}
+use Rattle.l4_endings.specs.Inner.Tried.{AreUpTo}
+use Rattle.l4_rounds.specs.Inner.Choices.{IsTickOf}
 use Rattle.l4_endings.proofs.Walking.{IsNearAfter}
 use Rattle.l4_endings.proofs.tried.Choices.choices_behind.Given as goal
 

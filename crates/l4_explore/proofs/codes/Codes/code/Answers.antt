@@ -1,6 +1,6 @@
 use Rattle.std.proofs.Common.{◌≡◌, ◌<◌, ◌≤◌, ℕ, List, length, get_or, take, drop, ◌-◌, sym, ap, ◌∙◌, arith}
 use Rattle.std.proofs.lemmas.Grind.{get_or_default_zero}
-use Rattle.l4_explore.specs.Codes.{start_of, codes_of}
+use Rattle.l4_explore.specs.Inner.Codes.{start_of, codes_of}
 use Rattle.l4_explore.proofs.Ends.{codes_of-at, length-codes_of}
 use Rattle.l4_explore.proofs.codes.Codes.code.Goals as goal
 

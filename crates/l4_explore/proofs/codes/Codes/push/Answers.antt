@@ -1,5 +1,5 @@
 use Rattle.std.proofs.Common.{◌≡◌, ◌+◌, ◌++◌, ◌∷◌, [], length, ap, ◌∙◌, arith}
-use Rattle.l4_explore.specs.Codes.{codes_of}
+use Rattle.l4_explore.specs.Inner.Codes.{codes_of}
 use Rattle.l4_explore.proofs.Ends.{codes_more, ends_more}
 use Rattle.l4_explore.proofs.codes.Codes.push.Goals as goal
 

@@ -1,6 +1,6 @@
 use Rattle.std.proofs.Common.{◌≡◌, ◌++◌, ◌∷◌, [], length, ap, ◌∙◌, arith}
-use Rattle.l4_explore.specs.Grown.{seen_of}
-use Rattle.l4_explore.specs.Views.{all_arrived, nodes_from}
+use Rattle.l4_explore.specs.Inner.Grown.{seen_of}
+use Rattle.l4_explore.specs.Inner.Views.{all_arrived, nodes_from}
 use Rattle.l4_explore.specs.declared.found.Arrival.{Arrival}
 use Rattle.l4_explore.proofs.Growing.{kept_more, length-seen, seen_kept}
 use Rattle.l4_explore.proofs.found.Found.add.Goals as goal

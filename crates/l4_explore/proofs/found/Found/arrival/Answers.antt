@@ -1,7 +1,7 @@
 use Rattle.std.proofs.Common.{◌≡◌, length, get_or, ap, ◌∙◌, arith}
 use Rattle.std.proofs.lemmas.List.{get_or_default}
 use Rattle.l4_explore.proofs.Growing.{length-kept, no_step, seen_of-first, step_there}
-use Rattle.l4_explore.specs.Views.{all_arrived, nodes_from}
+use Rattle.l4_explore.specs.Inner.Views.{all_arrived, nodes_from}
 use Rattle.l4_explore.proofs.found.Found.arrival.Goals as goal
 
 pub index-requires : goal.index-requires

@@ -1,5 +1,5 @@
 use Rattle.std.proofs.Common.{◌<◌, length, Result, Ok, Err, IfOk, ap, sym, ◌∙◌, arith}
-use Rattle.l4_explore.specs.Views.{all_arrived}
+use Rattle.l4_explore.specs.Inner.Views.{all_arrived}
 use Rattle.l4_explore.proofs.Growing.{code_there, length-seen}
 use Rattle.l4_explore.proofs.found.Found.code.Goals as goal
 

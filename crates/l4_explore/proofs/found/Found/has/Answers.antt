@@ -1,8 +1,8 @@
 use Rattle.std.proofs.Common.{◌≡◌, ◌<◌, ℕ, List, length, Option, None, Some, is_some, IfSome, IfNone, sym, ◌∙◌}
-use Rattle.l4_explore.specs.Codes.{code_at}
+use Rattle.l4_explore.specs.Inner.Codes.{code_at}
 use Rattle.l4_explore.specs.Search.{has_code}
-use Rattle.l4_explore.specs.Grown.{seen_of}
-use Rattle.l4_explore.specs.Views.{all_arrived, nodes_from, AreArrivals, Arrived}
+use Rattle.l4_explore.specs.Inner.Grown.{seen_of}
+use Rattle.l4_explore.specs.Inner.Views.{all_arrived, nodes_from, AreArrivals, Arrived}
 use Rattle.l4_explore.proofs.Growing.{has_found, has_none}
 use Rattle.l4_explore.proofs.found.Found.has.Goals as goal
 

@@ -1,5 +1,5 @@
 use Rattle.std.proofs.Common.{◌∙◌, sym}
-use Rattle.l4_explore.specs.Views.{all_arrived}
+use Rattle.l4_explore.specs.Inner.Views.{all_arrived}
 use Rattle.l4_explore.proofs.Growing.{length-seen}
 use Rattle.l4_explore.proofs.found.Found.len.Goals as goal
 

@@ -1,8 +1,8 @@
 use Rattle.std.proofs.Common.{◌≡◌, ◌<◌, ℕ, false, List, length, Option, None, Some, IfSome, IfNone, ◌∙◌, arith}
-use Rattle.l4_explore.specs.Codes.{code_at}
+use Rattle.l4_explore.specs.Inner.Codes.{code_at}
 use Rattle.l4_explore.specs.Search.{has_code, seen_at}
-use Rattle.l4_explore.specs.Grown.{seen_of}
-use Rattle.l4_explore.specs.Views.{all_arrived, nodes_from, AreArrivals, Arrived}
+use Rattle.l4_explore.specs.Inner.Grown.{seen_of}
+use Rattle.l4_explore.specs.Inner.Views.{all_arrived, nodes_from, AreArrivals, Arrived}
 use Rattle.l4_explore.proofs.Growing.{code_there, has_none, length-seen}
 use Rattle.l4_explore.proofs.found.Found.place_of.Goals as goal
 

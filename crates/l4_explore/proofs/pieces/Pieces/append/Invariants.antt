@@ -1,6 +1,6 @@
 use Rattle.std.proofs.Common.{◌≡◌, ◌++◌, length}
-use Rattle.l4_explore.specs.Codes.{code_at}
-use Rattle.l4_explore.specs.Rows.{joined, numbers_of, AreBelow}
+use Rattle.l4_explore.specs.Inner.Codes.{code_at}
+use Rattle.l4_explore.specs.Inner.Rows.{joined, numbers_of, AreBelow}
 use Rattle.l4_explore.proofs.pieces.Pieces.append.Given as goal
 
 -- The parts so far, and those of what is left of the row, are the piece.

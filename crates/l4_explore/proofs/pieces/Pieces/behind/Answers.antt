@@ -1,6 +1,6 @@
 use Rattle.std.proofs.Common.{◌++◌, length, ap, subst, ◌∙◌}
-use Rattle.l4_explore.specs.Codes.{code_at}
-use Rattle.l4_explore.specs.Rows.{joined, numbers_of, AreBelow}
+use Rattle.l4_explore.specs.Inner.Codes.{code_at}
+use Rattle.l4_explore.specs.Inner.Rows.{joined, numbers_of, AreBelow}
 use Rattle.l4_explore.proofs.Parted.{behind_alike, BeginAlike}
 use Rattle.l4_explore.proofs.pieces.Pieces.behind.Goals as goal
 

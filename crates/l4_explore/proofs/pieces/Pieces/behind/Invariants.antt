@@ -1,6 +1,6 @@
 use Rattle.std.proofs.Common.{◌≡◌, ◌++◌, ℕ, List, length}
-use Rattle.l4_explore.specs.Codes.{code_at}
-use Rattle.l4_explore.specs.Rows.{joined, numbers_of, AreBelow}
+use Rattle.l4_explore.specs.Inner.Codes.{code_at}
+use Rattle.l4_explore.specs.Inner.Rows.{joined, numbers_of, AreBelow}
 use Rattle.l4_explore.proofs.Parted.{BeginAlike}
 use Rattle.l4_explore.proofs.pieces.Pieces.behind.Given as goal
 

@@ -1,5 +1,5 @@
 use Rattle.std.proofs.Common.{length, map, subst, sym}
-use Rattle.l4_explore.specs.Rows.{whole, AreLonger, IsRowOf}
+use Rattle.l4_explore.specs.Inner.Rows.{whole, AreLonger, IsRowOf}
 use Rattle.l4_explore.proofs.Parted.{kept_more, none_longer, pieces_longer, rows_kept, still_rows}
 use Rattle.l4_explore.proofs.pieces.Pieces.number_of.Goals as goal
 

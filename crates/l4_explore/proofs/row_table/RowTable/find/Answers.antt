@@ -3,7 +3,7 @@ use Rattle.std.specs.Str.{bytes_eq}
 use Rattle.std.proofs.lemmas.Slice.Eq.{bytes_eq-Decides}
 use Rattle.std.proofs.lemmas.Bool.{cases_lt}
 use Rattle.std.proofs.lemmas.Grind.{get_or_default_zero}
-use Rattle.l4_explore.specs.Codes.{bucket_of, code_at}
+use Rattle.l4_explore.specs.Inner.Codes.{bucket_of, code_at}
 use Rattle.l4_explore.proofs.Chains.{IsComeTo, come_to_last, come_to_before, before_lower}
 use Rattle.l4_explore.proofs.row_table.RowTable.find.Goals as goal
 

@@ -1,7 +1,7 @@
 use Rattle.std.proofs.Common.{◌++◌, length, sym, ap, subst, ◌∙◌}
 use Rattle.std.specs.Str.{bytes_eq}
-use Rattle.l4_explore.specs.Codes.{code_at}
-use Rattle.l4_explore.specs.Rows.{numbers_of, joined, AreBelow}
+use Rattle.l4_explore.specs.Inner.Codes.{code_at}
+use Rattle.l4_explore.specs.Inner.Rows.{numbers_of, joined, AreBelow}
 use Rattle.l4_explore.proofs.Parted.{eq_behind}
 use Rattle.l4_explore.proofs.rows.Rows.is_at.Goals as goal
 

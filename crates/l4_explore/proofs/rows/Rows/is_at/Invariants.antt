@@ -1,7 +1,7 @@
 use Rattle.std.proofs.Common.{◌≡◌, length}
 use Rattle.std.specs.Str.{bytes_eq}
-use Rattle.l4_explore.specs.Codes.{code_at}
-use Rattle.l4_explore.specs.Rows.{joined, numbers_of, AreBelow}
+use Rattle.l4_explore.specs.Inner.Codes.{code_at}
+use Rattle.l4_explore.specs.Inner.Rows.{joined, numbers_of, AreBelow}
 use Rattle.l4_explore.proofs.rows.Rows.is_at.Given as goal
 
 -- What is left of the row is what is left of the code, or is not, as the whole of both.

@@ -1,5 +1,5 @@
 use Rattle.std.proofs.Common.{◌≡◌, ◌++◌, ◌∷◌, [], ℕ, List, map, length, Result, Ok, Err, OnOk, OnErr, sym, ap, subst, ◌∙◌}
-use Rattle.l4_explore.specs.Rows.{AreRows, IsRowOf, whole}
+use Rattle.l4_explore.specs.Inner.Rows.{AreRows, IsRowOf, whole}
 use Rattle.l4_explore.proofs.Parted.{rows_as, rows_more, still_rows, view_more}
 use Rattle.l4_explore.proofs.rows.Rows.push.Goals as goal
 

@@ -1,5 +1,5 @@
 use Rattle.std.proofs.Common.{◌≡◌, ◌++◌, drop, take}
-use Rattle.l4_history.specs.Rows.{HasMore}
+use Rattle.l4_history.specs.Inner.Rows.{HasMore}
 use Rattle.l4_history.proofs.history.History.extend_between.Given as goal
 
 abbrev pub invariant-loop-place : goal.invariant-loop-place

@@ -2,7 +2,7 @@ use Rattle.std.proofs.Common.{◌∙◌, ◌≡◌, arith, ap, ◌++◌, [], ◌
 use Rattle.std.proofs.lemmas.Grind.{common_steps}
 use Rattle.l4_model.specs.Steps as steps
 use Rattle.l4_types.specs.StepView.{delivered}
-use Rattle.l4_history.specs.Rows.{Told}
+use Rattle.l4_history.specs.Inner.Rows.{Told}
 use Rattle.l4_history.proofs.Pushed.{delivery-rows, delivery-told, slots-told}
 use Rattle.l4_history.proofs.history.History.push_delivery.Goals as goal
 

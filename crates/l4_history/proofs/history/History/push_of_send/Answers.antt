@@ -3,8 +3,8 @@ use Rattle.std.proofs.lemmas.Grind.{common_steps}
 use Rattle.l4_model.specs.Steps as steps
 use Rattle.l4_model.specs.Words.{GlobalId}
 use Rattle.l4_model.specs.World.{Name}
-use Rattle.l4_history.specs.Rows.{Told, send_step}
-use Rattle.l4_history.specs.Slots.{HasSlot}
+use Rattle.l4_history.specs.Inner.Rows.{Told, send_step}
+use Rattle.l4_history.specs.Inner.Slots.{HasSlot}
 use Rattle.l4_history.proofs.Pushed.{send-told, slots-told}
 use Rattle.l4_history.proofs.history.History.push_of_send.Goals as goal
 

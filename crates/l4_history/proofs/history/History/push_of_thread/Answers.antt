@@ -1,6 +1,6 @@
 use Rattle.std.proofs.Common.{◌∙◌, ◌≡◌, ◌++◌, [], ◌∷◌, ap, ◌-◌, List}
 use Rattle.l4_model.specs.Steps as steps
-use Rattle.l4_history.specs.Rows.{Told, thread_step}
+use Rattle.l4_history.specs.Inner.Rows.{Told, thread_step}
 use Rattle.l4_history.proofs.Pushed.{slots-told, thread-told}
 use Rattle.l4_history.proofs.history.History.push_of_thread.Goals as goal
 

@@ -1,7 +1,7 @@
 use Rattle.std.proofs.Common.{◌≡◌, arith, ap, length, ◌-◌, List}
 use Rattle.std.proofs.lemmas.Grind.{common_steps}
 use Rattle.l4_model.specs.Steps as steps
-use Rattle.l4_history.specs.Rows.{Told}
+use Rattle.l4_history.specs.Inner.Rows.{Told}
 use Rattle.l4_history.proofs.Pushed.{wide-step-told}
 use Rattle.l4_history.proofs.history.History.push_wide.Goals as goal
 

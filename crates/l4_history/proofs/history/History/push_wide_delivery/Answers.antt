@@ -4,7 +4,7 @@ use Rattle.l4_model.specs.Steps as steps
 use Rattle.l4_types.specs.declared.steps.Step.{Step}
 use Rattle.l4_types.specs.declared.steps.Step.TheVariants.{Deliver}
 use Rattle.l4_history.specs.declared.records.WideHead.{WideHead}
-use Rattle.l4_history.specs.Rows.{Told}
+use Rattle.l4_history.specs.Inner.Rows.{Told}
 use Rattle.l4_history.proofs.Pushed.{wide-delivery-told, wide-rows}
 use Rattle.l4_history.proofs.history.History.push_wide_delivery.Goals as goal
 

@@ -1,7 +1,7 @@
 use Rattle.std.proofs.Common.{◌≡◌, ◌<◌, ◌≤◌, ◌-◌, ◌*◌, ◌^◌, ◌%◌, bit_and, drop, length, set, subst, arith}
 use Rattle.std.proofs.lemmas.List.{length-set}
 use Rattle.l4_model.specs.World.{changed}
-use Rattle.l4_machine.specs.Posters.{MarksPosters}
+use Rattle.l4_machine.specs.Inner.Posters.{MarksPosters}
 use Rattle.l4_machine.proofs.Inboxes.{last_dropped, one_dropped, queue_written}
 use Rattle.l4_machine.proofs.inbox.Inbox.drop_first.Goals as goal
 

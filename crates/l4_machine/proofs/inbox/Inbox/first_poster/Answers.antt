@@ -1,5 +1,5 @@
 use Rattle.std.proofs.Common.{◌≤◌, length, arith, rules}
-use Rattle.l4_machine.specs.Inboxes.{letters_in}
+use Rattle.l4_machine.specs.Inner.Inboxes.{letters_in}
 use Rattle.l4_machine.proofs.Inboxes.{is_first}
 use Rattle.l4_machine.proofs.inbox.Inbox.first_poster.Goals as goal
 

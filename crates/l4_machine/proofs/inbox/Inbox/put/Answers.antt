@@ -1,7 +1,7 @@
 use Rattle.std.proofs.Common.{◌≡◌, ◌<◌, ◌≤◌, ◌*◌, ◌^◌, ◌%◌, ◌++◌, ◌∷◌, [], bit_or, length, set, ap, sym, subst, ◌∙◌, arith}
 use Rattle.std.proofs.lemmas.List.{length-set, set-get_or}
 use Rattle.l4_model.specs.World.{changed}
-use Rattle.l4_machine.specs.Posters.{MarksPosters}
+use Rattle.l4_machine.specs.Inner.Posters.{MarksPosters}
 use Rattle.l4_machine.proofs.Inboxes.{marks_come, queue_written}
 use Rattle.l4_machine.proofs.inbox.Inbox.put.Goals as goal
 

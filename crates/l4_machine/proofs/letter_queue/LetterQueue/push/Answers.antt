@@ -1,6 +1,6 @@
 use Rattle.std.proofs.Common.{◌≡◌, ◌++◌, ◌∷◌, ◌-◌, [], List, drop, ap, ◌∙◌}
 use Rattle.l4_core_model.specs.Letters.{Letter}
-use Rattle.l4_types.specs.LetterHeads.{letters_in}
+use Rattle.l4_types.specs.Inner.LetterHeads.{letters_in}
 use Rattle.l4_machine.proofs.LetterQueues.{queued-more, words-more}
 use Rattle.l4_machine.proofs.letter_queue.LetterQueue.push.Goals as goal
 

@@ -1,7 +1,7 @@
 use Rattle.std.proofs.Common.{List, ap₂, map, subst, sym, ℕ}
 use Rattle.l4_machine.specs.InOrder.{steps_in_order}
 use Rattle.l4_machine.specs.Stations.{events_at}
-use Rattle.l4_machine.specs.Waiting.{AreBegunOnce}
+use Rattle.l4_machine.specs.Inner.Waiting.{AreBegunOnce}
 use Rattle.l4_machine.specs.declared.station.Station as program
 use Rattle.l4_machine.proofs.ordered.OrderedLogs.waiting.Goals as goal
 

@@ -6,7 +6,7 @@ use Rattle.l4_core.specs.Processor.{Processor as Core}
 use Rattle.l4_machine.specs.declared.station.Station as program
 use Rattle.l4_machine.specs.Stations.{Station}
 use Rattle.l4_machine.specs.UnderWay.{under_way, UnderWay}
-use Rattle.l4_machine.specs.Homes.{locals_of, AreAllOf, IsAtHome}
+use Rattle.l4_machine.specs.Inner.Homes.{locals_of, AreAllOf, IsAtHome}
 use Rattle.l4_machine.proofs.Cores.{cores_mapped, station_locals, stations_there}
 use Rattle.l4_machine.proofs.scheduler.Scheduler.at_home.Goals as goal
 

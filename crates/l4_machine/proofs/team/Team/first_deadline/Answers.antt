@@ -1,6 +1,6 @@
 use Rattle.std.proofs.Common.{◌+◌, ◌*◌, ◌^◌, ap, sym, ◌∙◌, arith}
 use Rattle.std.specs.Prelude.{slice_get}
-use Rattle.l4_machine.specs.Teams.{count_events}
+use Rattle.l4_machine.specs.Inner.Teams.{count_events}
 use Rattle.l4_machine.proofs.Ticked.{nearer}
 use Rattle.l4_machine.proofs.team.Team.first_deadline.Goals as goal
 

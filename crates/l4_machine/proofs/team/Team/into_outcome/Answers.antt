@@ -3,7 +3,7 @@ use Rattle.std.proofs.lemmas.Result.{IfOk-weaker}
 use Rattle.l4_model.specs.History.{IsHistory}
 use Rattle.l4_core_model.specs.Local.{Local}
 use Rattle.l4_merge.specs.LocalTraces.{LocalTrace, all_events}
-use Rattle.l4_machine.specs.Homes.{EndsIn, IsAtHome}
+use Rattle.l4_machine.specs.Inner.Homes.{EndsIn, IsAtHome}
 use Rattle.l4_machine.proofs.Cores.{handled_there}
 use Rattle.l4_merge.proofs.Rest.{rests as run_rests, rested as run_rested}
 use Rattle.l4_merge.proofs.Sorted.{length-merged}

@@ -1,8 +1,8 @@
 use Rattle.std.proofs.Common.{ap, sym, subst, ◌∙◌}
 use Rattle.std.proofs.lemmas.Result.{IfOk-weaker}
 use Rattle.l4_machine.specs.Gathers.{HaveNumbers}
-use Rattle.l4_machine.specs.Recorded.{recorded_entries}
-use Rattle.l4_machine.specs.Rising.{HaveRisingLogs}
+use Rattle.l4_machine.specs.Inner.Recorded.{recorded_entries}
+use Rattle.l4_machine.specs.Inner.Rising.{HaveRisingLogs}
 use Rattle.l4_machine.proofs.EventsLeft.{logs_rise}
 use Rattle.l4_machine.proofs.Members.{in_order_have_numbers}
 use Rattle.l4_machine.proofs.team.Team.recorded.Goals as goal

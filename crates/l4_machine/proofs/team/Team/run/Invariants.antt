@@ -1,5 +1,5 @@
 use Rattle.std.proofs.Common.{◌≡◌, ◌+◌, ◌<◌, ◌≤◌}
-use Rattle.l4_machine.specs.Teams.{count_events, IsTeam}
+use Rattle.l4_machine.specs.Inner.Teams.{count_events, IsTeam}
 use Rattle.l4_machine.proofs.team.Team.run.Given as goal
 
 abbrev pub invariant-loop : goal.invariant-loop

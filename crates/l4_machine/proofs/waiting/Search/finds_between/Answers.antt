@@ -1,5 +1,5 @@
 use Rattle.std.proofs.Common.{[], sym, ◌∙◌}
-use Rattle.l4_machine.specs.Waiting.{sought}
+use Rattle.l4_machine.specs.Inner.Waiting.{sought}
 use Rattle.l4_machine.proofs.Sought.{more_found, none_found}
 use Rattle.l4_machine.proofs.waiting.Search.finds_between.Goals as goal
 

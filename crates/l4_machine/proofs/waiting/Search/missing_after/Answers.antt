@@ -1,5 +1,5 @@
 use Rattle.std.proofs.Common.{sym, ◌∙◌, arith}
-use Rattle.l4_machine.specs.Waiting.{sought}
+use Rattle.l4_machine.specs.Inner.Waiting.{sought}
 use Rattle.l4_machine.proofs.Enough.{next_step, one_none, one_some}
 use Rattle.l4_machine.proofs.waiting.Search.missing_after.Goals as goal
 use Rattle.l4_machine.proofs.waiting.Search.missing_after.Goals.{then-is_some, else-is_some}

@@ -4,7 +4,7 @@ use Rattle.std.proofs.lemmas.List.{take_all}
 use Rattle.l4_model.specs.Steps.{Step}
 use Rattle.l4_model.specs.Words.{Id}
 use Rattle.l4_model.specs.World.{Name}
-use Rattle.l4_machine.specs.Waiting.{sought}
+use Rattle.l4_machine.specs.Inner.Waiting.{sought}
 use Rattle.l4_machine.proofs.Enough.{all_behind}
 use Rattle.l4_machine.proofs.waiting.Search.of_history.Goals as goal
 

@@ -2,7 +2,7 @@ use Rattle.std.proofs.Common.{◌∙◌, ◌++◌, List, Option, ap, sym, append
 use Rattle.std.specs.Option.{option_to_list}
 use Rattle.l4_model.specs.Words.{Id}
 use Rattle.l4_model.specs.World.{Name}
-use Rattle.l4_machine.specs.Waiting.{sought}
+use Rattle.l4_machine.specs.Inner.Waiting.{sought}
 use Rattle.l4_machine.proofs.Sought.{more_found}
 use Rattle.l4_machine.proofs.waiting.Search.push_between.Goals as goal
 use Rattle.l4_machine.proofs.waiting.Search.push_between.Goals.{in-Some+in_ok-push, in_default}

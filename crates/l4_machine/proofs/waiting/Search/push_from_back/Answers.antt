@@ -2,7 +2,7 @@ use Rattle.std.proofs.Common.{◌≤◌, ◌∙◌, ◌++◌, List, Option, ap, 
 use Rattle.std.specs.Option.{option_to_list}
 use Rattle.l4_model.specs.Words.{Id}
 use Rattle.l4_model.specs.World.{Name}
-use Rattle.l4_machine.specs.Waiting.{sought}
+use Rattle.l4_machine.specs.Inner.Waiting.{sought}
 use Rattle.l4_machine.proofs.Sought.{back_found, back_none}
 use Rattle.l4_machine.proofs.waiting.Search.push_from_back.Goals as goal
 

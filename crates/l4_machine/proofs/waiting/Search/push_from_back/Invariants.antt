@@ -1,6 +1,6 @@
 use Rattle.std.proofs.Common.{◌≡◌, ◌≤◌, ◌++◌, drop, reverse, take}
 use Rattle.std.specs.Prelude.{filter_map}
-use Rattle.l4_machine.specs.Waiting.{sought}
+use Rattle.l4_machine.specs.Inner.Waiting.{sought}
 use Rattle.l4_machine.proofs.waiting.Search.push_from_back.Given as goal
 
 abbrev pub invariant-loop-place : goal.invariant-loop-place

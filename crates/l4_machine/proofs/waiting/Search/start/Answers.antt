@@ -1,6 +1,6 @@
 use Rattle.std.proofs.Common.{◌≡◌, sym, ◌∙◌, ap, arith, take, ℕ}
 use Rattle.std.specs.Prelude.{filter_map}
-use Rattle.l4_machine.specs.Waiting.{count_undecided, sought}
+use Rattle.l4_machine.specs.Inner.Waiting.{count_undecided, sought}
 use Rattle.l4_machine.proofs.Enough.{few_sought, none_before, one_none, one_some, step_before}
 use Rattle.l4_machine.proofs.waiting.Search.start.Goals as goal
 

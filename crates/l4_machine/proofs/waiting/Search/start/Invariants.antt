@@ -1,6 +1,6 @@
 use Rattle.std.proofs.Common.{◌≡◌, ◌+◌, ◌≤◌, drop, length}
 use Rattle.std.specs.Prelude.{filter_map}
-use Rattle.l4_machine.specs.Waiting.{count_undecided, sought}
+use Rattle.l4_machine.specs.Inner.Waiting.{count_undecided, sought}
 use Rattle.l4_machine.proofs.waiting.Search.start.Given as goal
 
 abbrev pub invariant-loop-start : goal.invariant-loop-start

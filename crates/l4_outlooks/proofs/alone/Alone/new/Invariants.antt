@@ -1,6 +1,6 @@
 use Rattle.std.proofs.Common.{◌≡◌, ◌++◌, drop, map}
 use Rattle.l4_model.specs.Machine.{Declaration}
-use Rattle.l4_outlooks.specs.Standing.{left_alone, spared_of}
+use Rattle.l4_outlooks.specs.Inner.Standing.{left_alone, spared_of}
 use Rattle.l4_outlooks.proofs.alone.Alone.new.Given as goal
 
 -- With those of the threads that are left it is all.

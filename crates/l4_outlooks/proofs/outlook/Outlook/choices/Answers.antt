@@ -2,7 +2,7 @@ use Rattle.std.proofs.Common.{ap, arith, subst, sym, ◌+◌, ◌/◌, ◌∙◌
 use Rattle.std.specs.Option.{option_map}
 use Rattle.std.specs.Prelude.{slice_get}
 use Rattle.l4_types.specs.StepView.{seen}
-use Rattle.l4_outlooks.specs.Standing.{stands_by}
+use Rattle.l4_outlooks.specs.Inner.Standing.{stands_by}
 use Rattle.l4_outlooks.proofs.Choosing.{alone_found, AreSoFar, one_found, passed}
 use Rattle.l4_outlooks.proofs.Sparing.{judges}
 use Rattle.l4_outlooks.proofs.outlook.Outlook.choices.Goals as goal

@@ -1,5 +1,5 @@
 use Rattle.std.proofs.Common.{arith}
-use Rattle.l4_types.specs.OwedView.{owed_of}
+use Rattle.l4_types.specs.Inner.OwedView.{owed_of}
 use Rattle.l4_outlooks.proofs.Leading.{owed_few}
 use Rattle.l4_outlooks.proofs.outlook.Outlook.entry_count.Goals as goal
 

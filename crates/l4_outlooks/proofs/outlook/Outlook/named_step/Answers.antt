@@ -2,8 +2,8 @@ use Rattle.std.proofs.Common.{ap, subst, sym, ◌∙◌}
 use Rattle.std.specs.Option.{option_map}
 use Rattle.l4_core_model.specs.Runs.{IsMachine}
 use Rattle.l4_types.specs.StepView.{seen}
-use Rattle.l4_outlooks.specs.Foreseen.{Foreseen}
-use Rattle.l4_outlooks.specs.Named.{open_step}
+use Rattle.l4_outlooks.specs.Inner.Foreseen.{Foreseen}
+use Rattle.l4_outlooks.specs.Inner.Named.{open_step}
 use Rattle.l4_outlooks.proofs.Leading.{knows}
 use Rattle.l4_outlooks.proofs.Opening.{opens_never, opens_none, opens_some}
 use Rattle.l4_outlooks.proofs.outlook.Outlook.named_step.Goals as goal

@@ -1,7 +1,7 @@
 use Rattle.std.proofs.Common.{ap, subst, sym, ◌∙◌}
 use Rattle.l4_core_model.specs.Runs.{IsMachine}
-use Rattle.l4_outlooks.specs.Foreseen.{Foreseen}
-use Rattle.l4_outlooks.specs.Named.{if_told, open_step}
+use Rattle.l4_outlooks.specs.Inner.Foreseen.{Foreseen}
+use Rattle.l4_outlooks.specs.Inner.Named.{if_told, open_step}
 use Rattle.l4_outlooks.proofs.Leading.{knows}
 use Rattle.l4_outlooks.proofs.Opening.{opens_never}
 use Rattle.l4_outlooks.proofs.outlook.Outlook.open_step.Goals as goal

@@ -1,8 +1,8 @@
 use Rattle.std.proofs.Common.{Some, ap, refl, subst, sym, ◌<◌, ◌+◌, ◌≡◌, ◌∙◌}
 use Rattle.l4_types.specs.StepView.{seen}
-use Rattle.l4_audit.specs.Taking.{JudgedLate}
-use Rattle.l4_outlooks.specs.Foreseen.{Foreseen}
-use Rattle.l4_outlooks.specs.Named.{open_step}
+use Rattle.l4_audit.specs.Inner.Taking.{JudgedLate}
+use Rattle.l4_outlooks.specs.Inner.Foreseen.{Foreseen}
+use Rattle.l4_outlooks.specs.Inner.Named.{open_step}
 use Rattle.l4_outlooks.proofs.Leading.{are_placed, knows}
 use Rattle.l4_outlooks.proofs.Opening.{leads}
 use Rattle.l4_outlooks.proofs.Taking.{goes_behind, is_taken}

@@ -3,7 +3,7 @@ use Rattle.std.specs.Prelude.{slice_get}
 use Rattle.l4_model.specs.Machine.{Machine}
 use Rattle.l4_model.specs.World.{Thread}
 use Rattle.l4_forever.specs.Waits.{wait_in, wait_of, waits_in}
-use Rattle.l4_outlooks.specs.Foreseen.{Foreseen}
+use Rattle.l4_outlooks.specs.Inner.Foreseen.{Foreseen}
 use Rattle.l4_outlooks.proofs.Looking.{waits_on}
 use Rattle.l4_outlooks.proofs.outlook.Outlook.waits.Goals as goal
 

@@ -1,9 +1,9 @@
 use Rattle.std.proofs.Common.{◌<◌, length, get_or, map, take, ap, sym, subst, ◌∙◌, arith}
-use Rattle.l4_explore.specs.Ends.{AreEnough}
+use Rattle.l4_explore.specs.Inner.Ends.{AreEnough}
 use Rattle.l4_explore.specs.Search.{seen_at}
 use Rattle.l4_explore.specs.Tries.{LeadOn}
-use Rattle.l4_explore.specs.Views.{next_from}
-use Rattle.l4_part_tests.specs.Counters.{state_after, EndsIn}
+use Rattle.l4_explore.specs.Inner.Views.{next_from}
+use Rattle.l4_part_tests.specs.Inner.Counters.{state_after, EndsIn}
 use Rattle.l4_part_tests.proofs.Counting.{counters_of, enough_left, enough_none, enough_right, left_leads, one_choice, right_leads, two_counters}
 use Rattle.l4_part_tests.proofs.counters.CountersTries.choices.Goals as goal
 

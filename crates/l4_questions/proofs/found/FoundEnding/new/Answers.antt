@@ -6,13 +6,13 @@ use Rattle.l4_questions.proofs.found.FoundEnding.new.Goals as goal
 pub unreachable-requires : goal.unreachable-requires
 unreachable-requires c =
     let m = c.args.machine.now in
-    let h = c.args.trace.now.steps in
+    let h = c.args.trace.steps in
     never_refused m h c.in-Err-Refused.field-0-0 c.requires
     (subst (Blames m h) c.in-Err-Refused.field-0-is c.in-Err-Refused.ensures.refused)
 
 pub returns : goal.returns
 returns c =
-    found_is c.args.machine.now c.args.trace.now.steps c.in-Ok.auditor c.args.head.items
+    found_is c.args.machine.now c.args.trace.steps c.in-Ok.auditor c.args.head.items
     c.in_ok-report.report.items c.are_any_stuck-is_stuck.result c.deref.result.now
     c.in-Ok.ensures.reached c.in_ok-report.ensures (c.deref.ensures.value ∙ c.in_ok-waits.ensures)
     c.are_any_stuck-is_stuck.ensures

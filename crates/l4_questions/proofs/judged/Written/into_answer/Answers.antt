@@ -1,4 +1,4 @@
-use Rattle.std.proofs.Common.{List, ℕ, length, ap, refl, ◌+◌, ◌≡◌, ◌∙◌, arith}
+use Rattle.std.proofs.Common.{List, ℕ, length, ap, refl, ◌≡◌, ◌∙◌, arith}
 use Rattle.std.specs.Prelude.{◌==◌}
 use Rattle.l4_expect.specs.Unmet.{expected_status}
 use Rattle.l4_questions.specs.Asked.{asked_of}
@@ -6,10 +6,10 @@ use Rattle.l4_questions.proofs.Writing.{finished}
 use Rattle.l4_questions.proofs.judged.Written.into_answer.Goals as goal
 
 pub returns : goal.returns
-returns c = λ waits expected endings had.
+returns c = λ shown expected endings had.
     let asked = asked_of c.args.question.now endings in
     let count : c.args.self.count ≡ length asked = omega (arith, had.count) in
-    finished c.args.question.now waits expected endings c.args.self c.args.last.now
+    finished c.args.question.now shown expected endings c.args.self c.args.last.now
     c.extend_from_slice.new.self.items c.args.self.unmet.items c.args.is_whole
     c.status_of-status.result c.status_beside.result had c.in_ok-extend_from_slice.ensures.items
     refl (c.status_of-status.ensures asked count)

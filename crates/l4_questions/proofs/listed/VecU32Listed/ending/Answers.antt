@@ -7,7 +7,7 @@ use Rattle.l4_model.specs.History.{IsHistory}
 use Rattle.l4_futures.proofs.Led.{IsLed}
 use Rattle.l4_futures.specs.Traces.{trace_along}
 use Rattle.l4_questions.specs.Answers.{ending_after, ending_in}
-use Rattle.l4_questions.specs.Found.{led_ending}
+use Rattle.l4_questions.specs.Inner.Found.{led_ending}
 use Rattle.l4_questions.proofs.StuckThreads.{leads}
 use Rattle.l4_questions.proofs.listed.VecU32Listed.ending.Goals as goal
 

@@ -1,6 +1,6 @@
 use Rattle.std.proofs.Common.{◌≡◌, sym, ◌∙◌}
 use Rattle.l4_core_model.specs.Schedules.{least_deadline}
-use Rattle.l4_rounds.specs.Replays.{run_of}
+use Rattle.l4_rounds.specs.Inner.Replays.{run_of}
 use Rattle.l4_rounds.proofs.Replaying.{deadline_next, deadline_own}
 use Rattle.l4_rounds.proofs.replays.Replay.earliest_deadline.Goals as goal
 

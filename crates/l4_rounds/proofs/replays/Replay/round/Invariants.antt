@@ -1,4 +1,4 @@
-use Rattle.l4_rounds.specs.Replays.{HasGoneOn}
+use Rattle.l4_rounds.specs.Inner.Replays.{HasGoneOn}
 use Rattle.l4_rounds.proofs.Replaying.{turns_below}
 use Rattle.l4_rounds.proofs.replays.Replay.round.Given as goal
 

@@ -1,6 +1,6 @@
 use Rattle.std.proofs.Common.{sym, ◌∙◌}
 use Rattle.l4_core_model.specs.Schedules.{ticks}
-use Rattle.l4_rounds.specs.Replays.{run_of}
+use Rattle.l4_rounds.specs.Inner.Replays.{run_of}
 use Rattle.l4_rounds.proofs.Replaying.{stays_at}
 use Rattle.l4_rounds.proofs.Rounds.{not_ahead, unticked}
 use Rattle.l4_rounds.proofs.replays.Replay.tick.Goals as goal

@@ -1,8 +1,8 @@
 use Rattle.std.proofs.Common.{◌-◌, ◌<◌, length, subst, sym, ap, arith}
 use Rattle.l4_model.specs.Machine.{Declaration, Machine}
 use Rattle.l4_script.specs.Machines.{machine_with}
-use Rattle.l4_script.specs.Places.{place_by}
-use Rattle.l4_script.specs.Scripts.{instr_of}
+use Rattle.l4_script.specs.Inner.Places.{place_by}
+use Rattle.l4_script.specs.Inner.Scripts.{instr_of}
 use Rattle.l4_script.proofs.Growing.{found-changed, lawful-changed, keeps}
 use Rattle.l4_script.proofs.machine.Machine.add_instruction.Goals as goal
 

@@ -1,7 +1,7 @@
 use Rattle.std.proofs.Common.{◌≡◌, ◌<◌, ◌==◌, ◌++◌, ◌∷◌, [], ℕ, List, length, false, cond, Some, subst, sym, ap, ◌∙◌, arith}
 use Rattle.l4_model.specs.Machine.{Declaration, Machine, most_threads}
 use Rattle.l4_script.specs.Machines.{is_taken, machine_with}
-use Rattle.l4_script.specs.Places.{place_by}
+use Rattle.l4_script.specs.Inner.Places.{place_by}
 use Rattle.l4_script.proofs.Finding.{free}
 use Rattle.l4_script.proofs.Growing.{found-same, found-with_thread, lawful-with_thread}
 use Rattle.l4_script.proofs.machine.Machine.declare.Goals as goal

@@ -1,6 +1,6 @@
 use Rattle.std.proofs.Common.{◌∙◌, ap}
 use Rattle.l4_script.specs.Machines.{is_taken, machine_with}
-use Rattle.l4_script.specs.Places.{place_by}
+use Rattle.l4_script.specs.Inner.Places.{place_by}
 use Rattle.l4_script.proofs.Finding.{taken}
 use Rattle.l4_script.proofs.machine.Machine.has_number.Goals as goal
 

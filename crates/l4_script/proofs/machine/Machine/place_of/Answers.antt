@@ -3,7 +3,7 @@ use Rattle.std.proofs.lemmas.List.{get_or_read}
 use Rattle.l4_model.specs.Machine.{Declaration, Machine, place_of}
 use Rattle.l4_core_model.specs.Local.{declared, undeclared}
 use Rattle.l4_script.specs.Machines.{machine_with}
-use Rattle.l4_script.specs.Places.{place_by}
+use Rattle.l4_script.specs.Inner.Places.{place_by}
 use Rattle.l4_script.proofs.Finding.{no_place, other_version}
 use Rattle.l4_script.proofs.machine.Machine.place_of.Goals as goal
 

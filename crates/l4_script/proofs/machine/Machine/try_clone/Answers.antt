@@ -2,7 +2,7 @@ use Rattle.std.proofs.Common.{◌≤◌, ◌∙◌, List, length, sym, ap, arith
 use Rattle.std.proofs.lemmas.List.{take_all}
 use Rattle.l4_model.specs.Machine.{Declaration, Machine}
 use Rattle.l4_script.specs.Machines.{machine_with}
-use Rattle.l4_script.specs.Places.{place_by}
+use Rattle.l4_script.specs.Inner.Places.{place_by}
 use Rattle.l4_script.proofs.Growing.{found-same}
 use Rattle.l4_script.proofs.machine.Machine.try_clone.Goals as goal
 

@@ -5,7 +5,7 @@ use Rattle.std.specs.Map.{lookup}
 use Rattle.std.proofs.lemmas.List.Elements.{same_from_all_zip}
 use Rattle.std.proofs.lemmas.Map.Entries.{entries_from_clone}
 use Rattle.l4_script.specs.declared.places.Placed.{Placed}
-use Rattle.l4_script.specs.Places.{placed_in, slot_of}
+use Rattle.l4_script.specs.Inner.Places.{placed_in, slot_of}
 use Rattle.l4_script.proofs.places.Places.try_clone.Goals as goal
 
 -- Slots are alike where a relation says so of what stands in them.

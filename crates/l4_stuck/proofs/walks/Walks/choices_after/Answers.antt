@@ -1,9 +1,9 @@
 use Rattle.std.proofs.Common.{◌≡◌, inl, inr, ap, map, refl, subst, sym, take, true, ◌∙◌}
 use Rattle.l4_explore.specs.Search.{seen_at}
-use Rattle.l4_explore.specs.Views.{next_from}
+use Rattle.l4_explore.specs.Inner.Views.{next_from}
 use Rattle.l4_futures.specs.Choices.{possible, tried}
-use Rattle.l4_forever.specs.Walks.{are_fresh}
-use Rattle.l4_outlooks.specs.Foreseen.{IsLed}
+use Rattle.l4_forever.specs.Inner.Walks.{are_fresh}
+use Rattle.l4_outlooks.specs.Inner.Foreseen.{IsLed}
 use Rattle.l4_all_endings.specs.Tried.{entries_of, nexts_at, AreOpen}
 use Rattle.l4_all_endings.proofs.Leading.{by_entries, possible_open, tried_open}
 use Rattle.l4_stuck.proofs.walks.Walks.choices_after.Goals as goal

@@ -1,8 +1,8 @@
 use Rattle.std.proofs.Common.{map, subst, take, ◌∙◌}
 use Rattle.l4_explore.specs.Search.{seen_at}
 use Rattle.l4_explore.specs.Tries.{LeadOn}
-use Rattle.l4_explore.specs.Views.{next_from}
-use Rattle.l4_futures.specs.Search.{state_after}
+use Rattle.l4_explore.specs.Inner.Views.{next_from}
+use Rattle.l4_futures.specs.Inner.Search.{state_after}
 use Rattle.l4_stuck.proofs.Walking.{walked_lead}
 use Rattle.l4_stuck.proofs.walks.WalksTries.choices.Goals as goal
 

@@ -1,11 +1,11 @@
 use Rattle.std.proofs.Common.{ap, refl, sym}
 use Rattle.std.specs.Option.{option_map}
 use Rattle.l4_model.specs.World.{Thread}
-use Rattle.l4_types.specs.PeriodView.{period_of}
-use Rattle.l4_script.specs.Scripts.{instr_of}
-use Rattle.l4_thread.specs.Held.{sent_of}
-use Rattle.l4_thread.specs.PhaseView.{phase_of}
-use Rattle.l4_thread.specs.Requests.{phases_begun, phases_held, phases_of, send_held}
+use Rattle.l4_types.specs.Inner.PeriodView.{period_of}
+use Rattle.l4_script.specs.Inner.Scripts.{instr_of}
+use Rattle.l4_thread.specs.Inner.Held.{sent_of}
+use Rattle.l4_thread.specs.Inner.PhaseView.{phase_of}
+use Rattle.l4_thread.specs.Inner.Requests.{phases_begun, phases_held, phases_of, send_held}
 use Rattle.l4_thread.proofs.Asking.{starts_held}
 use Rattle.l4_thread.proofs.tcb.Tcb.ipc.Goals as goal
 

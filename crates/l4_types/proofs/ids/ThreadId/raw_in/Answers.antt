@@ -1,6 +1,6 @@
 use Rattle.std.proofs.Common.{sym, ◌∙◌, ap}
 use Rattle.l4_model.specs.Words.{W64, word_in, id_in}
-use Rattle.l4_types.specs.FormatView.{format_of}
+use Rattle.l4_types.specs.Inner.FormatView.{format_of}
 use Rattle.l4_types.specs.declared.formats.Format.{Format}
 use Rattle.l4_types.proofs.InFormats.{has_its_word, is_its_id}
 use Rattle.l4_types.proofs.ids.ThreadId.raw_in.Goals as goal

@@ -1,5 +1,5 @@
 use Rattle.std.proofs.Common.{length, ap, sym, ◌∙◌, arith}
-use Rattle.tcb_arena.specs.Due.{armed_of}
+use Rattle.tcb_arena.specs.Inner.Due.{armed_of}
 use Rattle.tcb_arena.proofs.Leaving.{left-armed_step}
 use Rattle.tcb_arena.proofs.Once.{any-get}
 use Rattle.tcb_arena.proofs.iter.ArmedBlocksIterator.next.Goals as goal

@@ -1,6 +1,6 @@
 use Rattle.std.proofs.Common.{ℕ, ◌+◌, ◌<◌}
 use Rattle.std.proofs.lemmas.List.Elements.{All-drop, All-same}
-use Rattle.tcb_arena.specs.Rings.{list_at}
+use Rattle.tcb_arena.specs.Inner.Rings.{list_at}
 use Rattle.tcb_arena.proofs.Leaving.{below-names, left-place}
 use Rattle.tcb_arena.proofs.Once.{get-in-any}
 use Rattle.tcb_arena.proofs.iter.Blocks.behind.Goals as goal

@@ -1,7 +1,7 @@
 use Rattle.std.proofs.Common.{◌≡◌, ◌<◌, length, arith, get_or, ap, ◌∙◌, sym, not, ⊎_elim}
 use Rattle.std.proofs.lemmas.List.{get_or_read}
 use Rattle.std.proofs.lemmas.Bool.{cases_eq, eq-eqb, ne_eqb}
-use Rattle.tcb_arena.specs.Rings.{Lists, rings, is_in_any}
+use Rattle.tcb_arena.specs.Inner.Rings.{Lists, rings, is_in_any}
 use Rattle.tcb_arena.proofs.Changes.{is_in_any-free, sound_shown}
 use Rattle.tcb_arena.proofs.links.Rings.is_linked.Goals as goal
 

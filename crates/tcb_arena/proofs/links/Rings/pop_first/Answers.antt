@@ -1,6 +1,6 @@
 use Rattle.std.proofs.Common.{[], ◌∙◌, ap, sym, get_or}
 use Rattle.l4_model.specs.World.{is_in}
-use Rattle.tcb_arena.specs.Rings.{Lists}
+use Rattle.tcb_arena.specs.Inner.Rings.{Lists}
 use Rattle.tcb_arena.proofs.Changes.{popped_some}
 use Rattle.tcb_arena.proofs.Lists.{is_in-without_self, get_or-without}
 use Rattle.tcb_arena.proofs.links.Rings.pop_first.Goals as goal

@@ -1,6 +1,6 @@
 use Rattle.std.proofs.Common.{◌<◌, ◌^◌, subst, sym, ℕ, w64, arith}
 use Rattle.std.specs.Int.{trailing_zeros}
-use Rattle.tcb_arena.specs.RingSets.{IsNext}
+use Rattle.tcb_arena.specs.Inner.RingSets.{IsNext}
 use Rattle.tcb_arena.proofs.RingBits.{next-some}
 use Rattle.tcb_arena.proofs.ring_set.RingSet.next.Goals as goal
 

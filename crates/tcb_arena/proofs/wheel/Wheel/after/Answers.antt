@@ -1,7 +1,7 @@
 use Rattle.std.specs.Prelude.{Option, find}
 use Rattle.std.specs.Option.{option_map}
 use Rattle.std.proofs.Common.{ℕ, ap, sym, ◌∙◌}
-use Rattle.tcb_arena.specs.Due.{armed_of}
+use Rattle.tcb_arena.specs.Inner.Due.{armed_of}
 use Rattle.tcb_arena.proofs.Ordered.{after-armed, at_deadline, is_after, or_else}
 use Rattle.tcb_arena.proofs.Wheels.{linked-armed}
 use Rattle.tcb_arena.proofs.wheel.Wheel.after.Goals as goal

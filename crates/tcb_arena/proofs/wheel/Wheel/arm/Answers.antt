@@ -1,6 +1,6 @@
 use Rattle.std.proofs.Common.{◌∙◌, ap}
-use Rattle.tcb_arena.specs.Due.{armed_of}
-use Rattle.tcb_arena.specs.Rings.{put_last}
+use Rattle.tcb_arena.specs.Inner.Due.{armed_of}
+use Rattle.tcb_arena.specs.Inner.Rings.{put_last}
 use Rattle.tcb_arena.proofs.Wheels.{linked-due, shown-armed, armed-with, wheel-armed_first, wheel-armed_later}
 use Rattle.tcb_arena.proofs.wheel.Wheel.arm.Goals as goal
 

@@ -1,7 +1,7 @@
 use Rattle.std.specs.Prelude.{slice_get, is_some, Option}
 use Rattle.std.proofs.Common.{◌≡◌, ◌<◌, ◌%◌, ℕ, [], length, get_or, ap, sym, ◌∙◌, arith}
 use Rattle.std.proofs.lemmas.List.{get_or_read}
-use Rattle.tcb_arena.specs.Due.{Due, armed_of}
+use Rattle.tcb_arena.specs.Inner.Due.{Due, armed_of}
 use Rattle.tcb_arena.proofs.Once.{once-shown}
 use Rattle.tcb_arena.proofs.Wheels.{shown-disarmed, armed-left, none-out, wheel-disarmed}
 use Rattle.tcb_arena.proofs.wheel.Wheel.disarm.Goals as goal

@@ -1,6 +1,6 @@
 use Rattle.std.proofs.Common.{◌∙◌, ap, sym}
 use Rattle.l4_core_model.specs.Plain.{due_block}
-use Rattle.tcb_arena.specs.Due.{Due, armed_of}
+use Rattle.tcb_arena.specs.Inner.Due.{Due, armed_of}
 use Rattle.tcb_arena.proofs.Floors.{floor-armed_in, none-due}
 use Rattle.tcb_arena.proofs.Once.{within-shown}
 use Rattle.tcb_arena.proofs.wheel.Wheel.first_due.Goals as goal

@@ -1,8 +1,8 @@
 use Rattle.std.specs.Prelude.{Some}
 use Rattle.std.proofs.Common.{◌≡◌, ◌∙◌, sym, ap, subst}
 use Rattle.l4_core_model.specs.Plain.{due_block, without_block}
-use Rattle.tcb_arena.specs.Blocks.{has_entry}
-use Rattle.tcb_arena.specs.Due.{Due, armed_of, AreOnce}
+use Rattle.tcb_arena.specs.Inner.Blocks.{has_entry}
+use Rattle.tcb_arena.specs.Inner.Due.{Due, armed_of, AreOnce}
 use Rattle.tcb_arena.proofs.Once.{none-left}
 use Rattle.tcb_arena.proofs.Showing.{without-due}
 use Rattle.tcb_arena.proofs.wheel.Wheel.pop_due.Goals as goal

@@ -2,8 +2,8 @@ use Rattle.std.proofs.Common.{sym, ap, ◌∙◌, rules, tests}
 use Rattle.std.proofs.lemmas.Iterator.Adapters.{option_map_id}
 use Rattle.std.proofs.lemmas.Iterator.Consumers.{YieldsList-from_first}
 use Rattle.std.proofs.lemmas.Iterator.Search.{find_from_yields_List}
-use Rattle.tcb_arena.specs.Due.{has_deadline}
-use Rattle.tcb_arena.specs.Rings.{list_at}
+use Rattle.tcb_arena.specs.Inner.Due.{has_deadline}
+use Rattle.tcb_arena.specs.Inner.Rings.{list_at}
 use Rattle.tcb_arena.proofs.wheel.order.first_equal.Goals as goal
 
 pub returns : goal.returns

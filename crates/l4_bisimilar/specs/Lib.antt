@@ -1,0 +1,5 @@
+pub mod Alike
+pub mod Entries
+pub mod Similar
+pub mod Shifted
+pub mod InCommon

@@ -1,6 +1,0 @@
-use Rattle.l4_core_model.specs.Runs.{opening_run}
-use Rattle.l4_choices.proofs.Replayed.{replayed}
-use Rattle.l4_choices.proofs.law_replayed.Goals as goal
-
-pub returns : goal.returns
-returns c = λ m actions r h. replayed m actions (opening_run m) r h

@@ -1,0 +1,14 @@
+pub mod Asking
+pub mod Changing
+pub mod Choosing
+pub mod Covered
+pub mod FastPath
+pub mod Opening
+pub mod Outboxes
+pub mod Parts
+pub mod PhaseLists
+pub mod Places
+pub mod Settled
+pub mod Tasks
+pub mod Turning
+pub mod Values

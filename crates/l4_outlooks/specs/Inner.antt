@@ -1,0 +1,4 @@
+pub mod Foreseen
+pub mod Named
+pub mod Standing
+pub mod Touches

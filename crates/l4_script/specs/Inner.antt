@@ -1,0 +1,5 @@
+pub mod Calls
+pub mod Headings
+pub mod Places
+pub mod Scripts
+pub mod Stages

@@ -1,9 +1,0 @@
-pub mod Threads
-pub mod Works
-pub mod OfActs
-pub mod OfTurns
-pub mod OfLetters
-pub mod Counts
-pub mod InNumber
-pub mod InRuns
-pub mod OfSystems

@@ -1,0 +1,11 @@
+pub mod ClockTick
+pub mod Codes
+pub mod Flags
+pub mod FormatView
+pub mod LetterHeads
+pub mod LetterView
+pub mod OwedView
+pub mod PeriodView
+pub mod TagLemmas
+pub mod TagView
+pub mod WordLemmas

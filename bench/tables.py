@@ -4,6 +4,9 @@ import pathlib
 
 from measure import output
 
+# A system takes no longer word.
+LONGEST = 128 * 1024
+
 
 def row(*cells):
     print("| " + " | ".join(cells) + " |", flush=True)
@@ -36,8 +39,16 @@ class Bench:
 
     def replay(self, name, text, processors, report=False):
         """The words that replay a turn of each of these processors in order, with the trace or the report."""
-        words = [self.program, "replay", self.file(name, text), "--schedule", ",".join(map(str, processors))]
+        words = [self.program, "replay", self.file(name, text), "--schedule", self.list_word(",".join(map(str, processors)))]
         return words + ["--report"] if report else words
+
+    def list_word(self, items):
+        """The word that gives these items, which stand in a file where they are too long for a word."""
+        if len(items) < LONGEST:
+            return items
+        file = self.folder / f"{len(items)}.list"
+        file.write_text(items)
+        return f"@{file}"
 
     def audit(self, name, lines):
         """The words that audit a trace of these lines against the text in the file of this name."""

@@ -32,6 +32,8 @@ KINDS = (randoms.General, randoms.HandingOn, randoms.Conflicts, None)
 # So many turns, and so many items of a schedule, are compared of each input of the benchmarks.
 TURNS = 5_000
 ITEMS = 20_000
+# A system takes no longer word.
+LONGEST = 128 * 1024
 # In a case that is no text the text stands behind this line, and may repeat a part for some numbers.
 BEHIND = "---\n"
 REPEATED = re.compile(r"\{([^{}]*)\*(\d+)\.\.(\d+)(?: by (\d+))?\}", re.DOTALL)
@@ -57,6 +59,10 @@ class Compared:
         pathlib.Path(file).write_bytes(text if isinstance(text, bytes) else text.encode())
         return file
 
+    def list_word(self, number, schedule):
+        """The word that gives a list, which stands in a file where it is too long for a word."""
+        return schedule if len(schedule) < LONGEST else "@" + self.file(f"list-{number}", schedule)
+
     def both(self, what, words, told=b"", folder=None):
         """Tests that both print the same, unless the plain program says that it does not do this. Answers what was printed."""
         done = [subprocess.run([program, *words], input=told, capture_output=True, cwd=folder or self.folder) for program in self.programs]
@@ -74,7 +80,9 @@ class Compared:
     def text(self, what, text, schedules, turns=TURNS):
         """Compares the run of a text, its replay by each schedule, and the audits of what these print."""
         file = self.file("text.l4", text)
-        commands = [["run", file, "--turns", str(turns)]] + [["replay", file, "--schedule", schedule] for schedule in schedules]
+        commands = [["run", file, "--turns", str(turns)]] + [
+            ["replay", file, "--schedule", self.list_word(number, schedule)] for number, schedule in enumerate(schedules)
+        ]
         for words in commands:
             trace = self.both(f"{what}: {words[0]}", words)
             self.both(f"{what}: {words[0]}", [*words, "--report"])
@@ -140,7 +148,9 @@ def compare_case(compared, dice, file):
         head, text = "\n".join(line[2:] for line in told.splitlines() if line.startswith("; ")), told
     written = compared.file("case.l4", text.encode("latin-1"))
     for words, trace in commands_of(head.splitlines()):
-        if words and words[0] in COMMANDS:
+        if max(map(len, words), default=0) >= LONGEST:
+            compared.counts["commands of cases that a system refuses"] += 1
+        elif words and words[0] in COMMANDS:
             named = [written if file.suffix == ".case" and word.endswith(".l4") else word for word in words]
             compared.both("commands of cases", named, "".join(trace).encode("latin-1"), file.parent)
     cpus = re.search(r"^cpus (\d+)$", text, re.MULTILINE)

@@ -8,7 +8,7 @@ import tempfile
 
 from edits import CRATES, DEFINITIONS, TOP, edits_of
 
-MODEL = ["l4_model", "l4_core_model", "l4_refines", "l4_merge", "l4_bisimilar", "l4_explore", "l4_states", "l4_worlds", "l4_first", "l4_rests", "l4_futures", "l4_forever"]
+MODEL = ["l4_model", "l4_core_model", "l4_refines", "l4_merge", "l4_bisimilar", "l4_explore", "l4_states", "l4_worlds", "l4_first", "l4_persistent", "l4_rests", "l4_futures", "l4_forever", "l4_invariants"]
 IMPORT = re.compile(r"l4_core_model\.proofs\.(\w+)")
 REFUSED = re.compile(r"(?:\./)?proofs/(\S+):\d+:\d+: error: `([^`]+)`")
 UNBUILT = re.compile(r"rt: the library (\S*) did not build")

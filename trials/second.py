@@ -9,7 +9,8 @@ import random
 import subprocess
 import sys
 
-from second import expectations, explained, machines, model, processors, randoms, searches, traces, waits
+from second import charts, expectations, explained, machines, model, processors, randoms, searches, traces, waits
+from second import words as words_of_ids
 
 SEED = 20_261_125
 QUIET, FAULT, SPENT, UNMET = 0, 1, 3, 4
@@ -129,6 +130,30 @@ def recorded(entries):
     return "; l4run replay FILE --schedule @NAME\n" + ",\n".join(lines) + "\n"
 
 
+# A terminal of so many columns cuts words, or leaves them out.
+WIDTHS = (1, 30, 60, 80, 200)
+
+
+def charted(case, dice, machine, trace, counts):
+    """Compares a chart of a part of a trace, which may be spoilt, with some of its threads."""
+    write(case.trace_file, trace)
+    steps, threads = trace.count("\n"), list(machine.threads)
+    chosen = tuple(dice.sample(threads, dice.randint(1, len(threads)))) if threads and dice.random() < 0.5 else None
+    part = charts.Part(dice.choice([1, dice.randint(1, steps + 2)]), dice.choice([steps, dice.randint(0, steps + 2)]), chosen)
+    width = dice.choice(WIDTHS)
+    try:
+        said, refused = charts.of_trace(case.text, trace, part, width)
+        fault = f"{FAULTS}refused at step {refused}\n" if refused else ""
+    except traces.TraceFault as faulty:
+        said, fault = "", f"{FAULTS}trace line {faulty.line}\n"
+    words = ["chart", case.machine_file, case.trace_file, "--from", str(part.first), "--to", str(part.last), "--width", str(width), "--ascii"]
+    if chosen is not None:
+        words += ["--threads", ",".join(map(words_of_ids.spelled, chosen))]
+    case.compare("a chart", words, said, fault, FAULT if fault else QUIET, trace=trace)
+    counts["charts"] += 1
+    counts["charts with sends that have not arrived"] += ".)" in said or "(." in said
+
+
 def rested(case, dice, machine, entries, counts):
     """Compares what becomes of a replay that goes on by itself after a beginning of its schedule, and what is recorded of it."""
     beginning, turns = entries[: dice.randint(0, len(entries))], dice.choice([1, 2, dice.randint(3, 40), 4000])
@@ -178,8 +203,12 @@ def tried(case, dice, kind, counts):
     report = model.world_of(machine, replay.history).report(at_rest)
     case.replay("report", report, at_rest, "--report")
     expected(case, dice, replay, report, counts)
+    charted(case, dice, machine, trace, counts)
+    whole = charts.text(text, machine, replay.history, charts.Part(1, len(replay.history), None), 80)
+    case.replay("chart", whole, at_rest, "--chart")
     for what, other in [("spoilt traces", trace and randoms.spoilt(dice, machine, trace)), ("late retargets", randoms.retargeted_late(dice, trace))]:
         if other:
+            charted(case, dice, machine, other, counts)
             ending = case.audit(machine, other)
             case.explain(machine, other)
             counts[f"audits of {what}"] += 1

@@ -5,6 +5,7 @@ of sends: nothing is left out because no step reads it, and no step because anot
 
 import dataclasses
 import enum
+import math
 
 from second import model, words, worlds
 from second.threads import Phase
@@ -104,6 +105,27 @@ def stuck(machine, most):
         if len(found) > most:
             return None
     return {thread for thread in machine.threads if any(stays(thread, place, found, behind) for place in range(len(found)))}
+
+
+def least_to(machine, most, is_met):
+    """By how few steps a world is come to that is so, or infinitely many where none is. None where there are more worlds than these."""
+    opening = Timeless(machine)
+    level, seen, steps = [opening], {whole(opening)}, 0
+    while level:
+        if any(map(is_met, level)):
+            return steps
+        behind = []
+        for world in level:
+            for after in world.next_ones():
+                key = whole(after)
+                if key not in seen:
+                    seen.add(key)
+                    behind.append(after)
+        if len(seen) > most:
+            return None
+        level = behind
+        steps += 1
+    return math.inf
 
 
 def stays(thread, place, found, behind):

@@ -8,7 +8,7 @@ use Rattle.std.proofs.lemmas.List.Elements.{filter_map-append}
 use Rattle.l4_model.specs.Machine.{Machine}
 use Rattle.l4_model.specs.World.{Name, World, opening}
 use Rattle.l4_model.specs.Conditions.{◌>>=◌}
-use Rattle.l4_model.specs.Steps.{Step, next}
+use Rattle.l4_model.specs.Steps.{Step, Begin, next}
 use Rattle.l4_model.specs.History.{run, reached, begun_name, waiting, waiting_name}
 use Rattle.l4_model.proofs.Chains.{bind_then, some_is}
 use Rattle.l4_model.proofs.Worlds.{reached_facts}
@@ -70,6 +70,10 @@ goes_on a b begun new step way taken more = record {
   reached_by = ap (λ m. reached m (way.steps ++ step ∷ [])) taken.machine ∙ one_step a.machine way.steps a.world b.world step way.reached_by taken.possible;
   begun_by = begun_more way.steps step ∙ ap (λ xs. xs ++ option_to_list (begun_name step)) way.begun_by ∙ sym more;
 }
+
+pub begun_is : (step : Step) (name : Name) → begun_name step ≡ Some name → step ≡ Begin name
+begun_is (Begin s) name e = ap Begin (some_is s name e)
+begun_is _ name e = cc
 
 -- A step that begins no send.
 

@@ -1,7 +1,8 @@
 -- A thread begins the first phase of its Ipc.
 use Rattle.std.proofs.Common.{◌≡◌, ℕ, ◌<◌, ◌+◌, ◌^◌, zero, suc, length, get_or, set, map, Bool, true, false, Option, Some, None, List, [], ◌∷◌, refl, ap, sym, ◌∙◌, arith, subst}
-use Rattle.std.specs.Prelude.{slice_get, IsSome, IsSomeAnd, slice_index_or, is_some, not}
+use Rattle.std.specs.Prelude.{slice_get, IsSome, IsSomeAnd, slice_index_or, is_some, not, ◌&&◌}
 use Rattle.std.specs.Option.{option_map}
+use Rattle.std.proofs.lemmas.Bool.{and_parts}
 use Rattle.std.proofs.lemmas.List.{length-map}
 use Rattle.std.proofs.lemmas.Option.{slice_get-map, get_or_from_slice_get}
 use Rattle.l4_model.specs.Words.{Id, NilThread, AnyThread, AnyLocalThread, LocalThread, GlobalThread, GlobalId, global_id, Period}
@@ -18,7 +19,7 @@ use Rattle.l4_model.proofs.Places.{known}
 use Rattle.l4_types.specs.Ids.{global_of}
 use Rattle.l4_thread.specs.Inner.Parts.{Block}
 use Rattle.l4_thread.specs.Inner.Ipcs.{IsPermission, may_show, starts}
-use Rattle.l4_thread.specs.Inner.Requests.{asks_to_send, is_end}
+use Rattle.l4_thread.specs.Inner.Requests.{asks_to_send, is_end, propagates}
 use Rattle.l4_thread.proofs.Asking.{shown_is_global}
 use Rattle.l4_audit.specs.Inner.Phases.{is_nil}
 use Rattle.l4_audit.specs.Inner.Audited.{Audited, IsOf, with_world}
@@ -61,7 +62,7 @@ pub start_shown : (m : Machine) (bs : List Block) {lists : List (List Waiting)} 
     IsOf m bs lists → CanStart a place i permitted → old ≡ get_or bs place old → permitted ≡ true → IsSome (global_of old.thread.context.actual)
 start_shown m bs {lists} ws cs os a place i permitted old is of can at shown =
     let here = starts_here m bs lists ws cs os a place i permitted old is of can at in
-    shown_is_global m (id_at m place) old.thread.context.actual (sym here.thread.shows ∙ shown)
+    shown_is_global m (id_at m place) old.thread.context.actual (and_parts _ _ (sym here.thread.shows ∙ shown)).1
 
 -- What its block becomes.
 pub started_block : (m : Machine) (bs : List Block) {lists : List (List Waiting)} (ws : List (List ℕ)) (cs : List ℕ) (os : List Owed) (a : Audited) (place : ℕ) (i : Instr) (permitted : Bool) (now : ℕ) (old new : Block) → audited m bs ws cs os ≡ a →
@@ -70,8 +71,9 @@ pub started_block : (m : Machine) (bs : List Block) {lists : List (List Waiting)
     new ≡ record old { thread = starts_at m (id_at m place) now i old.thread }
 started_block m bs {lists} ws cs os a place i permitted now old new is of can at gives =
     let here = starts_here m bs lists ws cs os a place i permitted old is of can at in
-    let shows : permitted ≡ may_show m old.id old.thread.context.actual = here.thread.shows ∙ ap (λ id. may_show m id old.thread.context.actual) here.id in
-    gives m (λ asks. shows) ∙ ap (λ id. record old { thread = starts (act m id now old.thread.context i) now old.thread }) (sym here.id)
+    let shows : permitted ≡ (propagates old.thread.context && may_show m old.id old.thread.context.actual) =
+    here.thread.shows ∙ ap (λ id. propagates old.thread.context && may_show m id old.thread.context.actual) here.id in
+    gives m (λ asks. shows ∙ ap (λ b. b && may_show m old.id old.thread.context.actual) asks) ∙ ap (λ id. record old { thread = starts (act m id now old.thread.context i) now old.thread }) (sym here.id)
 
 pub started : (m : Machine) (bs : List Block) {lists : List (List Waiting)} (ws : List (List ℕ)) (cs : List ℕ) (os : List Owed) (a : Audited) (place : ℕ) (i : Instr) (permitted : Bool) (now : ℕ) (old new : Block) → audited m bs ws cs os ≡ a →
     IsOf m bs lists → CanStart a place i permitted → old ≡ get_or bs place old →
@@ -93,15 +95,15 @@ id_found m w id t is =
     get_or_from_slice_get (map (λ (d : Declaration). d.id) m.threads) t.at t.declared.id (global_id 0 1) e
 
 pub can_start : (a : Audited) (id : GlobalId) (t : Found) (i : Instr) (permitted : Bool) → found a.machine a.world id ≡ Some t →
-    (is_end i ≡ false → t.now.context.place < 1024) → (asks_to_send t.now.context i ≡ true → t.now.context.begun + 1 < 2 ^ 64) → permitted ≡ may_show a.machine t.declared.id t.now.context.actual →
-    CanStart a t.at i permitted
+    (is_end i ≡ false → t.now.context.place < 1024) → (asks_to_send t.now.context i ≡ true → t.now.context.begun + 1 < 2 ^ 64) →
+    permitted ≡ (propagates t.now.context && may_show a.machine t.declared.id t.now.context.actual) → CanStart a t.at i permitted
 can_start a id t i permitted is room count shows =
     let m : Machine = a.machine in
     let k = known m a.world id t is in
     let here : IsStarting m (id_at m t.at) i permitted t.now = record {
       room = λ e. let lt = room e in omega arith;
       count = count;
-      shows = shows ∙ ap (λ x. may_show m x t.now.context.actual) (sym (id_found m a.world id t is));
+      shows = shows ∙ ap (λ x. propagates t.now.context && may_show m x t.now.context.actual) (sym (id_found m a.world id t is));
     } in
     subst (λ o. IsSomeAnd o (IsStarting m (id_at m t.at) i permitted)) (sym k.now) here
 

@@ -2,6 +2,7 @@
 ghost use Rattle.std.specs.Prelude.{◌≡◌, ◌↔◌, ◌++◌, ◌∷◌, [], Some, true, IfOk, OnOk, OnErr};
 ghost use Rattle.std.specs.Prelude.{filter_map, map};
 ghost use Rattle.l4_model.specs.History.{begun_name, view};
+ghost use Rattle.l4_model.specs.Steps.{Begin};
 ghost use Rattle.l4_model.specs.Still.{IsStill, late};
 ghost use Rattle.l4_types.specs.ReportView.{report_of_view};
 ghost use Rattle.l4_types.specs.StepView.{seen, step_of};
@@ -62,19 +63,19 @@ impl<'m> Auditor<'m> {
         ensures { Judges self.old (seen step.now) result self.new }
     {
         match begun_name(step) {
-            Some(name) => self.begin(name, step),
+            Some(name) => self.begin(name),
             None => self.world.take(step),
         }
     }
 
-    // Judges the next step, which begins this send.
-    fn begin(&mut self, name: Name, step: &StepRef<'_>) -> Result<(), StepFault>
-        requires { begun_name (seen step.now) ≡ Some name }
-        ensures { Judges self.old (seen step.now) result self.new }
+    // Judges the step that begins this send.
+    #[inline(always)]
+    fn begin(&mut self, name: Name) -> Result<(), StepFault>
+        ensures { Judges self.old (Begin name) result self.new }
     {
         let begun = self.begun.len();
         keep(&mut self.begun, name)?;
-        match self.world.take(step) {
+        match self.world.begin(name) {
             Ok(()) => Ok(()),
             Err(fault) => {
                 self.begun.truncate(begun);
@@ -165,6 +166,7 @@ fn keep(names: &mut Vec<Name>, name: Name) -> Result<(), NoMemory>
 }
 
 // The send that a step begins.
+#[inline(always)]
 fn begun_name(step: &StepRef<'_>) -> Option<Name>
     ensures { result ≡ begun_name (seen step.now) }
 {

@@ -1,5 +1,5 @@
 //! Threads and sends as they are looked up in a world.
-ghost use Rattle.std.specs.Prelude.{◌≡◌, ◌<◌, ◌≤◌, false, is_some, length};
+ghost use Rattle.std.specs.Prelude.{◌≡◌, ◌<◌, ◌≤◌, ◌&&◌, false, is_some, length};
 ghost use Rattle.std.specs.Option.{option_map};
 ghost use Rattle.l4_model.specs.Machine.{Machine, declaration_of, same_cpu, most_instructions};
 ghost use Rattle.l4_model.specs.World.{is_ready, is_deleted, receive_now};
@@ -13,7 +13,7 @@ ghost use Rattle.l4_audit.specs.Inner.Phases.{has_phase};
 ghost use Rattle.l4_audit.specs.Reasons.{state_in};
 ghost use Rattle.l4_script.specs.Inner.Scripts.{instr_of, to_of};
 ghost use Rattle.l4_thread.specs.Inner.Ipcs.{may_show};
-ghost use Rattle.l4_thread.specs.Inner.Requests.{is_end};
+ghost use Rattle.l4_thread.specs.Inner.Requests.{is_end, propagates};
 
 use crate::periods::has_passed;
 use l4_script::instructions::{Instr, Ipc, To};
@@ -143,6 +143,14 @@ impl<'a> Found<'a> {
         ensures { result ≡ may_show machine.now self.now.declared.id self.now.now.context.actual }
     {
         machine.may_show(self.id(), self.tcb.thread().regs().actual)
+    }
+
+    /// Whether its Ipc asks for propagation, and it may show the originator.
+    pub fn shows(&self, machine: &Machine) -> bool
+        ensures { result ≡ (propagates self.now.now.context &&
+            may_show machine.now self.now.declared.id self.now.now.context.actual) }
+    {
+        self.tcb.thread().propagates() && self.may_show(machine)
     }
 
     /// Whether its instruction concerns nobody else.

@@ -1,12 +1,20 @@
 -- The rows of a whole history are its steps, and arrows are deliveries.
-use Rattle.std.proofs.Common.{◌≡◌, ℕ, ◌+◌, ◌≤◌, true, None, List, [], ◌∷◌, length, refl, ap, ◌∙◌, arith}
+use Rattle.std.proofs.Common.{◌≡◌, ℕ, ◌+◌, ◌≤◌, true, None, List, [], ◌∷◌, length, map, refl, ap, ◌∙◌, arith}
 use Rattle.std.specs.Prelude.{filter, nat_le}
 use Rattle.std.specs.List.{enumerate_from}
 use Rattle.std.proofs.lemmas.Bool.Decides.{nat_tests}
 use Rattle.l4_model.specs.Words.{GlobalId}
 use Rattle.l4_model.specs.Steps.{Step, Local, Begin, Queue, Deliver, Wait, SendTimeout, ReceiveTimeout, SendNobody, ReceiveNobody, SendCancel, ReceiveCancel, Drop, Order, Obey, Tick, Retarget}
-use Rattle.l4_chart.specs.Charts.{columns_of, concerns, is_in}
-use Rattle.l4_chart.specs.Laws.{ArrowsAreDeliveries, IsDelivery, RowsAreSteps}
+use Rattle.l4_model.specs.Machine.{Machine}
+use Rattle.l4_model.specs.World.{World, opening}
+use Rattle.l4_audit.proofs.Replaying.{take_whole}
+use Rattle.l4_json.specs.Steps.{behind}
+use Rattle.l4_chart.specs.Charts.{columns_of, concerns, is_in, until_last}
+use Rattle.l4_chart.specs.Laws.{ArrowsAreDeliveries, IsDelivery, RowsAreSteps, StandingsAreReached, numbered_step}
+use Rattle.l4_chart.specs.Listings.{Listing}
+use Rattle.l4_chart.specs.Told.{Told, told_at, told_from, told_of}
+use Rattle.l4_chart.specs.Whole.{whole}
+use Rattle.l4_chart.proofs.Walking.{led_there}
 use Rattle.l4_chart.specs.Marks.{mark_of}
 use Rattle.l4_chart.specs.Windows.{Part}
 use Rattle.l4_chart.specs.declared.columns.Column.{Column}
@@ -25,17 +33,23 @@ all last = record { first = 1; last = last; threads = None }
 le_test : (a b : ℕ) → a ≤ b → nat_le a b ≡ true
 le_test a b h = grind (arith, nat_tests)
 
-shown : (columns : List Column) (last k : ℕ) (step : Step) → 1 ≤ k → k ≤ last → is_in (all last) columns (k, step) ≡ true
-shown columns last k step from to = rw (le_test 1 k from, le_test k last to, all_shown columns (mark_of step)) refl
+shown : (columns : List Column) (last : ℕ) (row : Told) → 1 ≤ row.number → is_in (all last) columns row ≡ true
+shown columns last row from = rw (le_test 1 row.number from, all_shown columns (mark_of row.step)) refl
 
-whole_from : (columns : List Column) (last k : ℕ) (h : List Step) → 1 ≤ k → k + length h ≤ last + 1 →
-    filter (is_in (all last) columns) (enumerate_from k h) ≡ enumerate_from k h
-whole_from columns last k [] from to = refl
-whole_from columns last k (step ∷ h) from to =
-    rw (shown columns last k step from (omega arith)) (ap (λ rows. (k, step) ∷ rows) (whole_from columns last (k + 1) h (omega arith) (omega arith)))
+whole_from : (m : Machine) (listing : Listing) (columns : List Column) (last k : ℕ) (w : World) (h : List Step) → 1 ≤ k →
+    map numbered_step (filter (is_in (all last) columns) (told_from m listing w k h)) ≡ enumerate_from k h
+whole_from m listing columns last k w [] from = refl
+whole_from m listing columns last k w (step ∷ h) from =
+    rw (shown columns last (told_at m listing w k step) from)
+    (ap (λ rows. (k, step) ∷ rows) (whole_from m listing columns last (k + 1) (behind m w step) h (omega arith)))
 
 pub rows_are_steps : RowsAreSteps
-rows_are_steps m h = whole_from (columns_of m None) (length h) 1 h (omega arith) (omega arith)
+rows_are_steps m listing h =
+    ap (λ (xs : List Step). map numbered_step (filter (is_in (whole h) (columns_of m None)) (told_of m listing xs))) (take_whole h (length h) refl)
+    ∙ whole_from m listing (columns_of m None) (length h) 1 (opening m) h (omega arith)
+
+pub standings_are_reached : StandingsAreReached
+standings_are_reached m part h w is = led_there m (opening m) (until_last part h) w is
 
 arrow_is : (a b c d : GlobalId) → Arrow a b ≡ Arrow c d → (a ≡ c) × (b ≡ d)
 arrow_is a b c d h = (cc, cc)

@@ -1,6 +1,7 @@
 pub mod Ended
 pub mod Lawful
+pub mod Listed
 pub mod Repeated
 pub mod Shown
 pub mod Under
-pub mod AllSteps
+pub mod Walking

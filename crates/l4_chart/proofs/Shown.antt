@@ -1,40 +1,20 @@
 -- What a loop has made of a list, and what is left of it.
-use Rattle.std.proofs.Common.{◌≡◌, ◌∙◌, ℕ, ◌+◌, zero, suc, Bool, true, false, cond, Option, None, List, [], ◌∷◌, ◌++◌, ◌<◌, length, drop, take, get_or, refl, ap, sym, arith, append_assoc, append-nil, add-one, add-zero, zero-add}
-use Rattle.std.specs.Prelude.{slice_get, Some, filter, filter_map, flat_map}
+use Rattle.std.proofs.Common.{◌≡◌, ◌∙◌, ℕ, ◌+◌, zero, suc, Bool, true, false, cond, Option, None, List, [], ◌∷◌, ◌++◌, ◌<◌, length, take, get_or, refl, ap, sym, arith, append_assoc, append-nil, add-one, add-zero, zero-add}
+use Rattle.std.specs.Prelude.{Some, filter, filter_map, flat_map}
 use Rattle.std.specs.Option.{option_to_list}
-use Rattle.std.specs.List.{cons_option, enumerate_from, range_with_len}
-use Rattle.std.proofs.lemmas.List.{drop_more, take_more}
+use Rattle.std.specs.List.{cons_option, range_with_len}
+use Rattle.std.proofs.lemmas.List.{take_more}
 use Rattle.std.proofs.lemmas.List.Concat.{flat_map-append}
 use Rattle.std.proofs.lemmas.List.Elements.{filter_map-append}
-use Rattle.std.proofs.lemmas.Option.{get_or_from_slice_get, slice_get_within}
 
--- What is left of a list begins with its next element.
-pub left-next : {A : Type 0} (xs : List A) (i : ℕ) (x : A) → slice_get xs i ≡ Some x → drop i xs ≡ x ∷ drop (i + 1) xs
-left-next {A} xs i x is =
-    drop_more xs i x (slice_get_within xs i x is) ∙ ap (λ (y : A). y ∷ drop (i + 1) xs) (get_or_from_slice_get xs i x x is)
-
--- The next numbered element is kept or not.
-pub kept_next : {A : Type 0} (p : ℕ × A → Bool) (xs : List A) (i : ℕ) (x : A) (old new : List (ℕ × A)) → slice_get xs i ≡ Some x →
-    new ≡ cond (p (i + 1, x)) (old ++ (i + 1, x) ∷ []) old →
-    new ++ filter p (enumerate_from (i + 1 + 1) (drop (i + 1) xs)) ≡ old ++ filter p (enumerate_from (i + 1) (drop i xs))
-kept_next {A} p xs i x old new at is =
-    by (p (i + 1, x)) is ∙ ap (λ (l : List A). old ++ filter p (enumerate_from (i + 1) l)) (sym (left-next xs i x at))
+-- The next element is kept or not.
+pub kept : {A : Type 0} (p : A → Bool) (x : A) (xs old new : List A) → new ≡ cond (p x) (old ++ x ∷ []) old →
+    new ++ filter p xs ≡ old ++ filter p (x ∷ xs)
+kept {A} p x xs old new is = by (p x) is
   where
-    by : (b : Bool) → new ≡ cond b (old ++ (i + 1, x) ∷ []) old →
-        new ++ filter p (enumerate_from (i + 1 + 1) (drop (i + 1) xs))
-        ≡ old ++ cond b ((i + 1, x) ∷ filter p (enumerate_from (i + 1 + 1) (drop (i + 1) xs))) (filter p (enumerate_from (i + 1 + 1) (drop (i + 1) xs)))
-    by true e = ap (λ n. n ++ filter p (enumerate_from (i + 1 + 1) (drop (i + 1) xs))) e ∙ append_assoc old ((i + 1, x) ∷ []) _
-    by false e = ap (λ n. n ++ filter p (enumerate_from (i + 1 + 1) (drop (i + 1) xs))) e
-
-pub kept_yes : {A : Type 0} (p : ℕ × A → Bool) (xs : List A) (i : ℕ) (x : A) (old new : List (ℕ × A)) → slice_get xs i ≡ Some x →
-    p (i + 1, x) ≡ true → new ≡ old ++ (i + 1, x) ∷ [] →
-    new ++ filter p (enumerate_from (i + 1 + 1) (drop (i + 1) xs)) ≡ old ++ filter p (enumerate_from (i + 1) (drop i xs))
-kept_yes p xs i x old new at kept is = kept_next p xs i x old new at (rw kept is)
-
-pub kept_no : {A : Type 0} (p : ℕ × A → Bool) (xs : List A) (i : ℕ) (x : A) (old new : List (ℕ × A)) → slice_get xs i ≡ Some x →
-    p (i + 1, x) ≡ false → new ≡ old →
-    new ++ filter p (enumerate_from (i + 1 + 1) (drop (i + 1) xs)) ≡ old ++ filter p (enumerate_from (i + 1) (drop i xs))
-kept_no p xs i x old new at not_kept is = kept_next p xs i x old new at (rw not_kept is)
+    by : (b : Bool) → new ≡ cond b (old ++ x ∷ []) old → new ++ filter p xs ≡ old ++ cond b (x ∷ filter p xs) (filter p xs)
+    by true e = ap (λ n. n ++ filter p xs) e ∙ append_assoc old (x ∷ []) (filter p xs)
+    by false e = ap (λ n. n ++ filter p xs) e
 
 range_suc : (a n : ℕ) → range_with_len a (suc n) ≡ range_with_len a n ++ (a + n) ∷ []
 range_suc a zero = ap (λ (x : ℕ). x ∷ []) (sym (add-zero a))

@@ -22,6 +22,17 @@ glyph_of g kind.ReceiveFailure = g.receive_failure
 glyph_of g kind.Order = g.order
 glyph_of g kind.Obey = g.obey
 glyph_of g kind.Retarget = g.retarget
+glyph_of g kind.Ready = g.line
+glyph_of g kind.Ended = g.ended
+glyph_of g kind.Deleted = g.deleted
+
+-- The same characters, where each arrow is a send that has not arrived.
+abbrev pub opened : Glyphs → Glyphs
+opened g = record g {
+  shaft = g.open_shaft;
+  right_head = g.open_right_head;
+  left_head = g.open_left_head;
+}
 
 -- The place of a thread among the columns.
 abbrev pub place_in : List Column → GlobalId → Option ℕ

@@ -1,13 +1,21 @@
--- What a chart of a history is: threads under their processors, and a row for each step.
-use Rattle.std.specs.Prelude.{ℕ, ◌==◌, Bool, true, false, ◌&&◌, ◌||◌, nat_le, if◌then◌else◌, Option, Some, None, is_none, List, filter, filter_map, flat_map}
-use Rattle.std.specs.List.{enumerate_from, list_any, range_with_len}
+-- What a chart of a history is: threads under their processors, a row for each step, and behind the
+-- last of them what each thread is in.
+use Rattle.std.specs.Prelude.{ℕ, ◌==◌, Bool, true, false, ◌&&◌, ◌||◌, nat_le, if◌then◌else◌, Option, Some, None, is_none, List, filter, filter_map, flat_map, map, take}
+use Rattle.std.specs.List.{list_any, range_with_len}
 use Rattle.l4_model.specs.Words.{GlobalId, same_id}
 use Rattle.l4_model.specs.Machine.{Machine, Declaration}
 use Rattle.l4_model.specs.Steps.{Step, Order}
+use Rattle.l4_model.specs.World.{World, opening}
 use Rattle.l4_types.specs.StepView.{seen}
+use Rattle.l4_waits.specs.Lines.{circles_text}
+use Rattle.l4_chart.specs.Listings.{Listing}
+use Rattle.l4_chart.specs.Standings.{standings_in}
+use Rattle.l4_chart.specs.Told.{Told, told_of, world_behind}
 use Rattle.l4_chart.specs.Windows.{Part}
 use Rattle.l4_chart.specs.Marks.{mark_of}
+use Rattle.l4_chart.specs.declared.chart.Chart.{Chart}
 use Rattle.l4_chart.specs.declared.chart.Row.{Row}
+use Rattle.l4_chart.specs.declared.standings.Standing.{Standing}
 use Rattle.l4_chart.specs.declared.columns.Column.{Column}
 use Rattle.l4_chart.specs.declared.marks.Mark.{Mark}
 use Rattle.l4_chart.specs.declared.marks.Mark.TheVariants.{Point, Arrow, Clock}
@@ -42,19 +50,48 @@ abbrev pub is_of_target : Option (List GlobalId) → Step → Bool
 is_of_target threads (Order caller target what) = is_chosen threads target
 is_of_target threads _ = false
 
--- Whether a step with its number is a row of this part of a chart.
-abbrev pub is_in : Part → List Column → ℕ × Step → Bool
+-- Whether a step is a row of this part of a chart.
+abbrev pub is_in : Part → List Column → Told → Bool
 is_in part columns row =
-    nat_le part.first row.0 && nat_le row.0 part.last
-    && (concerns part.threads columns (mark_of row.1) || is_of_target part.threads row.1)
+    nat_le part.first row.number
+    && (concerns part.threads columns (mark_of row.step) || is_of_target part.threads row.step)
 
--- The steps of a history, counted from 1.
-abbrev pub numbered : List Step → List (ℕ × Step)
-numbered h = enumerate_from 1 h
+-- The steps of a history up to the last of a part, and the world that they lead to.
+
+abbrev pub until_last : Part → List Step → List Step
+until_last part h = take part.last h
+
+abbrev pub last_world : Machine → Part → List Step → World
+last_world m part h = world_behind m (opening m) (until_last part h)
 
 -- The rows of a part of a history.
-abbrev pub rows_of : Machine → Part → List Step → List (ℕ × Step)
-rows_of m part h = filter (is_in part (columns_of m part.threads)) (numbered h)
+abbrev pub rows_of : Machine → Listing → Part → List Step → List Told
+rows_of m listing part h =
+    filter (is_in part (columns_of m part.threads)) (told_of m listing (until_last part h))
 
-abbrev pub row_of : Row → ℕ × Step
-row_of r = (r.number, seen r.step)
+abbrev pub row_of : Row → Told
+row_of r = record { number = r.number; step = seen r.step; to = r.to; at = r.at }
+
+-- What stands in a chart: threads, rows, and what each thread is in behind the last of the steps, with
+-- the circles of threads that wait for each other there.
+pub record Drawn : Type 0 where
+  pub columns : List Column
+  pub rows : List Told
+  pub standings : List Standing
+  pub circles : List ℕ
+
+abbrev pub chart_of : Machine → Listing → Part → List Step → Drawn
+chart_of m listing part h = record {
+  columns = columns_of m part.threads;
+  rows = rows_of m listing part h;
+  standings = standings_in m listing (last_world m part h) (columns_of m part.threads);
+  circles = circles_text m (last_world m part h);
+}
+
+abbrev pub drawn_of : Chart → Drawn
+drawn_of c = record {
+  columns = c.columns.items;
+  rows = map row_of c.rows.items;
+  standings = c.standings.items;
+  circles = c.circles.items;
+}

@@ -1,12 +1,17 @@
 -- What holds of every chart.
-use Rattle.std.specs.Prelude.{ℕ, ◌≡◌, ◌==◌, ◌&&◌, ◌↔◌, Option, None, List, filter, length, map}
+use Rattle.std.specs.Prelude.{ℕ, ◌≡◌, ◌==◌, ◌&&◌, ◌↔◌, Option, Some, List, filter, map}
+use Rattle.std.specs.List.{enumerate_from}
 use Rattle.l4_core_model.specs.Runs.{IsMachine}
 use Rattle.l4_model.specs.Words.{GlobalId}
 use Rattle.l4_model.specs.Machine.{Declaration, Machine}
-use Rattle.l4_model.specs.World.{Name}
+use Rattle.l4_model.specs.History.{reached}
+use Rattle.l4_model.specs.World.{Name, World}
 use Rattle.l4_model.specs.Steps.{Step, Deliver}
-use Rattle.l4_chart.specs.Charts.{columns_of, is_chosen, numbered, rows_of}
+use Rattle.l4_chart.specs.Charts.{columns_of, is_chosen, last_world, rows_of, until_last}
+use Rattle.l4_chart.specs.Listings.{Listing}
 use Rattle.l4_chart.specs.Marks.{mark_of}
+use Rattle.l4_chart.specs.Told.{Told}
+use Rattle.l4_chart.specs.Whole.{whole}
 use Rattle.l4_chart.specs.Windows.{Part}
 use Rattle.l4_chart.specs.declared.columns.Column.{Column}
 use Rattle.l4_chart.specs.declared.marks.Mark.TheVariants.{Arrow}
@@ -27,13 +32,20 @@ ArrowsAreDeliveries =
     (step : Step) (sender receiver : GlobalId) →
     (mark_of step ≡ Arrow sender receiver) ↔ IsDelivery step sender receiver
 
--- All of a history.
-abbrev pub whole : List Step → Part
-whole h = record { first = 1; last = length h; threads = None }
-
 -- The rows of a chart of all of a history are its steps, counted from 1.
+abbrev pub numbered_step : Told → ℕ × Step
+numbered_step row = (row.number, row.step)
+
 abbrev pub RowsAreSteps : Type 0
-RowsAreSteps = (m : Machine) (h : List Step) → rows_of m (whole h) h ≡ numbered h
+RowsAreSteps =
+    (m : Machine) (listing : Listing) (h : List Step) →
+    map numbered_step (rows_of m listing (whole h) h) ≡ enumerate_from 1 h
+
+-- What threads are in is told of the world that the steps up to the last one lead to.
+abbrev pub StandingsAreReached : Type 0
+StandingsAreReached =
+    (m : Machine) (part : Part) (h : List Step) (w : World) →
+    reached m (until_last part h) ≡ Some w → last_world m part h ≡ w
 
 abbrev pub column_of : Declaration → Column
 column_of d = record { id = d.id; cpu = d.cpu }

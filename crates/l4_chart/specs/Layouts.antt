@@ -1,7 +1,7 @@
 -- How a chart is laid out on a terminal, in columns.
 use Rattle.std.specs.Prelude.{ℕ, ◌+◌, ◌-◌, ◌*◌, ◌/◌, max, min, Option, Some, None, List, length, fold, decimal, slice_get}
-use Rattle.l4_model.specs.Steps.{Step}
 use Rattle.l4_words.specs.Threads.{thread_word}
+use Rattle.l4_chart.specs.Told.{Told}
 use Rattle.l4_chart.specs.declared.columns.Column.{Column}
 use Rattle.l4_chart.specs.declared.layout.Layout.{Layout}
 
@@ -9,11 +9,11 @@ use Rattle.l4_chart.specs.declared.layout.Layout.{Layout}
 abbrev pub widest : List Column → ℕ
 widest columns = fold (λ most (c : Column). max most (length (thread_word c.id))) 0 columns
 
-abbrev pub number_in : Option (ℕ × Step) → ℕ
+abbrev pub number_in : Option Told → ℕ
 number_in None = 0
-number_in (Some row) = row.0
+number_in (Some row) = row.number
 
-abbrev pub last_number : List (ℕ × Step) → ℕ
+abbrev pub last_number : List Told → ℕ
 last_number rows = number_in (slice_get rows (length rows - 1))
 
 -- A thread takes two columns more than the longest id, or up to 10 if that leaves 34 for the lines
@@ -32,7 +32,7 @@ abbrev pub layout_in : (number room count longest : ℕ) → Layout
 layout_in number room count longest = layout_with number room (cell_width room count longest) count
 
 -- Numbers take 4 columns or more.
-abbrev pub layout_of : (width : ℕ) → List Column → List (ℕ × Step) → Layout
+abbrev pub layout_of : (width : ℕ) → List Column → List Told → Layout
 layout_of width columns rows =
     let number = max (length (decimal (last_number rows))) 4 in
     layout_in number (width - number) (length columns) (widest columns)

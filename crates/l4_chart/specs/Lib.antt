@@ -4,8 +4,11 @@ pub mod Drawings
 pub mod Inner
 pub mod Laws
 pub mod Layouts
+pub mod Listings
 pub mod Marks
+pub mod Standings
 pub mod Texts
 pub mod Threads
+pub mod Told
 pub mod Windows
 pub mod Whole

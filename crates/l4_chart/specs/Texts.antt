@@ -1,18 +1,20 @@
 -- A chart as text.
 use Rattle.std.specs.Prelude.{ℕ, ◌-◌, ◌==◌, nat_le, if◌then◌else◌, Option, Some, None, List, [], ◌∷◌, ◌++◌, length, take, flat_map, replicate, codes, decimal}
 use Rattle.std.specs.Char.{encode_utf8}
-use Rattle.std.specs.List.{enumerate_from, join_with_byte, repeat}
-use Rattle.l4_model.specs.Steps.{Step}
+use Rattle.std.specs.List.{enumerate_from, repeat}
 use Rattle.l4_words.specs.Threads.{thread_word}
-use Rattle.l4_trace.specs.Lines.{words_of}
-use Rattle.l4_chart.specs.Cells.{stroke_of, cell_of, is_at}
+use Rattle.l4_chart.specs.Cells.{stroke_of, cell_of, is_at, opened}
+use Rattle.l4_chart.specs.Charts.{Drawn}
 use Rattle.l4_chart.specs.Layouts.{layout_of}
 use Rattle.l4_chart.specs.Marks.{mark_of}
+use Rattle.l4_chart.specs.Standings.{standing_mark, standing_words}
+use Rattle.l4_chart.specs.Told.{Told, row_words}
 use Rattle.l4_chart.specs.declared.cells.Cell.{Cell}
 use Rattle.l4_chart.specs.declared.cells.Stroke.{Stroke}
 use Rattle.l4_chart.specs.declared.columns.Column.{Column}
 use Rattle.l4_chart.specs.declared.glyphs.Glyphs.{Glyphs}
 use Rattle.l4_chart.specs.declared.layout.Layout.{Layout}
+use Rattle.l4_chart.specs.declared.standings.Standing.{Standing}
 
 -- A word at the right of `width` columns. The byte of a space is 32.
 abbrev pub right : (width : ℕ) → List ℕ → List ℕ
@@ -28,20 +30,31 @@ abbrev pub cells_text : Glyphs → (width : ℕ) → Stroke → List (ℕ × Col
 cells_text g width stroke places = flat_map (λ (p : ℕ × Column).
     cell_text width (cell_of g stroke p.0 p.1)) places
 
--- The line of a step without its end, cut off if there is less room.
+-- The words of a row, cut off if there is less room.
 abbrev pub cut : Glyphs → (room : ℕ) → List ℕ → List ℕ
 cut g room line = if nat_le (length line) room then line
     else take (room - 1) line ++ encode_utf8 g.cut
 
-abbrev pub line_text : Glyphs → (room : ℕ) → Step → List ℕ
-line_text g room step = if room == 0 then [] else codes "  " ++
-    cut g room (join_with_byte 32 (words_of step))
+abbrev pub line_text : Glyphs → (room : ℕ) → Told → List ℕ
+line_text g room row = if room == 0 then [] else codes "  " ++ cut g room (row_words row)
 
-abbrev pub row_text : Glyphs → Layout → List Column → ℕ × Step → List ℕ
+abbrev pub row_text : Glyphs → Layout → List Column → Told → List ℕ
 row_text g l columns row =
-    right l.number (decimal row.0) ++ cells_text g l.cell (stroke_of columns (mark_of row.1))
-    (enumerate_from 0 columns)
-    ++ line_text g l.line row.1 ++ codes "\n"
+    right l.number (decimal row.number)
+    ++ cells_text g l.cell (stroke_of columns (mark_of row.step)) (enumerate_from 0 columns)
+    ++ line_text g l.line row ++ codes "\n"
+
+-- What a thread is in has no number. Its words are never cut off or left out. They stand alone where
+-- those of rows are left out.
+abbrev pub standing_cells : Glyphs → Layout → List Column → Standing → List ℕ
+standing_cells g l columns s =
+    if l.line == 0 then []
+    else replicate l.number 32 ++ cells_text (opened g) l.cell
+    (stroke_of columns (standing_mark s)) (enumerate_from 0 columns)
+
+abbrev pub standing_text : Glyphs → Layout → List Column → Standing → List ℕ
+standing_text g l columns s =
+    standing_cells g l columns s ++ codes "  " ++ standing_words s ++ codes "\n"
 
 -- Above a thread stands the number of its processor, or a bracket if the thread before it has the
 -- same processor.
@@ -63,9 +76,12 @@ heading g l columns =
     right l.number (codes "cpu") ++ heads_text g l.cell None columns ++ codes "\n"
     ++ right l.number (codes "step") ++ ids_text l.cell columns ++ codes "\n"
 
-abbrev pub text_in : Glyphs → Layout → List Column → List (ℕ × Step) → List ℕ
-text_in g l columns rows = heading g l columns ++ flat_map (row_text g l columns) rows
+-- Last come the lines of circles, as `--waits` prints them.
+abbrev pub text_in : Glyphs → Layout → Drawn → List ℕ
+text_in g l chart =
+    heading g l chart.columns ++ flat_map (row_text g l chart.columns) chart.rows
+    ++ flat_map (standing_text g l chart.columns) chart.standings ++ chart.circles
 
 -- The text of a chart on a terminal of `width` columns.
-abbrev pub text_of : Glyphs → (width : ℕ) → List Column → List (ℕ × Step) → List ℕ
-text_of g width columns rows = text_in g (layout_of width columns rows) columns rows
+abbrev pub text_of : Glyphs → (width : ℕ) → Drawn → List ℕ
+text_of g width chart = text_in g (layout_of width chart.columns chart.rows) chart

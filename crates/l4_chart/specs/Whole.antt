@@ -1,9 +1,11 @@
 -- The chart of a whole history as text.
-use Rattle.std.specs.Prelude.{ℕ, if◌then◌else◌, None, List}
+use Rattle.std.specs.Prelude.{ℕ, if◌then◌else◌, None, List, length}
 use Rattle.l4_model.specs.Machine.{Machine}
 use Rattle.l4_model.specs.Steps.{Step}
-use Rattle.l4_chart.specs.Charts.{columns_of, numbered}
+use Rattle.l4_chart.specs.Charts.{chart_of}
+use Rattle.l4_chart.specs.Listings.{Listing}
 use Rattle.l4_chart.specs.Texts.{text_of}
+use Rattle.l4_chart.specs.Windows.{Part}
 use Rattle.l4_chart.specs.declared.glyphs.Glyphs.{Glyphs}
 use Rattle.l4_chart.specs.declared.glyphs.TheConstants.{LINES, ASCII}
 use Rattle.l4_chart.specs.declared.whole.TextForm.{TextForm}
@@ -11,6 +13,10 @@ use Rattle.l4_chart.specs.declared.whole.TextForm.{TextForm}
 abbrev pub glyphs_of : TextForm → Glyphs
 glyphs_of form = if form.is_ascii then ASCII else LINES
 
--- All threads, and a row for each step.
-abbrev pub whole_text : Machine → List Step → TextForm → List ℕ
-whole_text m h form = text_of (glyphs_of form) form.width (columns_of m None) (numbered h)
+-- All of a history, with all threads.
+abbrev pub whole : List Step → Part
+whole h = record { first = 1; last = length h; threads = None }
+
+abbrev pub whole_text : Machine → Listing → List Step → TextForm → List ℕ
+whole_text m listing h form =
+    text_of (glyphs_of form) form.width (chart_of m listing (whole h) h)

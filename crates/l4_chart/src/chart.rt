@@ -1,32 +1,46 @@
 //! A chart: what stands in it, and in which order.
-ghost use Rattle.std.specs.Prelude.{◌≡◌, ◌==◌, IfOk, map, filter};
+ghost use Rattle.std.specs.Prelude.{◌≡◌, ◌==◌, ◌≤◌, IfOk, OnOk, filter, length, map, take};
 ghost use Rattle.std.specs.List.{list_any};
+ghost use Rattle.l4_model.specs.History.{IsHistory};
+ghost use Rattle.l4_model.specs.World.{opening};
 ghost use Rattle.l4_types.specs.StepView.{seen};
-ghost use Rattle.l4_chart.specs.Charts.{columns_of, rows_of, row_of, is_in, is_of_target, concerns};
-ghost use Rattle.l4_chart.specs.Charts.{numbered};
+ghost use Rattle.l4_chart.specs.Charts.{chart_of, concerns, drawn_of, is_in, is_of_target, row_of};
+ghost use Rattle.l4_chart.specs.Charts.{until_last};
 ghost use Rattle.l4_chart.specs.Laws.{ArrowsAreDeliveries, ColumnsAreThreads, RowsAreSteps};
+ghost use Rattle.l4_chart.specs.Laws.{StandingsAreReached};
 ghost use Rattle.l4_chart.specs.Marks.{mark_of};
+ghost use Rattle.l4_chart.specs.Told.{told_of, world_behind};
 
 use crate::columns::{Column, columns_of};
+use crate::listing::{Instruction, Listing};
 use crate::marks::{Mark, mark_of};
+use crate::standings::{Standing, standings_in};
+use crate::told::told_at;
 use crate::window::Window;
+use l4_audit::world::World;
 use l4_history::history::History;
 use l4_script::machine::Machine;
 use l4_types::errors::NoMemory;
+use l4_types::ids::ThreadId;
 use l4_types::step_ref::StepRef;
 use l4_types::steps::Step;
+use l4_waits::lines::circles_after;
 use std::alloc::Global;
 
-/// A step, and its number in the history, counted from 1.
+/// A step, and its number in the history, counted from 1, with what is told beside its line.
 #[derive(Drop)]
-pub struct Row<'h> {
+pub struct Row<'h, 't> {
     /// Its number.
     pub number: usize,
     /// The step.
     pub step: StepRef<'h>,
+    /// Where its send goes to, if it is a step of one. A delivery tells its receiver itself.
+    pub to: Option<ThreadId>,
+    /// The instruction that a thread runs by it, if one does.
+    pub at: Option<Instruction<'t>>,
 }
 
-impl Row<'_> {
+impl Row<'_, '_> {
     /// What the row shows.
     pub fn mark(&self) -> Mark
         ensures { result ≡ mark_of (seen self.now.step) }
@@ -37,11 +51,15 @@ impl Row<'_> {
 
 /// A chart of a part of a history.
 #[derive(Drop)]
-pub struct Chart<'h> {
+pub struct Chart<'h, 't> {
     /// The threads that are shown, under their processors, the lowest-numbered processor first.
     pub columns: Vec<Column>,
     /// The steps that are shown, in their order.
-    pub rows: Vec<Row<'h>>,
+    pub rows: Vec<Row<'h, 't>>,
+    /// What these threads are in behind the last of the steps, in the order of the columns.
+    pub standings: Vec<Standing<'t>>,
+    /// The lines of the circles of threads that wait for each other there.
+    pub circles: Vec<u8>,
 }
 
 // Whether a processor has one of these threads.
@@ -76,29 +94,37 @@ fn is_of_target(window: &Window<'_>, step: &StepRef<'_>) -> bool
 }
 
 // Whether a row is one of a part of a history.
-fn is_in(window: &Window<'_>, columns: &[Column], row: &Row<'_>) -> bool
+fn is_in(window: &Window<'_>, columns: &[Column], row: &Row<'_, '_>) -> bool
     ensures { result ≡ is_in window.now columns.now (row_of row.now) }
 {
-    window.has_number(row.number)
+    window.first() <= row.number
         && (concerns(window, columns, &row.mark()) || is_of_target(window, &row.step))
 }
 
-// The rows of a part of a history.
-fn rows_of<'h>(
+// The rows of the first `count` steps of a history, which the world takes.
+fn rows_of<'h, 't>(
     alloc: Global,
+    listing: &Listing<'t>,
     history: &'h History,
+    count: usize,
     columns: &[Column],
     window: &Window<'_>,
-) -> Result<Vec<Row<'h>>, NoMemory>
-    ensures { IfOk result (λ rows. map row_of rows.items ≡
-        filter (is_in window.now columns.now) (numbered history.now.steps)) }
+    world: &mut World<'_>,
+) -> Result<Vec<Row<'h, 't>>, NoMemory>
+    requires within { count ≤ length history.now.steps }
+    requires opening { world.old.world ≡ opening world.old.machine }
+    requires possible { IsHistory world.old.machine (take count history.now.steps) }
+    ensures rows { IfOk result (λ rows. map row_of rows.items ≡
+        filter (is_in window.now columns.now)
+        (told_of world.old.machine listing.now (take count history.now.steps))) }
+    ensures world { OnOk result (world.new ≡ record world.old {
+      world = world_behind world.old.machine (opening world.old.machine)
+          (take count history.now.steps);
+    }) }
 {
     let mut rows = Vec::new(alloc);
-    for place in 0..history.len() {
-        let row = Row {
-            number: place + 1,
-            step: history.step(place),
-        };
+    for place in 0..count {
+        let row = told_at(listing, world, place + 1, history.step(place))?;
         if is_in(window, columns, &row) {
             rows.push(row)?;
         }
@@ -106,29 +132,50 @@ fn rows_of<'h>(
     Ok(rows)
 }
 
-impl<'h> Chart<'h> {
+impl<'h, 't> Chart<'h, 't> {
     /// The chart of a part of a history.
+    ///
+    /// `NoMemory`: memory was refused.
     pub fn new(
         alloc: Global,
         machine: &Machine,
+        listing: &Listing<'t>,
         history: &'h History,
         window: &Window<'_>,
-    ) -> Result<Chart<'h>, NoMemory>
-        ensures columns { IfOk result (λ chart.
-            chart.columns.items ≡ columns_of machine.now window.now.threads) }
-        ensures rows { IfOk result (λ chart.
-            map row_of chart.rows.items ≡ rows_of machine.now window.now history.now.steps) }
+    ) -> Result<Chart<'h, 't>, NoMemory>
+        requires { IsHistory machine.now (until_last window.now history.now.steps) }
+        ensures { IfOk result (λ chart. drawn_of chart ≡
+            chart_of machine.now listing.now window.now history.now.steps) }
     {
+        let count = history.len().min(window.last());
         let columns = columns_of(alloc, machine, window)?;
-        let rows = rows_of(alloc, history, columns.as_slice(), window)?;
-        Ok(Chart { columns, rows })
+        let mut world = World::new(alloc, machine)?;
+        let rows = rows_of(
+            alloc,
+            listing,
+            history,
+            count,
+            columns.as_slice(),
+            window,
+            &mut world,
+        )?;
+        let standings = standings_in(alloc, listing, &world, columns.as_slice())?;
+        let circles = circles_after(alloc, machine, history, count)?;
+        Ok(Chart {
+            columns,
+            rows,
+            standings,
+            circles,
+        })
     }
 }
 
-/// A chart of a whole history has a row for each step, its arrows are exactly the deliveries, and
-/// under each processor stand its threads.
+/// A chart of a whole history has a row for each step, its arrows are exactly the deliveries, under
+/// each processor stand its threads, and what threads are in is told of the world that the steps lead
+/// to.
 pub fn law_of_charts()
     ensures rows { RowsAreSteps }
     ensures arrows { ArrowsAreDeliveries }
     ensures columns { ColumnsAreThreads }
+    ensures standings { StandingsAreReached }
 {}

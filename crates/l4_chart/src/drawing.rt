@@ -1,6 +1,6 @@
 //! A chart in each of its forms.
-ghost use Rattle.std.specs.Prelude.{IfOk, map};
-ghost use Rattle.l4_chart.specs.Charts.{row_of};
+ghost use Rattle.std.specs.Prelude.{IfOk};
+ghost use Rattle.l4_chart.specs.Charts.{drawn_of};
 ghost use Rattle.l4_chart.specs.Drawings.{IsDrawing};
 
 use crate::chart::Chart;
@@ -30,12 +30,12 @@ pub enum Form {
 /// Draws a chart in a form. A text is laid out for a terminal of `width` columns.
 pub fn drawing_of(
     alloc: Global,
-    chart: &Chart<'_>,
+    chart: &Chart<'_, '_>,
     form: Form,
     width: usize,
 ) -> Result<Vec<u8>, NoMemory>
-    ensures { IfOk result (λ drawing. IsDrawing form width chart.now.columns.items
-        (map row_of chart.now.rows.items) drawing.items) }
+    ensures { IfOk result (λ drawing.
+        IsDrawing form width (drawn_of chart.now) drawing.items) }
 {
     match form {
         Form::Lines => text_of(alloc, chart, &LINES, width),

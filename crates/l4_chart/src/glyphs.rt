@@ -1,6 +1,6 @@
 //! The characters that a chart is drawn with.
 ghost use Rattle.std.specs.Prelude.{◌≡◌};
-ghost use Rattle.l4_chart.specs.Cells.{glyph_of};
+ghost use Rattle.l4_chart.specs.Cells.{glyph_of, opened};
 
 use crate::marks::Kind;
 
@@ -45,6 +45,16 @@ pub struct Glyphs {
     pub obey: char,
     /// An originator turns.
     pub retarget: char,
+    /// A send that has not arrived, between two lines.
+    pub open_shaft: char,
+    /// The head of such a send to the right.
+    pub open_right_head: char,
+    /// The head of such a send to the left.
+    pub open_left_head: char,
+    /// A thread whose script has ended.
+    pub ended: char,
+    /// A deleted thread.
+    pub deleted: char,
 }
 
 /// For a terminal that shows lines.
@@ -68,6 +78,11 @@ pub const LINES: Glyphs = Glyphs {
     order: '▲',
     obey: '▼',
     retarget: '↻',
+    open_shaft: '╌',
+    open_right_head: '▷',
+    open_left_head: '◁',
+    ended: '┴',
+    deleted: '╳',
 };
 
 /// For any terminal.
@@ -91,6 +106,11 @@ pub const ASCII: Glyphs = Glyphs {
     order: '!',
     obey: 'v',
     retarget: '@',
+    open_shaft: '.',
+    open_right_head: ')',
+    open_left_head: '(',
+    ended: '_',
+    deleted: '#',
 };
 
 impl Glyphs {
@@ -108,6 +128,21 @@ impl Glyphs {
             Kind::Order => self.order,
             Kind::Obey => self.obey,
             Kind::Retarget => self.retarget,
+            Kind::Ready => self.line,
+            Kind::Ended => self.ended,
+            Kind::Deleted => self.deleted,
+        }
+    }
+
+    /// The same characters, where each arrow is a send that has not arrived.
+    pub fn opened(&self) -> Glyphs
+        ensures { result ≡ opened self.now }
+    {
+        Glyphs {
+            shaft: self.open_shaft,
+            right_head: self.open_right_head,
+            left_head: self.open_left_head,
+            ..*self
         }
     }
 }

@@ -46,13 +46,18 @@ fn push_legends(page: &mut String) -> Result<(), AllocError> {
     }
     page.push_str(
         "<li><svg width=\"36\" height=\"18\" viewBox=\"0 -9 36 18\">\
+         <path class=\"open\" d=\"M2 0H22\"/><path class=\"lost\" d=\"M22-5L32 0L22 5z\"/></svg>\
+         a send that has not arrived</li>\n",
+    )?;
+    page.push_str(
+        "<li><svg width=\"36\" height=\"18\" viewBox=\"0 -9 36 18\">\
          <path class=\"clock\" d=\"M2 0H34\"/></svg>a clock advances, in microseconds</li>\n\
          </ul>\n",
     )
 }
 
 // How many deliveries a chart shows.
-fn arrow_count(chart: &Chart<'_>) -> usize {
+fn arrow_count(chart: &Chart<'_, '_>) -> usize {
     chart
         .rows
         .iter()
@@ -60,7 +65,7 @@ fn arrow_count(chart: &Chart<'_>) -> usize {
         .count()
 }
 
-fn push_heading(page: &mut String, scene: &Scene, chart: &Chart<'_>) -> Result<(), AllocError> {
+fn push_heading(page: &mut String, scene: &Scene, chart: &Chart<'_, '_>) -> Result<(), AllocError> {
     let width = scene.width();
     writeln!(
         page,
@@ -72,7 +77,7 @@ fn push_heading(page: &mut String, scene: &Scene, chart: &Chart<'_>) -> Result<(
     page.push_str("</svg>\n")
 }
 
-fn push_body(page: &mut String, scene: &Scene, chart: &Chart<'_>) -> Result<(), NoMemory> {
+fn push_body(page: &mut String, scene: &Scene, chart: &Chart<'_, '_>) -> Result<(), NoMemory> {
     let width = scene.width();
     let height = scene.height().saturating_sub(HEADING).saturating_add(8);
     writeln!(
@@ -89,7 +94,7 @@ fn push_body(page: &mut String, scene: &Scene, chart: &Chart<'_>) -> Result<(), 
 
 /// A chart as a page, an HTML file that stands alone: how much it shows, what the marks mean, and
 /// the picture. It is light or dark as the screen is.
-pub fn html_of(alloc: Global, chart: &Chart<'_>) -> Result<String, NoMemory> {
+pub fn html_of(alloc: Global, chart: &Chart<'_, '_>) -> Result<String, NoMemory> {
     let scene = Scene::of(chart);
     let steps = chart.rows.len();
     let deliveries = arrow_count(chart);

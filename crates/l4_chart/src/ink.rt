@@ -2,12 +2,13 @@
 ghost use Rattle.std.specs.Prelude.{◌≡◌, ◌≤◌, ◌-◌, ◌++◌, OnOk, length, codes, decimal, replicate};
 ghost use Rattle.std.specs.Char.{encode_utf8};
 ghost use Rattle.std.specs.List.{repeat};
-ghost use Rattle.l4_words.specs.Threads.{thread_word};
+ghost use Rattle.l4_words.specs.Threads.{id_word, thread_word};
 ghost use Rattle.l4_chart.specs.Texts.{right};
 
 use itoa::Buffer;
 use l4_types::errors::NoMemory;
-use l4_types::ids::GlobalId;
+use l4_types::ids::{GlobalId, ThreadId};
+use l4_words::spelling;
 
 pub(crate) fn push_text(out: &mut Vec<u8>, text: &str) -> Result<(), NoMemory>
     ensures { OnOk result (out.new.items ≡ out.old.items ++ text.now) }
@@ -56,6 +57,15 @@ pub(crate) fn push_thread(out: &mut Vec<u8>, thread: GlobalId) -> Result<(), NoM
     push_number(out, u64::from(thread.number()))?;
     push_text(out, ".")?;
     push_number(out, u64::from(thread.version()))
+}
+
+// Appends a space and an id as a report has it.
+pub(crate) fn push_id(out: &mut Vec<u8>, id: ThreadId) -> Result<(), NoMemory>
+    ensures { OnOk result (out.new.items ≡ out.old.items ++ codes " " ++ id_word id) }
+{
+    let mut word = String::new(*out.allocator());
+    spelling::push_id(&mut word, id)?;
+    push_text(out, word.as_str())
 }
 
 /// How many digits a number has.

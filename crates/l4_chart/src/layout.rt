@@ -39,7 +39,7 @@ pub(crate) fn widest(columns: &[Column]) -> usize
     widest
 }
 
-fn last_number(rows: &[Row<'_>]) -> usize
+fn last_number(rows: &[Row<'_, '_>]) -> usize
     ensures { result ≡ last_number (map row_of rows.now) }
 {
     match rows.last() {
@@ -60,7 +60,7 @@ fn cell_width(room: usize, count: usize, widest: usize) -> usize
 
 /// The layout of a chart on a terminal of `width` columns. If the threads do not fit, rows are
 /// longer.
-pub fn layout_of(width: usize, chart: &Chart<'_>) -> Layout
+pub fn layout_of(width: usize, chart: &Chart<'_, '_>) -> Layout
     ensures { result ≡ layout_of width chart.now.columns.items (map row_of chart.now.rows.items) }
 {
     let last = last_number(chart.rows.as_slice());

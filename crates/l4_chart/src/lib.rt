@@ -3,7 +3,8 @@
 //!
 //! `Chart::new` says what stands in a chart of a part of a history. Contracts see the columns and
 //! rows of a chart as lists. Each step of the part is a row. The arrows are exactly the deliveries,
-//! each from its sender to its receiver.
+//! each from its sender to its receiver. Behind the last row stands what each thread is in there, and
+//! what it waits for.
 #![tactic(auto)]
 
 pub mod cells;
@@ -14,13 +15,17 @@ pub mod glyphs;
 pub mod html;
 mod ink;
 pub mod layout;
+pub mod listing;
 pub mod marks;
 pub mod mermaid;
 pub mod refused;
 pub mod scene;
 mod shapes;
+pub mod standings;
 pub mod svg;
 pub mod text;
 pub mod threads;
+mod told;
 pub mod whole;
 pub mod window;
+mod words;

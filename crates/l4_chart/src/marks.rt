@@ -7,7 +7,8 @@ use l4_types::ids::GlobalId;
 use l4_types::step_ref::StepRef;
 use l4_types::steps::Step;
 
-/// What a step of one thread is.
+/// What a step of one thread is, or what a thread is in behind the last row. There `Begin`, `Wait` and
+/// `Order` stand for a thread that is in such a phase.
 #[derive(Clone, Copy, Debug, PartialEq, Eq)]
 pub enum Kind {
     /// The thread runs an instruction that concerns nobody else, or ends.
@@ -28,6 +29,12 @@ pub enum Kind {
     Obey,
     /// The originator of its send turns to the receiver (profile 2).
     Retarget,
+    /// Behind the last row: it can run its next instruction.
+    Ready,
+    /// Behind the last row: its script has ended.
+    Ended,
+    /// Behind the last row: it was deleted.
+    Deleted,
 }
 
 /// What a step shows.

@@ -3,9 +3,11 @@
 use crate::chart::{Chart, Row};
 use crate::columns::Column;
 use crate::marks::Mark;
-use crate::text::words_of;
+use crate::standings::Standing;
+use crate::words::words_of;
 use l4_types::errors::NoMemory;
 use l4_types::ids::GlobalId;
+use l4_words::lines::split_line;
 use std::alloc::{AllocError, Global};
 
 // Appends the name of a thread, in which no dot may stand.
@@ -73,9 +75,9 @@ fn push_clock(out: &mut String, columns: &[Column], cpu: u8) -> Result<(), Alloc
     }
 }
 
-fn push_row(out: &mut String, columns: &[Column], row: &Row<'_>) -> Result<(), NoMemory> {
+fn push_row(out: &mut String, columns: &[Column], row: &Row<'_, '_>) -> Result<(), NoMemory> {
     let alloc = *out.allocator();
-    let words = words_of(alloc, &row.step)?;
+    let words = words_of(alloc, row)?;
     let line = String::from_utf8_lossy(alloc, words.as_slice())?;
     match row.mark() {
         Mark::Point { thread, .. } => {
@@ -95,13 +97,59 @@ fn push_row(out: &mut String, columns: &[Column], row: &Row<'_>) -> Result<(), N
     Ok(())
 }
 
+// Appends what a thread is in: a note, or a message that gets lost.
+fn push_standing(out: &mut String, standing: &Standing<'_>) -> Result<(), NoMemory> {
+    let alloc = *out.allocator();
+    let mut words = Vec::new(alloc);
+    standing.push_words(&mut words)?;
+    let line = String::from_utf8_lossy(alloc, words.as_slice())?;
+    if let Mark::Arrow { sender, receiver } = standing.mark() {
+        out.push_str("  ")?;
+        push_name(out, sender)?;
+        out.push_str("--x")?;
+        push_name(out, receiver)?;
+    } else {
+        out.push_str("  Note over ")?;
+        push_name(out, standing.id)?;
+    }
+    out.push_str(": ")?;
+    push_line(out, line.as_str())?;
+    Ok(())
+}
+
+// Appends a note over all threads for each circle.
+fn push_circles(out: &mut String, chart: &Chart<'_, '_>) -> Result<(), NoMemory> {
+    let (Some(first), Some(last)) = (chart.columns.first(), chart.columns.last()) else {
+        return Ok(());
+    };
+    let mut left = chart.circles.as_slice();
+    while let Some((line, rest)) = split_line(left) {
+        let line = String::from_utf8_lossy(*out.allocator(), line)?;
+        out.push_str("  Note over ")?;
+        push_name(out, first.id)?;
+        if first != last {
+            out.push(',')?;
+            push_name(out, last.id)?;
+        }
+        out.push_str(": ")?;
+        push_line(out, line.as_str())?;
+        left = rest;
+    }
+    Ok(())
+}
+
 /// A chart as a sequence diagram of Mermaid: a message for each delivery, and a note for each other
-/// step. A thread that is not shown has no processor there.
-pub fn mermaid_of(alloc: Global, chart: &Chart<'_>) -> Result<String, NoMemory> {
+/// step and for what each thread is in. A send that has not arrived is a message that gets lost. A
+/// thread that is not shown has no processor there.
+pub fn mermaid_of(alloc: Global, chart: &Chart<'_, '_>) -> Result<String, NoMemory> {
     let mut out = String::from_str(alloc, "sequenceDiagram\n")?;
     push_participants(&mut out, chart.columns.as_slice())?;
     for row in &chart.rows {
         push_row(&mut out, chart.columns.as_slice(), row)?;
     }
+    for standing in &chart.standings {
+        push_standing(&mut out, standing)?;
+    }
+    push_circles(&mut out, chart)?;
     Ok(out)
 }

@@ -1,6 +1,7 @@
 //! Where the parts of a picture stand, in whole pixels.
 ghost use Rattle.std.specs.Prelude.{◌≡◌, ◌≤◌, length};
 ghost use Rattle.l4_chart.specs.Inner.Scenes.{column_step, scene_of, at, column_x, row_y, end_x};
+ghost use Rattle.l4_chart.specs.Inner.Scenes.{lines_in, row_count};
 
 use crate::chart::Chart;
 use crate::layout::widest;
@@ -32,7 +33,7 @@ pub struct Scene {
     pub step: u64,
     /// How many threads there are.
     pub columns: u64,
-    /// How many rows there are.
+    /// How many rows there are, with those behind the last step.
     pub rows: u64,
 }
 
@@ -50,15 +51,25 @@ fn column_step(widest: u64) -> u64
     (widest * CHARACTER + 2 * CHARACTER).max(LEAST_STEP)
 }
 
+// How many lines a text has.
+fn lines_in(text: &[u8]) -> usize
+    ensures { result ≡ lines_in text.now }
+{
+    text.iter().filter(|byte| **byte == b'\n').count()
+}
+
 impl Scene {
     /// The picture of a chart.
-    pub fn of(chart: &Chart<'_>) -> Scene
-        ensures { result ≡ scene_of chart.now.columns.items (length chart.now.rows.items) }
+    pub fn of(chart: &Chart<'_, '_>) -> Scene
+        ensures { result ≡ scene_of chart.now.columns.items (row_count (length chart.now.rows.items)
+            (length chart.now.standings.items) (lines_in chart.now.circles.items)) }
     {
         Scene {
             step: column_step(widest(chart.columns.as_slice()) as u64),
             columns: chart.columns.len() as u64,
-            rows: chart.rows.len() as u64,
+            rows: (chart.rows.len() as u64)
+                .saturating_add(chart.standings.len() as u64)
+                .saturating_add(lines_in(chart.circles.as_slice()) as u64),
         }
     }
 

@@ -2,8 +2,8 @@
 
 use crate::marks::Kind;
 
-/// All kinds, in the order of the legend.
-pub(crate) const KINDS: [Kind; 9] = [
+/// All kinds that are drawn, in the order of the legend.
+pub(crate) const KINDS: [Kind; 11] = [
     Kind::Local,
     Kind::Begin,
     Kind::Queue,
@@ -13,6 +13,8 @@ pub(crate) const KINDS: [Kind; 9] = [
     Kind::Order,
     Kind::Obey,
     Kind::Retarget,
+    Kind::Ended,
+    Kind::Deleted,
 ];
 
 /// The class of a kind, by which it has its colour.
@@ -27,6 +29,9 @@ pub(crate) fn class_of(kind: Kind) -> &'static str {
         Kind::Order => "order",
         Kind::Obey => "obey",
         Kind::Retarget => "retarget",
+        Kind::Ready => "ready",
+        Kind::Ended => "ended",
+        Kind::Deleted => "deleted",
     }
 }
 
@@ -42,6 +47,9 @@ pub(crate) fn outline_of(kind: Kind) -> &'static str {
         Kind::Order => "m0-6l6 11h-12z",
         Kind::Obey => "m0 6l6-11h-12z",
         Kind::Retarget => "m-6 0a6 6 0 1 1 6 6m4-3l-4 3l4 3",
+        Kind::Ready => "",
+        Kind::Ended => "m-8 0h16",
+        Kind::Deleted => "m-8 0h16m-12-4l8 8m0-8l-8 8",
     }
 }
 
@@ -57,5 +65,8 @@ pub(crate) fn meaning_of(kind: Kind) -> &'static str {
         Kind::Order => "an order",
         Kind::Obey => "an order is done",
         Kind::Retarget => "a retarget",
+        Kind::Ready => "ready",
+        Kind::Ended => "has ended",
+        Kind::Deleted => "was deleted",
     }
 }

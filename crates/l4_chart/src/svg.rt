@@ -6,8 +6,10 @@ use crate::columns::Column;
 use crate::marks::Kind;
 use crate::scene::{HEADING, LEFT, ROW, Scene};
 use crate::shapes::{class_of, outline_of};
-use crate::text::words_of;
+use crate::standings::Standing;
+use crate::words::words_of;
 use l4_types::errors::NoMemory;
+use l4_words::lines::split_line;
 use std::alloc::{AllocError, Global};
 
 /// The colours and lines of a picture, for light and for dark screens.
@@ -33,6 +35,11 @@ path.rfail{fill:#fff}
 path.order,path.obey{fill:#8250df;stroke:none}
 path.retarget{stroke:#8250df}
 path.clock{stroke:#9a6700;stroke-dasharray:6 4}
+path.open{stroke:#cf222e;stroke-width:2;stroke-dasharray:4 4}
+path.lost{stroke:#cf222e;stroke-width:2;fill:#fff}
+path.ended,path.deleted{stroke-width:2}
+path.behind{stroke:#b7bfc8}
+.circle text{fill:#cf222e;font-weight:bold}
 text.time{fill:#9a6700}
 @media(prefers-color-scheme:dark){
 text{fill:#f0f6fc}
@@ -50,6 +57,10 @@ path.rfail{fill:#0d1117}
 path.order,path.obey{fill:#ab7df8}
 path.retarget{stroke:#ab7df8}
 path.clock{stroke:#d29922}
+path.open{stroke:#ff7b72}
+path.lost{stroke:#ff7b72;fill:#0d1117}
+path.behind{stroke:#4a525c}
+.circle text{fill:#ff7b72}
 text.time{fill:#d29922}
 }
 ";
@@ -188,6 +199,22 @@ fn push_stroke(
     }
 }
 
+// Appends a send that has not arrived: an arrow that ends in front of its receiver.
+fn push_open(svg: &mut String, from: u64, to: u64, y: u64) -> Result<(), AllocError> {
+    let (stop, tip) = if from < to {
+        (to.saturating_sub(18), to.saturating_sub(8))
+    } else {
+        (to.saturating_add(18), to.saturating_add(8))
+    };
+    let above = y.saturating_sub(5);
+    let below = y.saturating_add(5);
+    write!(
+        svg,
+        "<path class=\"open\" d=\"M{from} {y}H{stop}\"/>\
+         <path class=\"lost\" d=\"M{stop} {above}L{tip} {y}L{stop} {below}z\"/>"
+    )
+}
+
 // The class of a row: whether something failed there.
 fn class_of_row(stroke: &Stroke) -> &'static str {
     match *stroke {
@@ -204,17 +231,17 @@ fn shown(line: &[u8]) -> &[u8] {
     line.get(..SHOWN_CHARACTERS).unwrap_or(line)
 }
 
-// Appends a row: its mark, and its line, which is the title too. Lines have no character that needs
-// escaping.
+// Appends a row: its mark, and its words, which are the title too. They have no character that needs
+// escaping: an instruction of a machine is words of letters, digits, `.` and `#`.
 fn push_row(
     svg: &mut String,
     scene: &Scene,
     columns: &[Column],
     place: usize,
-    row: &Row<'_>,
+    row: &Row<'_, '_>,
 ) -> Result<(), NoMemory> {
     let alloc = *svg.allocator();
-    let words = words_of(alloc, &row.step)?;
+    let words = words_of(alloc, row)?;
     let line = String::from_utf8_lossy(alloc, words.as_slice())?;
     let short = String::from_utf8_lossy(alloc, shown(words.as_slice()))?;
     let stroke = stroke_of(columns, &row.mark());
@@ -237,21 +264,102 @@ fn push_row(
     Ok(())
 }
 
-/// Appends the rows of a chart.
-pub(crate) fn push_rows(
+// Appends the beginning of a row behind the last step: its title, which is its text too.
+fn push_behind(
     svg: &mut String,
     scene: &Scene,
-    chart: &Chart<'_>,
+    class: &str,
+    place: usize,
+    words: &[u8],
 ) -> Result<(), NoMemory> {
-    for (place, row) in chart.rows.iter().enumerate() {
-        push_row(svg, scene, chart.columns.as_slice(), place, row)?;
+    let words = String::from_utf8_lossy(*svg.allocator(), words)?;
+    let y = scene.row_y(place);
+    let top = y.saturating_sub(ROW / 2);
+    let base = y.saturating_add(4);
+    let width = scene.width();
+    let x = scene.right().saturating_add(12);
+    write!(
+        svg,
+        "<g class=\"row {class}\"><title>{words}</title><rect class=\"hit\" y=\"{top}\" \
+         width=\"{width}\" height=\"{ROW}\"/>\
+         <text x=\"{x}\" y=\"{base}\">{words}</text>"
+    )?;
+    Ok(())
+}
+
+// Appends what a thread is in: its words, and its mark or its send that has not arrived.
+fn push_standing(
+    svg: &mut String,
+    scene: &Scene,
+    columns: &[Column],
+    place: usize,
+    standing: &Standing<'_>,
+) -> Result<(), NoMemory> {
+    let mut words = Vec::new(*svg.allocator());
+    standing.push_words(&mut words)?;
+    push_behind(svg, scene, "state", place, words.as_slice())?;
+    let y = scene.row_y(place);
+    match stroke_of(columns, &standing.mark()) {
+        Stroke::Dot { at, kind } => push_dot(svg, scene.end_x(at), y, kind)?,
+        Stroke::Shaft { from, to } => push_open(svg, scene.end_x(from), scene.end_x(to), y)?,
+        Stroke::Ticks { .. } => {}
+    }
+    svg.push_str("</g>\n")?;
+    Ok(())
+}
+
+// Appends a row for each circle, from the row of this place on.
+fn push_circles(
+    svg: &mut String,
+    scene: &Scene,
+    first: usize,
+    circles: &[u8],
+) -> Result<(), NoMemory> {
+    let mut place = first;
+    let mut left = circles;
+    while let Some((line, rest)) = split_line(left) {
+        push_behind(svg, scene, "circle", place, line)?;
+        svg.push_str("</g>\n")?;
+        place = place.saturating_add(1);
+        left = rest;
     }
     Ok(())
 }
 
-/// A chart as a picture, an SVG file that stands alone. Each mark has the line of its step as
-/// title. The picture is light or dark as the screen is.
-pub fn svg_of(alloc: Global, chart: &Chart<'_>) -> Result<String, NoMemory> {
+// Appends a line between the last step and what threads are in.
+fn push_border(svg: &mut String, scene: &Scene, place: usize) -> Result<(), AllocError> {
+    let y = scene.row_y(place).saturating_sub(ROW / 2);
+    let width = scene.width();
+    writeln!(svg, "<path class=\"behind\" d=\"M0 {y}H{width}\"/>")
+}
+
+/// Appends the rows of a chart, and behind them what threads are in.
+pub(crate) fn push_rows(
+    svg: &mut String,
+    scene: &Scene,
+    chart: &Chart<'_, '_>,
+) -> Result<(), NoMemory> {
+    let columns = chart.columns.as_slice();
+    for (place, row) in chart.rows.iter().enumerate() {
+        push_row(svg, scene, columns, place, row)?;
+    }
+    let steps = chart.rows.len();
+    push_border(svg, scene, steps)?;
+    for (place, standing) in chart.standings.iter().enumerate() {
+        push_standing(svg, scene, columns, steps.saturating_add(place), standing)?;
+    }
+    let standings = chart.standings.len();
+    push_circles(
+        svg,
+        scene,
+        steps.saturating_add(standings),
+        chart.circles.as_slice(),
+    )
+}
+
+/// A chart as a picture, an SVG file that stands alone. Each mark has the words of its row as title.
+/// The picture is light or dark as the screen is.
+pub fn svg_of(alloc: Global, chart: &Chart<'_, '_>) -> Result<String, NoMemory> {
     let scene = Scene::of(chart);
     let width = scene.width();
     let height = scene.height().saturating_add(8);

@@ -1,35 +1,25 @@
 //! A chart as text.
 ghost use Rattle.std.specs.Prelude.{◌≡◌, ◌<◌, ◌++◌, IfOk, OnOk, None, map, flat_map};
 ghost use Rattle.std.specs.Char.{encode_utf8};
-ghost use Rattle.std.specs.List.{enumerate_from, join_with_byte};
-ghost use Rattle.l4_types.specs.StepView.{seen};
-ghost use Rattle.l4_trace.specs.Lines.{words_of};
-ghost use Rattle.l4_chart.specs.Charts.{row_of};
+ghost use Rattle.std.specs.List.{enumerate_from};
+ghost use Rattle.l4_chart.specs.Charts.{drawn_of, row_of};
 ghost use Rattle.l4_chart.specs.Texts.{cell_text, cells_text, cut, line_text, row_text, head_text};
-ghost use Rattle.l4_chart.specs.Texts.{heads_text, ids_text, heading, text_in, text_of};
+ghost use Rattle.l4_chart.specs.Texts.{heads_text, ids_text, heading, standing_cells};
+ghost use Rattle.l4_chart.specs.Texts.{standing_text, text_of};
 
 use crate::cells::{Cell, Stroke, cell_of, stroke_of};
 use crate::chart::{Chart, Row};
 use crate::columns::Column;
 use crate::glyphs::Glyphs;
 use crate::ink::{
-    push_char, push_chars, push_right_number, push_right_text, push_right_thread, push_text,
+    push_char, push_chars, push_right_number, push_right_text, push_right_thread, push_spaces,
+    push_text,
 };
 use crate::layout::{Layout, layout_of};
-use l4_trace::lines::write_step;
+use crate::standings::Standing;
+use crate::words::words_of;
 use l4_types::errors::NoMemory;
-use l4_types::step_ref::StepRef;
 use std::alloc::Global;
-
-// The line of a step without its end.
-pub(crate) fn words_of(alloc: Global, step: &StepRef<'_>) -> Result<Vec<u8>, NoMemory>
-    ensures { IfOk result (λ line. line.items ≡ join_with_byte 32 (words_of (seen step.now))) }
-{
-    let mut line = Vec::new(alloc);
-    write_step(step, &mut line)?;
-    line.pop();
-    Ok(line)
-}
 
 fn push_cell(out: &mut Vec<u8>, width: usize, cell: &Cell) -> Result<(), NoMemory>
     ensures { OnOk result (out.new.items ≡ out.old.items ++ cell_text width cell.now) }
@@ -73,15 +63,15 @@ fn push_line(
     out: &mut Vec<u8>,
     glyphs: &Glyphs,
     room: usize,
-    step: &StepRef<'_>,
+    row: &Row<'_, '_>,
 ) -> Result<(), NoMemory>
     ensures { OnOk result (out.new.items ≡ out.old.items ++
-        line_text glyphs.now room (seen step.now)) }
+        line_text glyphs.now room (row_of row.now)) }
 {
     if room == 0 {
         return Ok(());
     }
-    let line = words_of(*out.allocator(), step)?;
+    let line = words_of(*out.allocator(), row)?;
     push_text(out, "  ")?;
     push_cut(out, glyphs, room, line.as_slice())
 }
@@ -91,7 +81,7 @@ fn push_row(
     glyphs: &Glyphs,
     layout: &Layout,
     columns: &[Column],
-    row: &Row<'_>,
+    row: &Row<'_, '_>,
 ) -> Result<(), NoMemory>
     ensures { OnOk result (out.new.items ≡ out.old.items ++
         row_text glyphs.now layout.now columns.now (row_of row.now)) }
@@ -99,7 +89,7 @@ fn push_row(
     let stroke = stroke_of(columns, &row.mark());
     push_right_number(out, layout.number, row.number as u64)?;
     push_cells(out, glyphs, layout.cell, &stroke, columns)?;
-    push_line(out, glyphs, layout.line, &row.step)?;
+    push_line(out, glyphs, layout.line, row)?;
     push_text(out, "\n")
 }
 
@@ -107,7 +97,7 @@ fn push_rows(
     out: &mut Vec<u8>,
     glyphs: &Glyphs,
     layout: &Layout,
-    chart: &Chart<'_>,
+    chart: &Chart<'_, '_>,
 ) -> Result<(), NoMemory>
     ensures { OnOk result (out.new.items ≡ out.old.items ++
         flat_map (row_text glyphs.now layout.now chart.now.columns.items)
@@ -115,6 +105,59 @@ fn push_rows(
 {
     for row in &chart.rows {
         push_row(out, glyphs, layout, chart.columns.as_slice(), row)?;
+    }
+    Ok(())
+}
+
+// Appends the lines of threads, with the mark of what one of them is in, where there is room for words
+// of rows.
+fn push_standing_cells(
+    out: &mut Vec<u8>,
+    glyphs: &Glyphs,
+    layout: &Layout,
+    columns: &[Column],
+    standing: &Standing<'_>,
+) -> Result<(), NoMemory>
+    ensures { OnOk result (out.new.items ≡ out.old.items ++
+        standing_cells glyphs.now layout.now columns.now standing.now) }
+{
+    if layout.line == 0 {
+        return Ok(());
+    }
+    let stroke = stroke_of(columns, &standing.mark());
+    push_spaces(out, layout.number)?;
+    push_cells(out, &glyphs.opened(), layout.cell, &stroke, columns)
+}
+
+// Appends what a thread is in.
+fn push_standing(
+    out: &mut Vec<u8>,
+    glyphs: &Glyphs,
+    layout: &Layout,
+    columns: &[Column],
+    standing: &Standing<'_>,
+) -> Result<(), NoMemory>
+    ensures { OnOk result (out.new.items ≡ out.old.items ++
+        standing_text glyphs.now layout.now columns.now standing.now) }
+{
+    push_standing_cells(out, glyphs, layout, columns, standing)?;
+    push_text(out, "  ")?;
+    standing.push_words(out)?;
+    push_text(out, "\n")
+}
+
+fn push_standings(
+    out: &mut Vec<u8>,
+    glyphs: &Glyphs,
+    layout: &Layout,
+    chart: &Chart<'_, '_>,
+) -> Result<(), NoMemory>
+    ensures { OnOk result (out.new.items ≡ out.old.items ++
+        flat_map (standing_text glyphs.now layout.now chart.now.columns.items)
+        chart.now.standings.items) }
+{
+    for standing in &chart.standings {
+        push_standing(out, glyphs, layout, chart.columns.as_slice(), standing)?;
     }
     Ok(())
 }
@@ -180,21 +223,23 @@ fn push_heading(
     push_text(out, "\n")
 }
 
-/// Draws a chart as text on a terminal of `width` columns: two lines of heading, and a line for
-/// each row. If the threads take more columns than there are, lines are longer, and the lines of
-/// steps are left out. Lines of steps that do not fit are cut off.
+/// Draws a chart as text on a terminal of `width` columns: two lines of heading, a line for each
+/// row and for what each thread is in, and the lines of circles. If the threads take more columns
+/// than there are, lines are longer, and the words of rows are left out; those of what threads are
+/// in stand alone. Words of rows that do not fit are cut off.
 pub fn text_of(
     alloc: Global,
-    chart: &Chart<'_>,
+    chart: &Chart<'_, '_>,
     glyphs: &Glyphs,
     width: usize,
 ) -> Result<Vec<u8>, NoMemory>
-    ensures { IfOk result (λ text. text.items ≡
-        text_of glyphs.now width chart.now.columns.items (map row_of chart.now.rows.items)) }
+    ensures { IfOk result (λ text. text.items ≡ text_of glyphs.now width (drawn_of chart.now)) }
 {
     let layout = layout_of(width, chart);
     let mut out = Vec::new(alloc);
     push_heading(&mut out, glyphs, &layout, chart.columns.as_slice())?;
     push_rows(&mut out, glyphs, &layout, chart)?;
+    push_standings(&mut out, glyphs, &layout, chart)?;
+    out.extend_from_slice(chart.circles.as_slice())?;
     Ok(out)
 }

@@ -1,9 +1,11 @@
 //! The chart of a whole history as text.
 ghost use Rattle.std.specs.Prelude.{◌≡◌, IfOk};
+ghost use Rattle.l4_model.specs.History.{IsHistory};
 ghost use Rattle.l4_chart.specs.Whole.{glyphs_of, whole_text};
 
-use crate::chart::{Chart, law_of_charts};
+use crate::chart::Chart;
 use crate::glyphs::{ASCII, Glyphs, LINES};
+use crate::listing::Listing;
 use crate::text::text_of;
 use crate::window::Window;
 use l4_history::history::History;
@@ -26,19 +28,22 @@ fn glyphs_of(form: TextForm) -> &'static Glyphs
     if form.is_ascii { &ASCII } else { &LINES }
 }
 
-/// The chart of all steps of a history, with all threads, as text.
+/// The chart of all steps of a history, with all threads, as text. `listing` is that of the machine's
+/// text.
 ///
 /// `NoMemory`: memory was refused.
 pub fn whole_text(
     alloc: Global,
     machine: &Machine,
+    listing: &Listing<'_>,
     history: &History,
     form: TextForm,
 ) -> Result<Vec<u8>, NoMemory>
-    ensures { IfOk result (λ text. text.items ≡ whole_text machine.now history.now.steps form) }
+    requires { IsHistory machine.now history.now.steps }
+    ensures { IfOk result (λ text.
+        text.items ≡ whole_text machine.now listing.now history.now.steps form) }
 {
-    law_of_charts();
     let window = Window::new(1, history.len(), None);
-    let chart = Chart::new(alloc, machine, history, &window)?;
+    let chart = Chart::new(alloc, machine, listing, history, &window)?;
     text_of(alloc, &chart, glyphs_of(form), form.width)
 }

@@ -1,5 +1,5 @@
 //! Which part of a history a chart shows.
-ghost use Rattle.std.specs.Prelude.{◌≡◌, ◌&&◌, nat_le, is_none};
+ghost use Rattle.std.specs.Prelude.{◌≡◌, is_none};
 ghost use Rattle.std.specs.List.{list_any};
 ghost use Rattle.std.specs.Option.{option_copied};
 ghost use Rattle.l4_model.specs.Words.{same_id};
@@ -78,11 +78,18 @@ impl<'a> Window<'a> {
         }
     }
 
-    /// Whether the step of this number, counted from 1, is one of its steps.
-    pub fn has_number(&self, number: usize) -> bool
-        ensures { result ≡ (nat_le self.now.first number && nat_le number self.now.last) }
+    /// The number of the first step that is shown, counted from 1.
+    pub fn first(&self) -> usize
+        ensures { result ≡ self.now.first }
     {
-        self.first <= number && number <= self.last
+        self.first
+    }
+
+    /// The number of the last step that is shown.
+    pub fn last(&self) -> usize
+        ensures { result ≡ self.now.last }
+    {
+        self.last
     }
 
     /// Whether all threads are shown.

@@ -3,9 +3,9 @@ use Rattle.std.proofs.Common.{◌≡◌, ℕ, zero, suc, ◌+◌, ◌/◌, ◌%�
 use Rattle.std.proofs.Math.Seq.{drop-cons}
 use Rattle.std.proofs.lemmas.List.{drop_all}
 use Rattle.std.proofs.lemmas.Bool.{lt-ltb, le-ltb, eqb-true, eq-eqb}
-use Rattle.l4_states.specs.Inner.Bytes.{put_by, put_number}
+use Rattle.l4_states.specs.Inner.Bytes.{bytes_from, put_by, put_number}
 use Rattle.l4_states.specs.Inner.Codes.{chained, each, length_code, number_code, sized}
-use Rattle.l4_codes.specs.Inner.Written.{Written, with_numbers, Writes, room, IsLeft}
+use Rattle.l4_codes.specs.Inner.Written.{Written, appended, unwritten, with_numbers, zero_bytes, Writes, room, IsLeft}
 
 -- A value, and then another
 pub then : (f g : List ℕ → List ℕ) (a b c : Written) → Writes f a b → Writes g b c → Writes (λ rest. f (g rest)) a c
@@ -108,3 +108,27 @@ pub each_begun : {A : Type 0} (code : A → List ℕ → List ℕ) (usual : ℕ)
 each_begun code usual xs a b size zeros rest =
     zeros (each code xs rest)
     ∙ ap (λ k. with_numbers a (k ∷ each code xs rest)) (sym (usual_length usual (length xs) size))
+
+-- A value that was written by itself
+
+-- It begins with a number above 0.
+pub record BeginsAbove (f : List ℕ → List ℕ) (rest : List ℕ) : Type 0 where
+  pub first : ℕ
+  pub others : List ℕ
+  pub is : f rest ≡ suc first ∷ others
+
+-- No run of zeros goes on in it, so its code may stand behind any other.
+pub written_apart : (f : List ℕ → List ℕ) (w v : Written) → ((rest : List ℕ) → BeginsAbove f rest) →
+    Writes f unwritten v → Writes f w (appended w v)
+written_apart f w v above is rest =
+    append_assoc (w.bytes ++ zero_bytes w.zeros) v.bytes (bytes_from v.zeros rest)
+    ∙ ap (λ bs. (w.bytes ++ zero_bytes w.zeros) ++ bs) (is rest)
+    ∙ by w.zeros (f rest) (above rest).is
+  where
+    by : (zeros : ℕ) (ns : List ℕ) → ns ≡ suc (above rest).first ∷ (above rest).others →
+        (w.bytes ++ zero_bytes zeros) ++ bytes_from 0 ns ≡ w.bytes ++ bytes_from zeros ns
+    by zero ns e = append_assoc w.bytes [] (bytes_from 0 ns)
+    by (suc zeros) ns e =
+        append_assoc w.bytes (0 ∷ suc zeros ∷ []) (bytes_from 0 ns)
+        ∙ ap (λ ms. w.bytes ++ 0 ∷ suc zeros ∷ bytes_from 0 ms) e
+        ∙ ap (λ ms. w.bytes ++ bytes_from (suc zeros) ms) (sym e)

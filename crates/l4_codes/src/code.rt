@@ -2,7 +2,7 @@
 ghost use Rattle.std.specs.Prelude.{◌≡◌, ◌+◌, ◌^◌, ◌<◌, ◌++◌, [], List, ℕ, IfOk, OnOk};
 ghost use Rattle.l4_states.specs.Inner.Bytes.{put_number};
 ghost use Rattle.l4_states.specs.Inner.Codes.{each, flag_code, length_code, number_code};
-ghost use Rattle.l4_codes.specs.Inner.Written.{with_numbers, zeros_told, Writes};
+ghost use Rattle.l4_codes.specs.Inner.Written.{appended, with_numbers, zeros_told, Writes};
 
 use std::alloc::{AllocError, Global};
 use std::marker::Model;
@@ -90,6 +90,33 @@ impl Code {
             self.put(*number)?;
         }
         Ok(())
+    }
+
+    /// Appends a code that was written by itself. Its value is written too where that begins with a
+    /// number above 0.
+    ///
+    /// `AllocError`: memory was refused.
+    pub fn append(&mut self, other: &Code) -> Result<(), AllocError>
+        ensures { OnOk result (self.new ≡ appended self.old other.now) }
+    {
+        self.end_zeros()?;
+        self.bytes.extend_from_slice(&other.bytes)?;
+        self.zeros = other.zeros;
+        Ok(())
+    }
+
+    /// Its bytes so far, without the zeros that are not in them yet.
+    pub fn bytes(&self) -> &[u8]
+        ensures { result.now ≡ self.now.bytes }
+    {
+        &self.bytes
+    }
+
+    /// The number of zeros behind its bytes that are not in them yet.
+    pub fn zeros(&self) -> u8
+        ensures { result ≡ self.now.zeros }
+    {
+        self.zeros
     }
 
     /// The bytes of the code.

@@ -24,6 +24,7 @@ pub fn put_core(code: &mut Code, core: &Core<'_>) -> Result<(), AllocError>
     ensures { OnOk result (Writes (local_code (length core.now.machine.threads) core.now.local)
         code.old code.new) }
 {
+    code.put(1)?;
     put_threads(code, core)?;
     put_lists(code, core)?;
     put_told(code, core)?;

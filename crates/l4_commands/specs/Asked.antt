@@ -36,7 +36,7 @@ use Rattle.l4_commands.specs.declared.job.Scheduler.TheVariants.{Any, Placed}
 use Rattle.l4_commands.specs.declared.job.TextChart.{TextChart}
 use Rattle.l4_commands.specs.declared.job.Wanted.{Wanted}
 use Rattle.l4_commands.specs.declared.job.Wanted.TheVariants.{Whatever, NoEnding, AnEnding}
-use Rattle.l4_commands.specs.declared.texts.TheConstants.{INPUT_TWICE, SCHEDULE_OF_RUN, RECORD_AND_EXPECT, TURNS_ALONE, NEXT_BESIDE, OVER_ITS_FILE, TWO_FORMS, UNKNOWN_LINE, DELETED_LINE, NUMBER_LINE, NONE_AND_SOME, TRACE_BESIDE, CHART_AND_JSON}
+use Rattle.l4_commands.specs.declared.texts.TheConstants.{INPUT_TWICE, SCHEDULE_OF_RUN, RECORD_AND_EXPECT, TURNS_ALONE, NEXT_BESIDE, OVER_ITS_FILE, TWO_FORMS, UNKNOWN_LINE, DELETED_LINE, NUMBER_LINE, NONE_AND_SOME, TRACE_BESIDE, CHART_AND_JSON, CHART_BESIDE}
 use Rattle.l4_commands.specs.declared.words.WordsFault.{WordsFault}
 use Rattle.l4_commands.specs.declared.words.WordsFault.TheVariants.{Help, Usage, NoMemory}
 
@@ -69,9 +69,16 @@ extras_in rows = record {
   counts = has_flag (codes "counts") rows;
 }
 
+-- The chart that is drawn of a run, a replay or an ending is for a terminal that shows lines, until the
+-- output is known.
+abbrev pub text_chart : (asked : Bool) → Option TextChart
+text_chart true = Some (record { shows_lines = true; width = 0 })
+text_chart false = None
+
 abbrev pub printed_in : List Row → Printed
 printed_in rows = record {
   report = has_flag (codes "report") rows;
+  chart = text_chart (has_flag (codes "chart") rows);
   extras = extras_in rows;
   json = has_flag (codes "json") rows;
 }
@@ -173,11 +180,6 @@ abbrev pub traced_in : List Row → Option (Option ℕ)
 traced_in rows =
     traced_by (first_of (codes "trace") rows) (number_in (codes "trace") rows)
 
--- The chart that is drawn of an ending is for a terminal that shows lines, until the output is known.
-abbrev pub text_chart : (asked : Bool) → Option TextChart
-text_chart true = Some (record { shows_lines = true; width = 0 })
-text_chart false = None
-
 pub record IsSearchOf (rows : List Row) (search : EndingsJob) : Type 0 where
   pub file : Some search.file.now ≡ first_of (codes "file") rows
   pub scheduler : search.scheduler ≡ scheduler_by (has_flag (codes "placed") rows)
@@ -248,19 +250,28 @@ record_told rows =
     else (if has_value (codes "record") rows && has_value (codes "expect") rows
     then Some RECORD_AND_EXPECT.now else None)
 
+-- A chart is drawn in place of a report, and its lines are no objects.
+abbrev pub is_chart_beside : List Row → Bool
+is_chart_beside rows =
+    has_flag (codes "chart") rows
+    && (has_flag (codes "report") rows || has_flag (codes "json") rows)
+
+abbrev pub drawn_told : List Row → Option Text
+drawn_told rows = if is_chart_beside rows then Some CHART_BESIDE.now else record_told rows
+
 -- Of a run whose arguments exclude each other, or that has a schedule, which it does not take.
 abbrev pub run_told : List Row → Option Text
 run_told rows =
-    if has_value (codes "schedule") rows then Some SCHEDULE_OF_RUN.now else record_told rows
+    if has_value (codes "schedule") rows then Some SCHEDULE_OF_RUN.now else drawn_told rows
 
 -- What may happen next is printed in place of what the others print, judge or record.
 abbrev pub is_next_beside : List Row → Bool
 is_next_beside rows =
     has_flag (codes "next") rows
     && (has_flag (codes "then-rest") rows || has_value (codes "turns") rows
-    || has_flag (codes "report") rows || has_flag (codes "waits") rows
-    || has_flag (codes "counts") rows || has_value (codes "record") rows
-    || has_value (codes "expect") rows)
+    || has_flag (codes "report") rows || has_flag (codes "chart") rows
+    || has_flag (codes "waits") rows || has_flag (codes "counts") rows
+    || has_value (codes "record") rows || has_value (codes "expect") rows)
 
 abbrev pub has_turns_alone : List Row → Bool
 has_turns_alone rows = has_value (codes "turns") rows && not (has_flag (codes "then-rest") rows)
@@ -269,7 +280,7 @@ has_turns_alone rows = has_value (codes "turns") rows && not (has_flag (codes "t
 abbrev pub replay_told : List Row → Option Text
 replay_told rows =
     if is_next_beside rows then Some NEXT_BESIDE.now
-    else (if has_turns_alone rows then Some TURNS_ALONE.now else record_told rows)
+    else (if has_turns_alone rows then Some TURNS_ALONE.now else drawn_told rows)
 
 abbrev pub chart_told : List Row → Option Text
 chart_told rows = if is_none (form_of (flags_in rows)) then Some TWO_FORMS.now else None

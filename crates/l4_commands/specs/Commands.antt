@@ -37,6 +37,7 @@ run_rules =
     place (codes "file")
     ∷ number (codes "turns") (codes "100000" ∷ [])
     ∷ flag (codes "report")
+    ∷ flag (codes "chart")
     ∷ flag (codes "waits")
     ∷ flag (codes "counts")
     ∷ flag (codes "json")
@@ -53,6 +54,7 @@ replay_rules =
     ∷ number (codes "turns") []
     ∷ flag (codes "next")
     ∷ flag (codes "report")
+    ∷ flag (codes "chart")
     ∷ flag (codes "waits")
     ∷ flag (codes "counts")
     ∷ flag (codes "json")

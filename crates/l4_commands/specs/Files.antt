@@ -6,6 +6,7 @@ use Rattle.std.specs.Str.{bytes_eq}
 use Rattle.l4_commands.specs.declared.job.ChartForm.{ChartForm}
 use Rattle.l4_commands.specs.declared.job.ChartForm.TheVariants.{Lines, Ascii}
 use Rattle.l4_commands.specs.declared.job.Job.{Job}
+use Rattle.l4_commands.specs.declared.job.Printed.{Printed}
 use Rattle.l4_commands.specs.declared.job.TextChart.{TextChart}
 use Rattle.l4_commands.specs.declared.job.Job.TheVariants.{Run, Replay, Next, Audit, Chart, Endings, Lint}
 
@@ -70,7 +71,15 @@ chart_on shows_lines columns None = None
 chart_on shows_lines columns (Some chart) =
     Some (record { shows_lines = shows_lines; width = columns })
 
+abbrev pub printed_on : (shows_lines : Bool) → (columns : ℕ) → Printed → Printed
+printed_on shows_lines columns p =
+    record p { chart = chart_on shows_lines columns p.chart }
+
 abbrev pub on_output : (shows_lines : Bool) → (columns : ℕ) → Job → Job
+on_output shows_lines columns (Run run) =
+    Run (record run { printed = printed_on shows_lines columns run.printed })
+on_output shows_lines columns (Replay replay) =
+    Replay (record replay { printed = printed_on shows_lines columns replay.printed })
 on_output shows_lines columns (Chart c) = Chart (record c {
   form = form_on shows_lines c.form;
   width = width_on columns c.width;

@@ -7,6 +7,7 @@ ghost use Rattle.l4_commands.specs.Asked.{IsAuditOf, IsChartOf, IsJobIn, IsLintO
 ghost use Rattle.l4_commands.specs.Asked.{IsReplayOf, IsRunOf, IsSearchOf, are_two, chart_told};
 ghost use Rattle.l4_commands.specs.Asked.{endings_told, extras_in, flags_in, form_of, has_flag};
 ghost use Rattle.l4_commands.specs.Asked.{has_turns_alone, has_value, is_input_of, is_next_beside};
+ghost use Rattle.l4_commands.specs.Asked.{drawn_told, is_chart_beside};
 ghost use Rattle.l4_commands.specs.Asked.{is_chart_and_json, is_none_and_some, is_over_file, is_same};
 ghost use Rattle.l4_commands.specs.Asked.{is_trace_beside, judged_in, line_told, lines_told};
 ghost use Rattle.l4_commands.specs.Asked.{lists_input, names_input, names_input_twice, number_in};
@@ -19,8 +20,8 @@ use crate::job::{
     Printed, ReplayJob, RunJob, Scheduler, TextChart, Wanted, list_name,
 };
 use crate::texts::{
-    CHART_AND_JSON, INPUT_TWICE, NEXT_BESIDE, NONE_AND_SOME, OVER_ITS_FILE, RECORD_AND_EXPECT,
-    SCHEDULE_OF_RUN, TRACE_BESIDE, TURNS_ALONE, TWO_FORMS,
+    CHART_AND_JSON, CHART_BESIDE, INPUT_TWICE, NEXT_BESIDE, NONE_AND_SOME, OVER_ITS_FILE,
+    RECORD_AND_EXPECT, SCHEDULE_OF_RUN, TRACE_BESIDE, TURNS_ALONE, TWO_FORMS,
 };
 use clap::ArgMatches;
 use l4_lines::lines::{LineFault, line_fault};
@@ -67,12 +68,24 @@ fn extras(matches: &ArgMatches<'_>) -> Extras
     }
 }
 
+// The chart that is drawn, for a terminal that shows lines.
+fn text_chart(asked: bool) -> Option<TextChart>
+    ensures { result ≡ text_chart asked }
+{
+    asked.then_some(TextChart {
+        shows_lines: true,
+        width: 0,
+    })
+}
+
 // What `run` and `replay` print.
 fn printed(matches: &ArgMatches<'_>) -> Printed
     ensures { result ≡ printed_in (rows_in matches.now) }
 {
+    let is_drawn = has_flag(matches, "chart");
     Printed {
         report: has_flag(matches, "report"),
+        chart: text_chart(is_drawn),
         extras: extras(matches),
         json: has_flag(matches, "json"),
     }
@@ -226,16 +239,6 @@ fn wanted_by(none: bool, some: bool) -> Option<Wanted>
     }
 }
 
-// The chart that is drawn of an ending, for a terminal that shows lines.
-fn text_chart(asked: bool) -> Option<TextChart>
-    ensures { result ≡ text_chart asked }
-{
-    asked.then_some(TextChart {
-        shows_lines: true,
-        width: 0,
-    })
-}
-
 // The number of the ending whose trace is asked for: `Some(None)` where none is.
 fn trace_number(matches: &ArgMatches<'_>) -> Option<Option<u64>>
     ensures { IfSome result (λ traced. Some traced ≡ traced_in (rows_in matches.now)) }
@@ -333,6 +336,23 @@ fn record_conflict<'a>(matches: &ArgMatches<'a>) -> Option<Conflict<'a>>
     None
 }
 
+// Whether a chart is asked for beside a report or objects.
+fn is_chart_beside(matches: &ArgMatches<'_>) -> bool
+    ensures { result ≡ is_chart_beside (rows_in matches.now) }
+{
+    has_flag(matches, "chart") && (has_flag(matches, "report") || has_flag(matches, "json"))
+}
+
+// Why there can be no such chart, or no such record.
+fn drawn_conflict<'a>(matches: &ArgMatches<'a>) -> Option<Conflict<'a>>
+    ensures { option_map usage_text result ≡ drawn_told (rows_in matches.now) }
+{
+    if is_chart_beside(matches) {
+        return Some(Conflict::Arguments(CHART_BESIDE));
+    }
+    record_conflict(matches)
+}
+
 // Which arguments of `run` exclude each other, or the one that it does not take.
 fn run_conflict<'a>(matches: &ArgMatches<'a>) -> Option<Conflict<'a>>
     ensures { option_map usage_text result ≡ run_told (rows_in matches.now) }
@@ -340,7 +360,7 @@ fn run_conflict<'a>(matches: &ArgMatches<'a>) -> Option<Conflict<'a>>
     if has_value(matches, "schedule") {
         return Some(Conflict::Arguments(SCHEDULE_OF_RUN));
     }
-    record_conflict(matches)
+    drawn_conflict(matches)
 }
 
 // Whether `replay` is given `--next` beside what it is printed in place of.
@@ -351,6 +371,7 @@ fn is_next_beside(matches: &ArgMatches<'_>) -> bool
         && (has_flag(matches, "then-rest")
             || has_value(matches, "turns")
             || has_flag(matches, "report")
+            || has_flag(matches, "chart")
             || has_flag(matches, "waits")
             || has_flag(matches, "counts")
             || has_value(matches, "record")
@@ -374,7 +395,7 @@ fn replay_conflict<'a>(matches: &ArgMatches<'a>) -> Option<Conflict<'a>>
     if has_turns_alone(matches) {
         return Some(Conflict::Arguments(TURNS_ALONE));
     }
-    record_conflict(matches)
+    drawn_conflict(matches)
 }
 
 // Whether `chart` is asked for two forms.

@@ -2,7 +2,7 @@
 ghost use Rattle.std.specs.Prelude.{◌≡◌, ◌||◌};
 ghost use Rattle.std.specs.Option.{option_copied};
 ghost use Rattle.l4_commands.specs.Files.{alone, chart_on, expected_of, file_of, list_name};
-ghost use Rattle.l4_commands.specs.Files.{on_output, second_file_of};
+ghost use Rattle.l4_commands.specs.Files.{on_output, printed_on, second_file_of};
 
 /// The name that stands for the standard input. A file of that name is `./-`.
 pub const INPUT: &str = "-";
@@ -125,7 +125,9 @@ pub const NO_EXTRAS: Extras = Extras {
 pub struct Printed {
     /// Whether the report is printed in place of the trace.
     pub report: bool,
-    /// What is printed behind the trace or the report.
+    /// The chart that is drawn of the steps in place of the trace and the report, if one is.
+    pub chart: Option<TextChart>,
+    /// What is printed behind the trace, the report or the chart.
     pub extras: Extras,
     /// Whether each line is told as an object of JSON. That of a step tells more than its line.
     pub json: bool,
@@ -134,6 +136,7 @@ pub struct Printed {
 /// The trace is printed, and nothing behind it.
 pub const TRACE_ALONE: Printed = Printed {
     report: false,
+    chart: None,
     extras: NO_EXTRAS,
     json: false,
 };
@@ -323,6 +326,14 @@ impl<'a> Job<'a> {
         ensures { result ≡ on_output shows_lines columns self.now }
     {
         match *self {
+            Job::Run(run) => Job::Run(RunJob {
+                printed: printed_on(shows_lines, columns, run.printed),
+                ..run
+            }),
+            Job::Replay(replay) => Job::Replay(ReplayJob {
+                printed: printed_on(shows_lines, columns, replay.printed),
+                ..replay
+            }),
             Job::Chart(chart) => Job::Chart(ChartJob {
                 form: if shows_lines || chart.form != ChartForm::Lines {
                     chart.form
@@ -354,6 +365,16 @@ fn chart_on(shows_lines: bool, columns: u64, chart: Option<TextChart>) -> Option
         shows_lines,
         width: columns,
     })
+}
+
+// What is printed of a run or a replay, with its chart for such an output.
+fn printed_on(shows_lines: bool, columns: u64, printed: Printed) -> Printed
+    ensures { result ≡ printed_on shows_lines columns printed }
+{
+    Printed {
+        chart: chart_on(shows_lines, columns, printed.chart),
+        ..printed
+    }
 }
 
 /// The name of the file that has the schedule: what follows a first `@`. None where there is no

@@ -74,6 +74,12 @@ const REPORT: Argument = Argument {
     help: "Prints what the threads have come to in place of the steps",
 };
 
+const CHART: Argument = Argument {
+    name: "chart",
+    takes: Takes::Nothing,
+    help: "Draws the steps, as `chart` does, in place of their lines",
+};
+
 const WAITS: Argument = Argument {
     name: "waits",
     takes: Takes::Nothing,
@@ -119,6 +125,7 @@ const RUN_ARGUMENTS: &[Argument] = &[
 processor",
     },
     REPORT,
+    CHART,
     WAITS,
     COUNTS,
     JSON,
@@ -169,6 +176,7 @@ them",
         help: "Prints what may happen behind the list in place of all else: items, and their steps",
     },
     REPORT,
+    CHART,
     WAITS,
     COUNTS,
     JSON,

@@ -2,7 +2,7 @@
 
 /// The version of the program and of the kit that proves it, and the profiles and formats that it
 /// reads.
-pub const VERSION: &str = "0.39
+pub const VERSION: &str = "0.40
 rattle-kit-13f logic dac8208d650f15bf
 profiles 1 and 2, words of 64 and 32 bits";
 
@@ -18,7 +18,9 @@ pub const RUN_EXAMPLE: &str = "Example: `l4run run ping.l4`, where the file ping
   ipc nil any never never
 
 prints a line for each step: 1.1 sends the word 10 to 2.1, which waits for anybody.
-With `--report` it prints what the two threads have come to in place of it.
+With `--report` it prints what the two threads have come to in place of it, with `--chart` a chart \
+of the steps, as
+`l4run help chart` shows it.
 
 Behind that, `--waits` tells who waits for whom, as `waits 1.1 2.1 send`, and which threads wait \
 in a circle, as
@@ -108,14 +110,20 @@ and what
 
    cpu         0 ---------
   step       1.1       2.1
-     1         *         |  local 1.1
-     2         |         w  wait 2.1
-     3         *         |  local 1.1
-     4         o         |  begin 1.1#1
-     5         q         |  queue 1.1#1
+     1         *         |  local 1.1 (line 4: set 1 10)
+     2         |         w  wait 2.1 (line 8)
+     3         *         |  local 1.1 (line 5: tag 0x70001)
+     4         o         |  begin 1.1#1 to 2.1 (line 6)
+     5         q         |  queue 1.1#1 to 2.1
      6         +-------->|  deliver 1.1#1 2.1 1.1 1.1 70001 a
      7         |         *  local 2.1
      8         *         |  local 1.1
+               _         |  1.1 ended
+               |         _  2.1 ended
+
+Below the last step stands what each thread is in behind it, and what it waits for: with `--to 3` \
+behind step 3.
+There a send that has not arrived is an arrow `+...)`.
 
 On a terminal that shows them there are lines in place of these characters, unless `TERM` is dumb. \
 Without
@@ -201,9 +209,14 @@ pub const TURNS_ALONE: &str =
 For more information, try '--help'.
 ";
 
+pub const CHART_BESIDE: &str = "error: '--chart' goes with none of '--report' and '--json'
+
+For more information, try '--help'.
+";
+
 pub const NEXT_BESIDE: &str =
-    "error: '--next' goes with none of '--then-rest', '--turns', '--report', '--waits', '--counts', \
-'--record' and '--expect'
+    "error: '--next' goes with none of '--then-rest', '--turns', '--report', '--chart', '--waits', \
+'--counts', '--record' and '--expect'
 
 For more information, try '--help'.
 ";

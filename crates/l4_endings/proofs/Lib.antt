@@ -1,6 +1,6 @@
 pub mod Walking
 pub mod Nexts
 pub mod Ending
-pub mod Coding
+pub mod Finding
 pub mod Listing
 pub mod Depths

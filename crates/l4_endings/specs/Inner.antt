@@ -1,2 +1,4 @@
+pub mod Learned
+pub mod Remembered
 pub mod Tried
 pub mod Walked

@@ -8,6 +8,7 @@ ghost use Rattle.l4_endings.specs.Deepest.{IsDeepest};
 ghost use Rattle.l4_endings.specs.Inner.Tried.{entries_from, told};
 ghost use Rattle.l4_endings.specs.Inner.Walked.{AreChoices};
 
+use crate::memory::Memory;
 use crate::tried::Choices;
 use l4_explore::found::Found;
 use l4_explore::progress::Progress;
@@ -62,7 +63,8 @@ pub fn endings<P: Progress>(
         r.is_whole ≡ true → (r.depth < depth) × IsDeepest machine.now r.depth) }
 {
     machine.facts();
-    let mut choices = Choices { machine };
+    let memory = Memory::new(alloc, machine)?;
+    let mut choices = Choices { machine, memory };
     let explored = explore(alloc, &mut choices, depth, most, progress)?;
     Ok(FoundEndings {
         endings: ends(alloc, machine, &explored.found)?,

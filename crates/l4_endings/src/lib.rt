@@ -2,7 +2,8 @@
 //!
 //! An ending is a state at rest: nothing is to be done, armed or under way. A breadth-first search
 //! tries whatever may happen next in each state, once for all states that are similar. So it finds
-//! each ending by a shortest schedule.
+//! each ending by a shortest schedule. What a choice does is replayed once for the parts of a state
+//! that it reads (`l4_parts`), and remembered.
 //!
 //! ```rust
 //! let found = endings(alloc, &machine, 1_000, 100_000, &mut Unheard)?;
@@ -13,6 +14,8 @@
 #![tactic(auto)]
 
 mod endings_of;
+mod learning;
+mod memory;
 mod states;
 mod tried;
 mod walks;

@@ -1,36 +1,67 @@
-//! The states of a search, written as codes.
-ghost use Rattle.std.specs.Prelude.{◌≡◌, ◌<◌, IfOk, OnOk, length};
+//! The states that core runs come to, as rows of numbers.
+ghost use Rattle.std.specs.Prelude.{ℕ, List, not, slice_get, ◌&&◌, ◌≡◌, ◌<◌, ◌≤◌, ◌+◌, ◌*◌, IfOk, OnOk};
 ghost use Rattle.l4_model.specs.Machine.{Machine as MachineOfModel};
-ghost use Rattle.l4_core_model.specs.Runs.{Run, processors};
-ghost use Rattle.l4_explore.specs.Inner.Views.{state_from};
+ghost use Rattle.std.specs.Option.{option_map};
+ghost use Rattle.l4_core_model.specs.Runs.{Run, is_empty, local_at_rest};
+ghost use Rattle.l4_states.specs.Choices.{IsNear};
 ghost use Rattle.l4_machine.specs.UnderWay.{HasRun, IsRun};
 ghost use Rattle.l4_bisimilar.specs.Alike.{contents};
-ghost use Rattle.l4_states.specs.Inner.Codes.{chained, content_code, local_code, mail_code};
-ghost use Rattle.l4_states.specs.Inner.Codes.{mail_to_code};
-ghost use Rattle.l4_states.specs.Inner.Codes.{sized};
-ghost use Rattle.l4_states.specs.Choices.{state_in};
+ghost use Rattle.l4_states.specs.Inner.Codes.{chained, content_code};
 ghost use Rattle.l4_codes.specs.Inner.Written.{Writes};
+ghost use Rattle.l4_parts.specs.Inner.Known.{AreTrue, HasAt, IsRow};
+ghost use Rattle.l4_parts.specs.Inner.Numbers.{AreLonger};
 
 use l4_codes::code::Code;
 use l4_codes::letters::put_letter;
 use l4_codes::processors::put_core;
-use l4_explore::tries::Reached;
 use l4_machine::{Letters, Walk};
+use l4_parts::parts::Parts;
+use l4_rounds::choices::least_deadline;
 use std::alloc::{AllocError, Global};
 
-// Writes the processors.
-fn put_cores(code: &mut Code, walk: &Walk<'_>, cpus: u8) -> Result<(), AllocError>
-    requires run { HasRun walk.now }
-    requires cpus { cpus ≡ walk.now.machine.cpus }
-    ensures { (m : MachineOfModel) (r : Run) → IsRun m r walk.now →
-        OnOk result (Writes (sized m.cpus (local_code (length m.threads)) r.system.locals)
-        code.old code.new) }
+// Whether nothing is to be done on a processor, given its least deadline.
+fn rests_until(is_busy: bool, deadline: Option<u64>) -> bool
+    ensures { (armed : List (ℕ × ℕ)) → deadline ≡ option_map (λ e. e.0) (slice_get armed 0) →
+        result ≡ (not is_busy && is_empty armed) }
 {
-    code.put(0)?;
-    for cpu in 0..cpus {
-        put_core(code, walk.core(cpu))?;
+    match deadline {
+        Some(_) => false,
+        None => !is_busy,
     }
-    Ok(())
+}
+
+// Whether nothing is to be done or armed on a processor. Its least deadline is near.
+fn is_resting(walk: &Walk<'_>, cpu: u8) -> bool
+    requires run { HasRun walk.now }
+    requires cpu { cpu < walk.now.machine.cpus }
+    ensures rests { (m : MachineOfModel) (r : Run) → IsRun m r walk.now →
+        result ≡ local_at_rest m r.system cpu }
+    ensures near { (m : MachineOfModel) (r : Run) → IsRun m r walk.now → IsNear r.system cpu }
+{
+    let _near = least_deadline(walk, cpu);
+    let core = walk.core(cpu);
+    rests_until(core.busy(), core.least_deadline())
+}
+
+// The number of what a processor knows.
+fn number_of_core(
+    alloc: Global,
+    parts: &mut Parts,
+    walk: &Walk<'_>,
+    cpu: u8,
+) -> Result<u32, AllocError>
+    requires run { HasRun walk.now }
+    requires cpu { cpu < walk.now.machine.cpus }
+    ensures longer { AreLonger parts.old.parts.items parts.new.parts.items }
+    ensures are { (m : MachineOfModel) (r : Run) → IsRun m r walk.now →
+        AreTrue m parts.old.parts.items → AreTrue m parts.new.parts.items }
+    ensures number { (m : MachineOfModel) (r : Run) → IsRun m r walk.now →
+        IfOk result (HasAt m r.system parts.new.parts.items cpu) }
+{
+    let rests = is_resting(walk, cpu);
+    let mut code = Code::new(alloc);
+    put_core(&mut code, walk.core(cpu))?;
+    parts.number_of(u32::from(cpu), code, rests)
 }
 
 // Writes the contents of letters, in order.
@@ -45,47 +76,78 @@ fn put_letters(code: &mut Code, letters: Letters<'_>) -> Result<(), AllocError>
     code.put(0)
 }
 
-// Writes the letters that have come to a processor.
-fn put_mail_to(code: &mut Code, walk: &Walk<'_>, cpus: u8, to: u8) -> Result<(), AllocError>
+// The number of the letters of a pair, by their place.
+fn number_of_letters(
+    alloc: Global,
+    parts: &mut Parts,
+    walk: &Walk<'_>,
+    cpus: u8,
+    place: u32,
+) -> Result<u32, AllocError>
     requires run { HasRun walk.now }
     requires cpus { cpus ≡ walk.now.machine.cpus }
-    requires to { to < cpus }
-    ensures { (m : MachineOfModel) (r : Run) → IsRun m r walk.now →
-        OnOk result (Writes (mail_to_code (processors m) r.system.mail to) code.old code.new) }
+    requires past { cpus ≤ place }
+    requires inside { place < cpus + cpus * cpus }
+    ensures longer { AreLonger parts.old.parts.items parts.new.parts.items }
+    ensures are { (m : MachineOfModel) (r : Run) → IsRun m r walk.now →
+        AreTrue m parts.old.parts.items → AreTrue m parts.new.parts.items }
+    ensures number { (m : MachineOfModel) (r : Run) → IsRun m r walk.now →
+        IfOk result (HasAt m r.system parts.new.parts.items place) }
 {
-    for from in 0..cpus {
-        put_letters(code, walk.letters(to, from))?;
-    }
-    Ok(())
+    let count = u32::from(cpus);
+    let to = ((place - count) / count) as u8;
+    let from = ((place - count) % count) as u8;
+    let rests = walk.letters(to, from).is_empty();
+    let mut code = Code::new(alloc);
+    put_letters(&mut code, walk.letters(to, from))?;
+    parts.number_of(place, code, rests)
 }
 
-// Writes all letters under way.
-fn put_mail(code: &mut Code, walk: &Walk<'_>, cpus: u8) -> Result<(), AllocError>
+// The number of the part at a place.
+fn number_of(
+    alloc: Global,
+    parts: &mut Parts,
+    walk: &Walk<'_>,
+    cpus: u8,
+    place: u32,
+) -> Result<u32, AllocError>
     requires run { HasRun walk.now }
     requires cpus { cpus ≡ walk.now.machine.cpus }
-    ensures { (m : MachineOfModel) (r : Run) → IsRun m r walk.now →
-        OnOk result (Writes (mail_code (processors m) r.system.mail) code.old code.new) }
+    requires inside { place < cpus + cpus * cpus }
+    ensures longer { AreLonger parts.old.parts.items parts.new.parts.items }
+    ensures are { (m : MachineOfModel) (r : Run) → IsRun m r walk.now →
+        AreTrue m parts.old.parts.items → AreTrue m parts.new.parts.items }
+    ensures number { (m : MachineOfModel) (r : Run) → IsRun m r walk.now →
+        IfOk result (HasAt m r.system parts.new.parts.items place) }
 {
-    for to in 0..cpus {
-        put_mail_to(code, walk, cpus, to)?;
+    if place < u32::from(cpus) {
+        return number_of_core(alloc, parts, walk, place as u8);
     }
-    Ok(())
+    number_of_letters(alloc, parts, walk, cpus, place)
 }
 
-/// The state that a core run has come to.
+/// The row of the state that a core run has come to. Parts that are new are added.
 ///
 /// `AllocError`: memory was refused.
-pub(crate) fn state_of(alloc: Global, walk: &Walk<'_>, cpus: u8) -> Result<Reached, AllocError>
+pub(crate) fn row_of(
+    alloc: Global,
+    parts: &mut Parts,
+    walk: &Walk<'_>,
+    cpus: u8,
+) -> Result<Vec<u32>, AllocError>
     requires run { HasRun walk.now }
     requires cpus { cpus ≡ walk.now.machine.cpus }
-    ensures { (m : MachineOfModel) (r : Run) → IsRun m r walk.now →
-        IfOk result (λ s. state_from s ≡ state_in m r.system) }
+    requires most { cpus < 17 }
+    ensures longer { AreLonger parts.old.parts.items parts.new.parts.items }
+    ensures are { (m : MachineOfModel) (r : Run) → IsRun m r walk.now →
+        AreTrue m parts.old.parts.items → AreTrue m parts.new.parts.items }
+    ensures row { (m : MachineOfModel) (r : Run) → IsRun m r walk.now →
+        IfOk result (λ row. IsRow m r.system parts.new.parts.items row.items) }
 {
-    let mut code = Code::new(alloc);
-    put_cores(&mut code, walk, cpus)?;
-    put_mail(&mut code, walk, cpus)?;
-    Ok(Reached {
-        code: code.into_bytes()?,
-        is_end: walk.is_at_rest(),
-    })
+    let count = u32::from(cpus) + u32::from(cpus) * u32::from(cpus);
+    let mut row = Vec::with_capacity(alloc, count as usize)?;
+    for place in 0..count {
+        row.push(number_of(alloc, parts, walk, cpus, place)?)?;
+    }
+    Ok(row)
 }

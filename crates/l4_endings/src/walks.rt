@@ -34,26 +34,10 @@ pub(crate) fn walk_to<'m>(
     Ok(walk)
 }
 
-/// The core run that one more choice leads to.
+/// Makes a choice. The least deadline of its processor is not farther ahead than the longest period.
 ///
 /// `NoMemory`: memory was refused.
-pub(crate) fn walk_on<'m>(
-    alloc: Global,
-    machine: &'m Machine,
-    numbers: &[u32],
-    number: u32,
-) -> Result<Walk<'m>, NoMemory>
-    requires few { length numbers.now < 2 ^ 60 }
-    requires choices { AreChoices machine.now (numbers.now ++ number ∷ []) }
-    ensures { IfOk result (IsWalked machine.now (numbers.now ++ number ∷ [])) }
-{
-    let mut walk = walk_to(alloc, machine, numbers)?;
-    make(&mut walk, machine.cpus(), number)?;
-    Ok(walk)
-}
-
-// Makes a choice. The least deadline of its processor is not farther ahead than the longest period.
-fn make(walk: &mut Walk<'_>, cpus: u8, number: u32) -> Result<(), NoMemory>
+pub(crate) fn make(walk: &mut Walk<'_>, cpus: u8, number: u32) -> Result<(), NoMemory>
     requires run { HasRun walk.old }
     requires few { length walk.old.order < 2 ^ 61 }
     requires cpus { cpus ≡ walk.old.machine.cpus }

@@ -20,13 +20,13 @@ audit_done judged m text slice o lines status refused same audited at lines_are 
   unrecorded = unrecorded;
 }
 
-pub chart_done : (chart : ChartJob) (m : Machine) (text slice : List ℕ) (o : Output) (lines : List ℕ) (status : ℕ) (refused : Option ℕ) → slice ≡ text →
-    IsCharted chart m slice lines status → IsRefusedAt m slice refused → o.lines ≡ lines → o.said ≡ refusal_text refused → o.status ≡ status →
-    o.list ≡ None → IsChartDone chart m text o
-chart_done chart m text slice o lines status refused same charted at lines_are said status_is unrecorded = record {
+pub chart_done : (chart : ChartJob) (machine : List ℕ) (m : Machine) (text slice : List ℕ) (o : Output) (lines : List ℕ) (status : ℕ) (refused : Option ℕ) → slice ≡ text →
+    IsCharted chart machine m slice lines status → IsRefusedAt m slice refused → o.lines ≡ lines → o.said ≡ refusal_text refused → o.status ≡ status →
+    o.list ≡ None → IsChartDone chart machine m text o
+chart_done chart machine m text slice o lines status refused same charted at lines_are said status_is unrecorded = record {
   charted =
-      subst (λ t. IsCharted chart m t o.lines o.status) same
-      (subst (λ l. IsCharted chart m slice l o.status) (sym lines_are) (subst (λ s. IsCharted chart m slice lines s) (sym status_is) charted));
+      subst (λ t. IsCharted chart machine m t o.lines o.status) same
+      (subst (λ l. IsCharted chart machine m slice l o.status) (sym lines_are) (subst (λ s. IsCharted chart machine m slice lines s) (sym status_is) charted));
   refused = refused;
   refused_at = subst (λ t. IsRefusedAt m t refused) same at;
   said = said;

@@ -33,7 +33,7 @@ use Rattle.l4_jobs.specs.Nexts.{IsNextDone, IsNextFault}
 use Rattle.l4_jobs.specs.Outputs.{Output}
 use Rattle.l4_jobs.specs.Schedules.{IsReplayFault, asked_schedule, fault_of_result, fault_of_run, named_schedule, run_by_list, run_of_schedule}
 use Rattle.l4_jobs.specs.Searches.{IsAnswerBy, IsDoneBy, fault_of_question, question_of, shown_of}
-use Rattle.l4_questions.specs.declared.beside.Shown.{Shown}
+use Rattle.l4_questions.specs.Beside.{Shown}
 use Rattle.l4_jobs.specs.declared.fault.Fault.{Fault}
 use Rattle.l4_jobs.proofs.Spelled.{trace_right}
 
@@ -73,11 +73,11 @@ answered_right : (scheduler : Scheduler) (q : Question) (m : Machine) (shown : S
 answered_right Any q m shown expected lines unmet status is = is.lawful
 answered_right Placed q m shown expected lines unmet status is = is.lawful
 
-searched_right : (trace : Option ℕ) (search : EndingsJob) (m : Machine) (expected : Option (List Expected)) (o : Output) →
-    IsDoneBy trace search m expected o → question_fault (question_of search) ≡ None
-searched_right None search m expected o is =
-    answered_right search.scheduler (question_of search) m (shown_of search) expected o.lines o.said o.status is.answered
-searched_right (Some number) search m expected o is = is.answered.lawful
+searched_right : (trace : Option ℕ) (search : EndingsJob) (text : List ℕ) (m : Machine) (expected : Option (List Expected)) (o : Output) →
+    IsDoneBy trace search text m expected o → question_fault (question_of search) ≡ None
+searched_right None search text m expected o is =
+    answered_right search.scheduler (question_of search) m (shown_of text search) expected o.lines o.said o.status is.answered
+searched_right (Some number) search text m expected o is = is.answered.lawful
 
 -- On the machine of a text
 
@@ -128,7 +128,7 @@ right_on (Chart chart) text m read expected o f (trace, given, s) (inl is) = abs
 right_on (Chart chart) text m read expected o f (trace, given, s) (inr (right, is)) =
     never_faulty true m chart.trace.now read s.charted.steps f (subst (λ t. IsTraceOf t s.charted.steps) (all_given read trace given) s.charted.reads) (inl refl) is
 right_on (Endings search) text m read expected o f s is =
-    absurd (let bad : None ≡ Some f = sym (ap (option_map fault_of_question) (searched_right search.trace search m expected o s)) ∙ is in cc)
+    absurd (let bad : None ≡ Some f = sym (ap (option_map fault_of_question) (searched_right search.trace search text m expected o s)) ∙ is in cc)
 right_on (Lint lint) text m read expected o f s is = unread (list_name_in lint.schedule) read f is
 
 -- By what is expected

@@ -3,6 +3,7 @@ pub mod Audited
 pub mod Behind
 pub mod Charted
 pub mod Drawing
+pub mod Drawn
 pub mod Faults
 pub mod Making
 pub mod Judged

@@ -47,7 +47,7 @@ one_world m f w v is other = let same : Some w ≡ Some v = sym is ∙ other in 
 one_text : (printed : Printed) (machine_text : List ℕ) (m : Machine) (f : Findings) (lines others : List ℕ) → IsWritten printed machine_text m f lines → IsWritten printed machine_text m f others → others ≡ lines
 one_text printed machine_text m f lines others is other =
     other.lines_are
-    ∙ ap (λ w. lines_of_outcome printed.report printed.json machine_text m f ++ told printed.json (behind printed.extras m w f.history)) (one_world m f other.world is.world other.reaches is.reaches)
+    ∙ ap (λ w. lines_of_outcome printed machine_text m f ++ told printed.json (behind printed.extras m w f.history)) (one_world m f other.world is.world other.reaches is.reaches)
     ∙ sym is.lines_are
 
 one_run : (m : Machine) (list text : List ℕ) (r s : Run) → IsReplayAsked m None list text r → IsReplayAsked m None list text s → r ≡ s

@@ -114,22 +114,22 @@ stuck_arm search wanted.NoEnding false is_whole told status asks is before = cut
 stuck_arm search wanted.Whatever is_any is_whole told status asks is before = cut_arm search is_whole told status is before
 stuck_arm search wanted.AnEnding is_any is_whole told status asks is before = subst (IsStatusOf (Endings search)) (sym is) before
 
-answer_status : (scheduler : Scheduler) (search : EndingsJob) (m : Machine) (expected : Option (List Expected)) (lines unmet : List ℕ) (status : ℕ) →
+answer_status : (scheduler : Scheduler) (search : EndingsJob) (text : List ℕ) (m : Machine) (expected : Option (List Expected)) (lines unmet : List ℕ) (status : ℕ) →
     is_some expected ≡ is_some (expected_of (Endings search)) →
-    IsAnswerBy scheduler m (question_of search) (shown_of search) expected lines unmet status → IsStatusOf (Endings search) status
-answer_status Any search m expected lines unmet status same is =
+    IsAnswerBy scheduler m (question_of search) (shown_of text search) expected lines unmet status → IsStatusOf (Endings search) status
+answer_status Any search text m expected lines unmet status same is =
     stuck_arm search (wanted_of search.wanted) (is_any is.stuck) is.is_stuck_whole is.told_status status refl is.status_is
     (search_status search expected _ _ is.told_status same is.told.status_is)
-answer_status Placed search m expected lines unmet status same is = search_status search expected _ _ status same is.told.status_is
+answer_status Placed search text m expected lines unmet status same is = search_status search expected _ _ status same is.told.status_is
 
 trace_status : (search : EndingsJob) (trace : Option (List ℕ)) (o : Output) → IsTraceOut trace o → IsStatusOf (Endings search) o.status
 trace_status search (Some lines) o (printed, said, is) = inl is
 trace_status search None o (printed, said, one) = inr (inl one)
 
-done_by : (trace : Option ℕ) (search : EndingsJob) (m : Machine) (expected : Option (List Expected)) (o : Output) →
-    is_some expected ≡ is_some (expected_of (Endings search)) → IsDoneBy trace search m expected o → IsStatusOf (Endings search) o.status
-done_by None search m expected o same is = answer_status search.scheduler search m expected o.lines o.said o.status same is.answered
-done_by (Some number) search m expected o same is = trace_status search is.trace o is.out
+done_by : (trace : Option ℕ) (search : EndingsJob) (text : List ℕ) (m : Machine) (expected : Option (List Expected)) (o : Output) →
+    is_some expected ≡ is_some (expected_of (Endings search)) → IsDoneBy trace search text m expected o → IsStatusOf (Endings search) o.status
+done_by None search text m expected o same is = answer_status search.scheduler search text m expected o.lines o.said o.status same is.answered
+done_by (Some number) search text m expected o same is = trace_status search is.trace o is.out
 
 -- Of what a trace or a lint tells
 
@@ -159,7 +159,7 @@ status_on (Next next) text m second expected o same (list, reads, is) = inl is.s
 status_on (Audit audit) text m second expected o same (trace, given, is) =
     audit_status (Audit audit) audit.judged m trace o.lines o.status is.audited
 status_on (Chart chart) text m second expected o same (trace, given, is) = chart_status (Chart chart) _ o.status is.charted.status_is
-status_on (Endings search) text m second expected o same is = done_by search.trace search m expected o same is
+status_on (Endings search) text m second expected o same is = done_by search.trace search text m expected o same is
 status_on (Lint lint) text m second expected o same (list, reads, is) = list_status (Lint lint) _ o.status is.status_is
 
 status_for : (job : Job) (text : List ℕ) (d : Result Machine TextFault) (second expects : Gives) (o : Output) → IsInLinesFor job text d second expects o →

@@ -5,8 +5,9 @@ use Rattle.l4_model.specs.Words.{GlobalId}
 use Rattle.l4_model.specs.Machine.{Machine}
 use Rattle.l4_model.specs.Steps.{Step}
 use Rattle.l4_model.specs.History.{refused_place}
-use Rattle.l4_chart.specs.Charts.{columns_of, rows_of}
+use Rattle.l4_chart.specs.Charts.{chart_of}
 use Rattle.l4_chart.specs.Drawings.{IsDrawing}
+use Rattle.l4_chart.specs.Listings.{listing_of}
 use Rattle.l4_chart.specs.Threads.{threads_of}
 use Rattle.l4_chart.specs.Windows.{Part, until_refused}
 use Rattle.l4_chart.specs.declared.threads.ThreadsFault.{ThreadsFault}
@@ -55,16 +56,18 @@ abbrev pub status_of_refused : Option ℕ → ℕ
 status_of_refused None = 0
 status_of_refused (Some number) = 1
 
--- These lines are the chart of the chosen threads, with the steps before the first that is not
--- possible.
-pub record IsCharted (chart : ChartJob) (m : Machine) (trace lines : List ℕ) (status : ℕ) :
-    Type 0 where
+-- These lines are the chart of the chosen threads of the machine that a text declares, with the steps
+-- before the first that is not possible.
+pub record IsCharted (chart : ChartJob) (text : List ℕ) (m : Machine) (trace lines : List ℕ)
+    (status : ℕ) : Type 0 where
   pub threads : Option (List GlobalId)
   pub chosen : chosen_by m chart ≡ Ok threads
   pub steps : List Step
   pub reads : IsTraceOf trace steps
-  pub drawn : IsDrawing (drawing_form chart.form) (text_width chart.width) (columns_of m threads)
-      (rows_of m (until_refused (refused_place m steps) (part_of chart threads)) steps) lines
+  pub drawn :
+      IsDrawing (drawing_form chart.form) (text_width chart.width)
+      (chart_of m (listing_of text)
+      (until_refused (refused_place m steps) (part_of chart threads)) steps) lines
   pub status_is : status ≡ status_of_refused (refused_place m steps)
 
 -- The fault of its list of threads.
@@ -76,8 +79,9 @@ abbrev pub fault_of_threads : Result (Option (List GlobalId)) ℕ → Option Fau
 fault_of_threads (Ok threads) = None
 fault_of_threads (Err number) = Some (fault.Threads number)
 
-pub record IsChartDone (chart : ChartJob) (m : Machine) (trace : List ℕ) (o : Output) : Type 0 where
-  pub charted : IsCharted chart m trace o.lines o.status
+pub record IsChartDone (chart : ChartJob) (text : List ℕ) (m : Machine) (trace : List ℕ)
+    (o : Output) : Type 0 where
+  pub charted : IsCharted chart text m trace o.lines o.status
   pub refused : Option ℕ
   pub refused_at : IsRefusedAt m trace refused
   pub said : o.said ≡ refusal_text refused

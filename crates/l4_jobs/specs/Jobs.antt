@@ -41,8 +41,8 @@ IsDoneOn (Next next) text m second expected o =
 IsDoneOn (Audit audit) text m second expected o =
     (trace : List ℕ) × second (Ok trace) × IsAuditDone audit.judged m trace o
 IsDoneOn (Chart chart) text m second expected o =
-    (trace : List ℕ) × second (Ok trace) × IsChartDone chart m trace o
-IsDoneOn (Endings search) text m second expected o = IsSearchDone search m expected o
+    (trace : List ℕ) × second (Ok trace) × IsChartDone chart text m trace o
+IsDoneOn (Endings search) text m second expected o = IsSearchDone search text m expected o
 IsDoneOn (Lint lint) text m second expected o =
     (list : List ℕ) × IsRead (list_name_in lint.schedule) second list
     × IsListLinted text m lint.schedule list o

@@ -1,5 +1,5 @@
 -- What is printed and recorded of a run or a replay.
-use Rattle.std.specs.Prelude.{◌≡◌, ℕ, Bool, true, false, Option, Some, None, Ok, List, ◌++◌}
+use Rattle.std.specs.Prelude.{◌≡◌, ◌&&◌, ℕ, Bool, true, false, not, is_none, Option, Some, None, Ok, List, ◌++◌}
 use Rattle.std.specs.List.{list_all}
 use Rattle.std.specs.Option.{option_copied, option_map}
 use Rattle.l4_model.specs.Machine.{Machine}
@@ -9,6 +9,8 @@ use Rattle.l4_core_model.specs.Runs.{Run as CoreRun}
 use Rattle.l4_core_model.specs.Schedules.{Entry, replay_entries}
 use Rattle.l4_types.specs.declared.reports.Ending.{Ending}
 use Rattle.l4_types.specs.declared.reports.Ending.TheVariants.{Quiet, Spent}
+use Rattle.l4_chart.specs.Listings.{listing_of}
+use Rattle.l4_chart.specs.Whole.{whole_text}
 use Rattle.l4_expect.specs.Expected.{Expected}
 use Rattle.l4_machine.specs.Outcomes.{Findings, IsOutcomeOf}
 use Rattle.l4_reports.specs.ReportLines.{report_text}
@@ -18,20 +20,37 @@ use Rattle.l4_trace.specs.Lines.{has_line}
 use Rattle.l4_commands.specs.declared.job.Printed.{Printed}
 use Rattle.l4_commands.specs.declared.job.ReplayJob.{ReplayJob}
 use Rattle.l4_commands.specs.declared.job.RunJob.{RunJob}
+use Rattle.l4_commands.specs.declared.job.TextChart.{TextChart}
 use Rattle.l4_jobs.specs.Expectations.{status_by, unmet_by}
 use Rattle.l4_jobs.specs.Extras.{behind}
 use Rattle.l4_jobs.specs.Objects.{told, told_steps}
 use Rattle.l4_jobs.specs.Outputs.{Output}
 use Rattle.l4_jobs.specs.Schedules.{IsReplayAsked, IsRunAsked}
+use Rattle.l4_jobs.specs.Searches.{text_form}
 
 -- The report of an outcome has the threads, the undecided sends and the ending.
 abbrev pub report_of : Findings → List ℕ
 report_of o = report_text o.threads o.waiting o.ending
 
--- The report of an outcome, or its trace, on the machine that this text declares.
-abbrev pub lines_of_outcome : (report json : Bool) → (text : List ℕ) → Machine → Findings → List ℕ
-lines_of_outcome true json text m o = told json (report_of o)
-lines_of_outcome false json text m o = told_steps json text m o.history
+-- The report of an outcome, or its trace, on the machine that this text declares. A chart stands in
+-- the place of both.
+
+abbrev pub lines_by : (report json : Bool) → (text : List ℕ) → Machine → Findings → List ℕ
+lines_by true json text m o = told json (report_of o)
+lines_by false json text m o = told_steps json text m o.history
+
+abbrev pub charted_or : Option TextChart → (text : List ℕ) → Machine → Findings → List ℕ → List ℕ
+charted_or None text m o lines = lines
+charted_or (Some chart) text m o lines =
+    whole_text m (listing_of text) o.history (text_form chart)
+
+abbrev pub lines_of_outcome : Printed → (text : List ℕ) → Machine → Findings → List ℕ
+lines_of_outcome printed text m o =
+    charted_or printed.chart text m o (lines_by printed.report printed.json text m o)
+
+-- Whether the trace is printed.
+abbrev pub prints_steps : Printed → Bool
+prints_steps printed = not printed.report && is_none printed.chart
 
 -- These lines are printed of an outcome, by the world that its history reaches.
 pub record IsWritten (printed : Printed) (text : List ℕ) (m : Machine) (o : Findings)
@@ -39,10 +58,10 @@ pub record IsWritten (printed : Printed) (text : List ℕ) (m : Machine) (o : Fi
   pub world : World
   pub reaches : reached m o.history ≡ Some world
   pub lines_are : lines ≡
-      lines_of_outcome printed.report printed.json text m o
+      lines_of_outcome printed text m o
       ++ told printed.json (behind printed.extras m world o.history)
   -- each step of a printed trace has a line of its own
-  pub spelled : printed.report ≡ false → list_all has_line o.history ≡ true
+  pub spelled : prints_steps printed ≡ true → list_all has_line o.history ≡ true
 
 -- The exit status by the ending.
 abbrev pub status_of_ending : Ending → ℕ

@@ -2,12 +2,13 @@
 use Rattle.std.specs.Prelude.{◌≡◌, ℕ, not, Option, None, Some, List, []}
 use Rattle.std.specs.Option.{option_map}
 use Rattle.l4_model.specs.Machine.{Machine}
+use Rattle.l4_chart.specs.Listings.{listing_of}
 use Rattle.l4_chart.specs.declared.whole.TextForm.{TextForm}
 use Rattle.l4_expect.specs.Expected.{Expected}
 use Rattle.l4_questions.specs.Answers.{IsAnswer, IsTraceAnswer}
 use Rattle.l4_questions.specs.Limits.{question_fault}
 use Rattle.l4_questions.specs.Placed.{IsPlacedAnswer}
-use Rattle.l4_questions.specs.declared.beside.Shown.{Shown}
+use Rattle.l4_questions.specs.Beside.{AskedChart, Shown}
 use Rattle.l4_questions.specs.declared.question.Question.{Question}
 use Rattle.l4_questions.specs.declared.question.QuestionFault.{QuestionFault}
 use Rattle.l4_questions.specs.declared.question.QuestionFault.TheVariants as question
@@ -48,8 +49,11 @@ text_form chart = record {
   width = text_width chart.width;
 }
 
-abbrev pub shown_of : EndingsJob → Shown
-shown_of e = record { chart = option_map text_form e.chart; waits = e.waits }
+abbrev pub asked_chart : (text : List ℕ) → TextChart → AskedChart
+asked_chart text chart = record { form = text_form chart; listing = listing_of text }
+
+abbrev pub shown_of : (text : List ℕ) → EndingsJob → Shown
+shown_of text e = record { chart = option_map (asked_chart text) e.chart; waits = e.waits }
 
 -- The answer is of all histories, or of the runs that processors make.
 abbrev pub IsAnswerBy : Scheduler → Machine → Question → Shown →
@@ -57,13 +61,13 @@ abbrev pub IsAnswerBy : Scheduler → Machine → Question → Shown →
 IsAnswerBy Any = IsAnswer
 IsAnswerBy Placed = IsPlacedAnswer
 
--- It is printed, and with each ending a chart and who waits for whom, where these are asked for. Each
--- ending that is printed has to meet what is expected.
-pub record IsAnswerDone (search : EndingsJob) (m : Machine) (expected : Option (List Expected))
-    (o : Output) : Type 0 where
+-- It is printed, and with each ending a chart and who waits for whom, where these are asked for, of the
+-- machine that a text declares. Each ending that is printed has to meet what is expected.
+pub record IsAnswerDone (search : EndingsJob) (text : List ℕ) (m : Machine)
+    (expected : Option (List Expected)) (o : Output) : Type 0 where
   pub answered :
-      IsAnswerBy search.scheduler m (question_of search) (shown_of search) expected o.lines o.said
-      o.status
+      IsAnswerBy search.scheduler m (question_of search) (shown_of text search) expected o.lines
+      o.said o.status
   pub unrecorded : o.list ≡ None
 
 -- A trace is printed, or else it is told that no ending has the number.
@@ -80,13 +84,14 @@ pub record IsTraceDone (search : EndingsJob) (m : Machine) (number : ℕ) (o : O
   pub out : IsTraceOut trace o
   pub unrecorded : o.list ≡ None
 
-abbrev pub IsDoneBy : (trace : Option ℕ) → EndingsJob → Machine → Option (List Expected) →
-    Output → Type 0
-IsDoneBy None search m expected o = IsAnswerDone search m expected o
-IsDoneBy (Some number) search m expected o = IsTraceDone search m number o
+abbrev pub IsDoneBy : (trace : Option ℕ) → EndingsJob → (text : List ℕ) → Machine →
+    Option (List Expected) → Output → Type 0
+IsDoneBy None search text m expected o = IsAnswerDone search text m expected o
+IsDoneBy (Some number) search text m expected o = IsTraceDone search m number o
 
-abbrev pub IsSearchDone : EndingsJob → Machine → Option (List Expected) → Output → Type 0
-IsSearchDone search m expected o = IsDoneBy search.trace search m expected o
+abbrev pub IsSearchDone : EndingsJob → (text : List ℕ) → Machine → Option (List Expected) →
+    Output → Type 0
+IsSearchDone search text m expected o = IsDoneBy search.trace search text m expected o
 
 abbrev pub fault_of_question : QuestionFault → Fault
 fault_of_question question.NoMemory = fault.NoMemory

@@ -1,9 +1,10 @@
 //! The chart of a trace.
-ghost use Rattle.std.specs.Prelude.{◌≡◌, ◌⊎◌, ℕ, List, IfOk, IfErr, Ok, Some, map, true};
+ghost use Rattle.std.specs.Prelude.{◌≡◌, ◌⊎◌, ℕ, List, IfOk, IfErr, Ok, Some, true};
 ghost use Rattle.std.specs.Option.{option_copied, option_map};
 ghost use Rattle.l4_model.specs.History.{refused_place};
-ghost use Rattle.l4_chart.specs.Charts.{columns_of, row_of, rows_of};
+ghost use Rattle.l4_chart.specs.Charts.{chart_of, drawn_of};
 ghost use Rattle.l4_chart.specs.Drawings.{IsDrawing};
+ghost use Rattle.l4_chart.specs.Listings.{listing_of};
 ghost use Rattle.l4_chart.specs.Windows.{until_refused};
 ghost use Rattle.l4_jobs.specs.Audits.{IsFaultOfTrace, IsRefusedAt};
 ghost use Rattle.l4_jobs.specs.ChartJobs.{IsChartDone, IsChartFault, IsCharted, chosen_by};
@@ -20,6 +21,7 @@ use crate::streams::Source;
 use crate::trace_output::TraceOutput;
 use l4_chart::chart::Chart;
 use l4_chart::drawing::{Form, drawing_of};
+use l4_chart::listing::Listing;
 use l4_chart::refused::refused_step;
 use l4_chart::threads::threads_of;
 use l4_chart::window::Window;
@@ -95,10 +97,9 @@ fn status_of_refused(refused: Option<usize>) -> u8
 }
 
 // A chart in the form and the width that are asked for.
-fn drawing(alloc: Global, chart: &ChartJob<'_>, shown: &Chart<'_>) -> Result<Vec<u8>, NoMemory>
+fn drawing(alloc: Global, chart: &ChartJob<'_>, shown: &Chart<'_, '_>) -> Result<Vec<u8>, NoMemory>
     ensures { IfOk result (λ drawing. IsDrawing (drawing_form chart.now.form)
-        (text_width chart.now.width) shown.now.columns.items (map row_of shown.now.rows.items)
-        drawing.items) }
+        (text_width chart.now.width) (drawn_of shown.now) drawing.items) }
 {
     drawing_of(
         alloc,
@@ -108,9 +109,10 @@ fn drawing(alloc: Global, chart: &ChartJob<'_>, shown: &Chart<'_>) -> Result<Vec
     )
 }
 
-// What the chart of a history prints, with these threads or all.
+// What the chart of a history prints, with these threads or all, of the machine that `text` declares.
 fn history_chart(
     alloc: Global,
+    text: &[u8],
     machine: &Machine,
     chart: &ChartJob<'_>,
     threads: Option<&[GlobalId]>,
@@ -122,8 +124,7 @@ fn history_chart(
         output.status ≡ status_of_refused (refused_place machine.now history.now.steps)) }
     ensures lines { IfOk result (λ output.
         IsDrawing (drawing_form chart.now.form) (text_width chart.now.width)
-        (columns_of machine.now (option_copied threads.entry))
-        (rows_of machine.now
+        (chart_of machine.now (listing_of text.now)
         (until_refused (refused_place machine.now history.now.steps)
         (part_of chart.now (option_copied threads.entry)))
         history.now.steps) output.lines.items) }
@@ -131,7 +132,8 @@ fn history_chart(
     let refused = refused_step(alloc, machine, history)?;
     let all = Window::new(chart.first as usize, chart.last as usize, threads);
     let window = all.until_refused(refused);
-    let shown = Chart::new(alloc, machine, history, &window)?;
+    let listing = Listing::of(alloc, text)?;
+    let shown = Chart::new(alloc, machine, &listing, history, &window)?;
     Ok(TraceOutput {
         lines: drawing(alloc, chart, &shown)?,
         status: status_of_refused(refused),
@@ -142,36 +144,45 @@ fn history_chart(
 // What the chart of the text of a trace prints.
 fn chart_output<'a>(
     alloc: Global,
+    text: &[u8],
     machine: &Machine,
     chart: &ChartJob<'_>,
     threads: Option<&[GlobalId]>,
-    text: &[u8],
+    trace: &[u8],
 ) -> Result<TraceOutput, Fault<'a>>
     ensures charted { IfOk result (λ output.
         chosen_by machine.now chart.now ≡ Ok (option_copied threads.entry) →
-        IsCharted chart.now machine.now text.now output.lines.items output.status) }
-    ensures refused { IfOk result (λ output. IsRefusedAt machine.now text.now output.refused) }
+        IsCharted chart.now text.now machine.now trace.now output.lines.items output.status) }
+    ensures refused { IfOk result (λ output. IsRefusedAt machine.now trace.now output.refused) }
     ensures err { IfErr result (λ fault. (fault ≡ OutOfMemory) ⊎
-        IsFaultOfTrace true machine.now text.now fault) }
+        IsFaultOfTrace true machine.now trace.now fault) }
 {
-    let history = read_history(alloc, text)?;
-    Ok(history_chart(alloc, machine, chart, threads, &history)?)
+    let history = read_history(alloc, trace)?;
+    Ok(history_chart(alloc, text, machine, chart, threads, &history)?)
 }
 
-/// What a chart comes to, for the trace that its source gives.
+/// What a chart comes to, for the trace that its source gives, of the machine that `text` declares.
 pub(crate) fn chart_done<'a, T: Source>(
     alloc: Global,
+    text: &[u8],
     machine: &Machine,
     chart: &ChartJob<'a>,
     trace: &mut T,
 ) -> Result<Done<'a>, Fault<'a>>
-    ensures ok { IfOk result (λ done. (text : List ℕ) × T.gives trace.old (Ok text) ×
-        IsChartDone chart.now machine.now text (output_of done)) }
+    ensures ok { IfOk result (λ done. (steps : List ℕ) × T.gives trace.old (Ok steps) ×
+        IsChartDone chart.now text.now machine.now steps (output_of done)) }
     ensures err { IfErr result (λ fault. (fault ≡ OutOfMemory) ⊎
         IsChartFault chart.now machine.now (T.gives trace.old) fault) }
 {
     let threads = listed_threads(alloc, machine, chart)?;
-    let text = read_all(alloc, chart.trace, trace)?;
-    let output = chart_output(alloc, machine, chart, list_of(&threads), text.as_slice())?;
+    let steps = read_all(alloc, chart.trace, trace)?;
+    let output = chart_output(
+        alloc,
+        text,
+        machine,
+        chart,
+        list_of(&threads),
+        steps.as_slice(),
+    )?;
     Ok(output.into_done(alloc)?)
 }

@@ -64,8 +64,8 @@ fn done_on<
         Job::Replay(replay) => replay_done(alloc, text, machine, &replay, second, expected),
         Job::Next(next) => next_done(alloc, machine, next.schedule, second),
         Job::Audit(audit) => audit_done(alloc, machine, audit.trace, audit.judged, second),
-        Job::Chart(chart) => chart_done(alloc, machine, &chart, second),
-        Job::Endings(search) => search_done(alloc, machine, &search, expected, progress),
+        Job::Chart(chart) => chart_done(alloc, text, machine, &chart, second),
+        Job::Endings(search) => search_done(alloc, text, machine, &search, expected, progress),
         Job::Lint(lint) => list_lint_done(alloc, text, machine, lint.schedule, second),
     }
 }

@@ -13,18 +13,21 @@ ghost use Rattle.l4_jobs.specs.Expectations.{is_met_by, status_by, unmet_by};
 ghost use Rattle.l4_jobs.specs.Inputs.{IsRead};
 ghost use Rattle.l4_jobs.specs.Outputs.{list_of, output_of};
 ghost use Rattle.l4_jobs.specs.Runs.{IsReplayJobDone, IsRunDone, IsRunJobDone, IsWritten};
-ghost use Rattle.l4_jobs.specs.Runs.{lines_of_outcome, list_for, report_of, status_of_ending};
+ghost use Rattle.l4_jobs.specs.Runs.{lines_by, list_for, report_of, status_of_ending};
 ghost use Rattle.l4_jobs.specs.Schedules.{IsReplayFault, IsRunAsked, fault_of_turns};
 ghost use Rattle.l4_jobs.specs.declared.fault.Fault.TheVariants.{NoMemory as OutOfMemory};
 
 use crate::done::{Done, Kept};
 use crate::extras::write_told_extras;
 use crate::fault::Fault;
-use crate::job::{NO_EXTRAS, Printed, ReplayJob, RunJob};
+use crate::job::{NO_EXTRAS, Printed, ReplayJob, RunJob, TextChart};
 use crate::objects::told;
 use crate::schedules::{asked_entries, whole_replay};
+use crate::searches::text_form;
 use crate::streams::Source;
 use crate::trace_lines::{objects_of, trace_of};
+use l4_chart::listing::Listing;
+use l4_chart::whole::whole_text;
 use l4_expect::expectations::Expectations;
 use l4_machine::{CompactOutcome, Entry, run_compact, run_recorded};
 use l4_proc::gate::Open;
@@ -50,7 +53,8 @@ fn report_of(alloc: Global, outcome: &CompactOutcome<'_>) -> Result<Vec<u8>, NoM
     Ok(lines)
 }
 
-// The report of an outcome, or its trace, in lines or in objects. `text` declares the machine.
+// The report of an outcome, or its trace, in lines or in objects, where no chart is drawn. `text`
+// declares the machine.
 fn lines_of(
     alloc: Global,
     printed: Printed,
@@ -59,8 +63,8 @@ fn lines_of(
     outcome: &CompactOutcome<'_>,
 ) -> Result<Vec<u8>, NoMemory>
     requires { IsHistory machine.now (steps_of outcome.now.history) }
-    ensures lines { IfOk result (λ lines. lines.items ≡ lines_of_outcome printed.report
-        printed.json text.now machine.now (compact_findings_of outcome.now)) }
+    ensures lines { IfOk result (λ lines. lines.items ≡ lines_by printed.report printed.json
+        text.now machine.now (compact_findings_of outcome.now)) }
     ensures spelled { IfOk result (λ lines.
         printed.report ≡ false → list_all has_line (steps_of outcome.now.history) ≡ true) }
 {
@@ -71,8 +75,29 @@ fn lines_of(
     }
 }
 
-// What is printed of an outcome. Its compact history is expanded only where `--waits`, `--counts` or
-// the objects of its steps need it.
+// What is printed of an outcome of which a chart is drawn.
+fn charted_lines(
+    alloc: Global,
+    printed: Printed,
+    chart: TextChart,
+    text: &[u8],
+    machine: &Machine,
+    outcome: CompactOutcome<'_>,
+) -> Result<Vec<u8>, NoMemory>
+    requires history { IsHistory machine.now (steps_of outcome.history) }
+    requires chart { printed.chart ≡ Some chart }
+    ensures { IfOk result (λ lines.
+        IsWritten printed text.now machine.now (compact_findings_of outcome.entry) lines.items) }
+{
+    let listing = Listing::of(alloc, text)?;
+    let history = outcome.history.into_history(alloc)?;
+    let mut lines = whole_text(alloc, machine, &listing, &history, text_form(chart))?;
+    write_told_extras(alloc, printed, machine, &history, &mut lines)?;
+    Ok(lines)
+}
+
+// What is printed of an outcome. Its compact history is expanded only where `--chart`, `--waits`,
+// `--counts` or the objects of its steps need it.
 #[tactic(auto, using(crate::proofs::Telling::nothing_behind))]
 fn printed_lines(
     alloc: Global,
@@ -85,6 +110,9 @@ fn printed_lines(
     ensures { IfOk result (λ lines.
         IsWritten printed text.now machine.now (compact_findings_of outcome.entry) lines.items) }
 {
+    if let Some(chart) = printed.chart {
+        return charted_lines(alloc, printed, chart, text, machine, outcome);
+    }
     let mut lines = lines_of(alloc, printed, text, machine, &outcome)?;
     if printed.extras == NO_EXTRAS {
         return Ok(lines);

@@ -1,10 +1,13 @@
 //! What a search for all endings comes to.
-ghost use Rattle.std.specs.Prelude.{◌≡◌, ◌⊎◌, IfOk, IfErr, Some};
-ghost use Rattle.std.specs.Option.{option_copied};
+ghost use Rattle.std.specs.Prelude.{◌≡◌, ◌⊎◌, IfOk, IfErr, List, Some, ℕ};
+ghost use Rattle.std.specs.Option.{option_copied, option_map};
 ghost use Rattle.l4_jobs.specs.Outputs.{output_of};
 ghost use Rattle.l4_jobs.specs.Searches.{IsAnswerBy, IsAnswerDone, IsSearchDone, IsTraceDone};
-ghost use Rattle.l4_jobs.specs.Searches.{fault_of_search, question_of, shown_of, text_form, wanted_of};
+ghost use Rattle.l4_jobs.specs.Searches.{asked_chart, fault_of_search, question_of, text_form};
+ghost use Rattle.l4_jobs.specs.Searches.{wanted_of};
 ghost use Rattle.l4_jobs.specs.declared.fault.Fault.TheVariants.{NoMemory as OutOfMemory};
+ghost use Rattle.l4_chart.specs.Listings.{listing_of};
+ghost use Rattle.l4_questions.specs.Beside.{chart_as, shown_as};
 ghost use Rattle.l4_questions.specs.Limits.{question_fault};
 ghost use Rattle.l4_questions.specs.declared.question.QuestionFault.TheVariants.{NoMemory as NoMemoryFor};
 
@@ -12,13 +15,15 @@ use crate::charts::text_width;
 use crate::done::Done;
 use crate::fault::{Fault, line_of};
 use crate::job::{EndingsJob, Scheduler, TextChart, Wanted as Asked};
+use l4_chart::listing::Listing;
 use l4_chart::whole::TextForm;
 use l4_expect::expectations::Expectations;
 use l4_explore::progress::Progress;
-use l4_questions::beside::{Beside, Shown};
+use l4_questions::beside::{AskedChart, Beside, Shown};
 use l4_questions::question::{Question, QuestionFault, Wanted};
 use l4_questions::{Answer, answer, asked_trace, placed_answer};
 use l4_script::machine::Machine;
+use l4_types::errors::NoMemory;
 use std::alloc::Global;
 
 fn wanted_of(asked: Asked) -> Wanted
@@ -44,8 +49,8 @@ pub(crate) fn question_of<'a>(search: &EndingsJob<'a>) -> Question<'a>
     }
 }
 
-// How a chart is written.
-fn text_form(chart: TextChart) -> TextForm
+/// How a chart is written.
+pub(crate) fn text_form(chart: TextChart) -> TextForm
     ensures { result ≡ text_form chart }
 {
     TextForm {
@@ -54,13 +59,34 @@ fn text_form(chart: TextChart) -> TextForm
     }
 }
 
-// What is printed of each ending.
-fn shown_of(search: &EndingsJob<'_>) -> Shown
-    ensures { result ≡ shown_of search.now }
+// The lines of a text, where a chart is asked for.
+fn listing_for<'t>(
+    alloc: Global,
+    text: &'t [u8],
+    chart: Option<TextChart>,
+) -> Result<Option<Listing<'t>>, NoMemory>
+    ensures { IfOk result (λ listing. listing ≡ option_map (λ c. listing_of text.now) chart) }
 {
-    Shown {
-        chart: search.chart.map(text_form),
-        waits: search.waits,
+    match chart {
+        Some(_) => Ok(Some(Listing::of(alloc, text)?)),
+        None => Ok(None),
+    }
+}
+
+// The chart of each ending, where one is asked for.
+fn asked_chart<'e, 't>(
+    chart: Option<TextChart>,
+    listing: &'e Option<Listing<'t>>,
+) -> Option<AskedChart<'e, 't>>
+    ensures { (text : List ℕ) → listing.now ≡ option_map (λ c. listing_of text) chart →
+        option_map chart_as result ≡ option_map (asked_chart text) chart }
+{
+    match (chart, listing) {
+        (Some(chart), Some(listing)) => Some(AskedChart {
+            form: text_form(chart),
+            listing,
+        }),
+        _ => None,
     }
 }
 
@@ -74,7 +100,7 @@ fn answer_by<P: Progress>(
     progress: &mut P,
 ) -> Result<Answer, QuestionFault>
     ensures ok { IfOk result (λ answer. IsAnswerBy scheduler machine.now question.now
-        beside.entry.shown (option_copied beside.entry.expected) answer.lines.items
+        (shown_as beside.entry.shown) (option_copied beside.entry.expected) answer.lines.items
         answer.unmet.items answer.status) }
     ensures err { IfErr result (λ fault. (fault ≡ NoMemoryFor) ⊎
         (question_fault question.now ≡ Some fault)) }
@@ -88,19 +114,25 @@ fn answer_by<P: Progress>(
 // What a search comes to that prints the endings that are asked for.
 fn answer_done<'a, P: Progress>(
     alloc: Global,
+    text: &[u8],
     machine: &Machine,
     search: &EndingsJob<'_>,
     expected: Option<&Expectations<'_>>,
     progress: &mut P,
 ) -> Result<Done<'a>, Fault<'a>>
     ensures ok { IfOk result (λ done.
-        IsAnswerDone search.now machine.now (option_copied expected.entry) (output_of done)) }
+        IsAnswerDone search.now text.now machine.now (option_copied expected.entry)
+        (output_of done)) }
     ensures err { IfErr result (λ fault. (fault ≡ OutOfMemory) ⊎
         (fault_of_search search.now ≡ Some fault)) }
 {
     let question = question_of(search);
+    let listing = listing_for(alloc, text, search.chart)?;
     let beside = Beside {
-        shown: shown_of(search),
+        shown: Shown {
+            chart: asked_chart(search.chart, &listing),
+            waits: search.waits,
+        },
         expected,
     };
     let answer = answer_by(
@@ -149,21 +181,24 @@ fn trace_done<'a, P: Progress>(
     }
 }
 
-/// What a search for the endings of a machine comes to. The listener hears how far it has come.
+/// What a search for the endings of the machine that `text` declares comes to. The listener hears how
+/// far it has come.
 pub(crate) fn search_done<'a, P: Progress>(
     alloc: Global,
+    text: &[u8],
     machine: &Machine,
     search: &EndingsJob<'_>,
     expected: Option<&Expectations<'_>>,
     progress: &mut P,
 ) -> Result<Done<'a>, Fault<'a>>
     ensures ok { IfOk result (λ done.
-        IsSearchDone search.now machine.now (option_copied expected.entry) (output_of done)) }
+        IsSearchDone search.now text.now machine.now (option_copied expected.entry)
+        (output_of done)) }
     ensures err { IfErr result (λ fault. (fault ≡ OutOfMemory) ⊎
         (fault_of_search search.now ≡ Some fault)) }
 {
     match search.trace {
-        None => answer_done(alloc, machine, search, expected, progress),
+        None => answer_done(alloc, text, machine, search, expected, progress),
         Some(number) => trace_done(alloc, machine, search, number, progress),
     }
 }

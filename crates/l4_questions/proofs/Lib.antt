@@ -1,6 +1,7 @@
 mod Alike
 mod Asking
 mod Audited
+mod Drawn
 mod Lists
 mod OfAll
 mod Quiet

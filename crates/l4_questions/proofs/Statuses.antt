@@ -13,7 +13,7 @@ use Rattle.l4_questions.specs.Stuck.{is_any, stuck_status}
 use Rattle.l4_questions.specs.declared.question.Question.{Question}
 use Rattle.l4_questions.specs.declared.question.Wanted.{Wanted}
 use Rattle.l4_questions.specs.declared.question.Wanted.TheVariants.{AnEnding, NoEnding, Whatever}
-use Rattle.l4_questions.specs.declared.beside.Shown.{Shown}
+use Rattle.l4_questions.specs.Beside.{Shown}
 use Rattle.l4_model.specs.Machine.{Machine}
 
 none : (met : Bool) (asked : List Ending) (is_whole : Bool) →

@@ -9,7 +9,7 @@ use Rattle.l4_questions.specs.Printed.{ending_text, numbered_text, status_of_ask
 use Rattle.l4_questions.specs.Inner.Writing.{AreWritten}
 use Rattle.l4_questions.specs.declared.judged.Written.{Written}
 use Rattle.l4_questions.specs.declared.question.Question.{Question}
-use Rattle.l4_questions.specs.declared.beside.Shown.{Shown}
+use Rattle.l4_questions.specs.Beside.{Shown}
 use Rattle.l4_questions.proofs.Statuses.{none_told}
 
 module _ (q : Question) (shown : Shown) (expected : Option (List Expected)) (all : List Ending) where

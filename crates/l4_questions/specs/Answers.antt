@@ -23,7 +23,7 @@ use Rattle.l4_questions.specs.Printed.{IsTold}
 use Rattle.l4_questions.specs.Stuck.{is_any, stuck_lines, stuck_status, stuck_traces, AreAskedStuck}
 use Rattle.l4_stuck.specs.Stuck.{Stuck}
 use Rattle.l4_questions.specs.declared.question.Question.{Question}
-use Rattle.l4_questions.specs.declared.beside.Shown.{Shown}
+use Rattle.l4_questions.specs.Beside.{Shown}
 
 -- The histories that entries stand for.
 abbrev pub traces_along : Machine → List (Vec ℕ Global) → List (List Step)

@@ -1,5 +1,6 @@
 pub mod Answers
 pub mod Asked
+pub mod Beside
 pub mod Endings
 pub mod Inner
 pub mod Limits

@@ -15,7 +15,7 @@ use Rattle.l4_questions.specs.Endings.{Ending}
 use Rattle.l4_questions.specs.Limits.{question_fault}
 use Rattle.l4_questions.specs.Printed.{IsTold}
 use Rattle.l4_questions.specs.declared.question.Question.{Question}
-use Rattle.l4_questions.specs.declared.beside.Shown.{Shown}
+use Rattle.l4_questions.specs.Beside.{Shown}
 
 -- The ending that a core run comes to at rest is that of the history that its events tell.
 

@@ -2,7 +2,6 @@
 use Rattle.std.specs.Prelude.{Bool, true, false, ◌≡◌, ◌+◌, ℕ, if◌then◌else◌, Option, None, Some, List, [], ◌∷◌, ◌++◌, codes, decimal}
 use Rattle.std.specs.List.{list_all}
 use Rattle.l4_chart.specs.Whole.{whole_text}
-use Rattle.l4_chart.specs.declared.whole.TextForm.{TextForm}
 use Rattle.l4_expect.specs.Expected.{Expected}
 use Rattle.l4_expect.specs.Unmet.{are_met, expected_status, unmet_text}
 use Rattle.l4_questions.specs.Asked.{asked_of}
@@ -10,7 +9,7 @@ use Rattle.l4_questions.specs.Endings.{Ending}
 use Rattle.l4_questions.specs.declared.question.Question.{Question}
 use Rattle.l4_questions.specs.declared.question.Wanted.{Wanted}
 use Rattle.l4_questions.specs.declared.question.Wanted.TheVariants.{Whatever, NoEnding, AnEnding}
-use Rattle.l4_questions.specs.declared.beside.Shown.{Shown}
+use Rattle.l4_questions.specs.Beside.{AskedChart, Shown}
 
 -- The first line of an ending has its number.
 abbrev pub head_line : (number : ℕ) → Ending → List ℕ
@@ -19,9 +18,9 @@ head_line number e = codes "ending " ++ decimal number ++ e.head ++ codes "\n"
 -- Then come a chart of the history that leads to it, where one is asked for, its report, and who waits
 -- for whom, where that is.
 
-abbrev pub chart_in : Option TextForm → Ending → List ℕ
+abbrev pub chart_in : Option AskedChart → Ending → List ℕ
 chart_in None e = []
-chart_in (Some form) e = whole_text e.machine e.trace form
+chart_in (Some chart) e = whole_text e.machine chart.listing e.trace chart.form
 
 abbrev pub ending_text : (shown : Shown) → (number : ℕ) → Ending → List ℕ
 ending_text shown number e =

@@ -2,6 +2,7 @@
 ghost use Rattle.std.specs.Prelude.{◌≡◌, ◌⊎◌, ◌++◌, IfErr, IfOk, Some};
 ghost use Rattle.std.specs.Option.{option_copied};
 ghost use Rattle.l4_questions.specs.Answers.{last_lines, whole_word, IsAnswer};
+ghost use Rattle.l4_questions.specs.Beside.{shown_as};
 ghost use Rattle.l4_questions.specs.Limits.{question_fault};
 ghost use Rattle.l4_questions.specs.Stuck.{stuck_lines, AreAllStuck};
 ghost use Rattle.l4_stuck.specs.Stuck.{stuck_of};
@@ -71,7 +72,7 @@ pub fn answer<P: Progress>(
     beside: Beside<'_, '_>,
     progress: &mut P,
 ) -> Result<Answer, QuestionFault>
-    ensures ok { IfOk result (λ answer. IsAnswer machine.now question.now beside.entry.shown
+    ensures ok { IfOk result (λ answer. IsAnswer machine.now question.now (shown_as beside.entry.shown)
         (option_copied beside.entry.expected) answer.lines.items answer.unmet.items answer.status) }
     ensures err { IfErr result (λ fault. (fault ≡ OutOfMemory) ⊎
         (question_fault question.now ≡ Some fault)) }

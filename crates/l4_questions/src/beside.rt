@@ -6,15 +6,25 @@ ghost use Rattle.l4_expect.specs.Unmet.{expected_status};
 ghost use Rattle.l4_questions.specs.Printed.{told_unmet, unmet_of};
 
 use crate::found::FoundEnding;
+use l4_chart::listing::Listing;
 use l4_chart::whole::TextForm;
 use l4_expect::expectations::Expectations;
 use l4_types::errors::NoMemory;
 
+/// A chart of a shortest history that comes to an ending.
+#[derive(Clone, Copy)]
+pub struct AskedChart<'e, 't> {
+    /// How it is written.
+    pub form: TextForm,
+    /// The text of the machine.
+    pub listing: &'e Listing<'t>,
+}
+
 /// What is printed of each ending beside its report.
 #[derive(Clone, Copy)]
-pub struct Shown {
-    /// The chart of a shortest history that comes to it, above the report, if one is.
-    pub chart: Option<TextForm>,
+pub struct Shown<'e, 't> {
+    /// The chart above the report, if one is.
+    pub chart: Option<AskedChart<'e, 't>>,
     /// Whether behind the report it is told who waits for whom in its world.
     pub waits: bool,
 }
@@ -23,7 +33,7 @@ pub struct Shown {
 #[derive(Clone, Copy)]
 pub struct Beside<'e, 't> {
     /// What is printed of each.
-    pub shown: Shown,
+    pub shown: Shown<'e, 't>,
     /// What each report has to meet. The status is 4 where one does not.
     pub expected: Option<&'e Expectations<'t>>,
 }

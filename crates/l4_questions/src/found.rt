@@ -1,16 +1,19 @@
 //! An ending that a search found.
 ghost use Rattle.std.specs.Prelude.{◌≡◌, ◌++◌, IfOk, OnOk};
 ghost use Rattle.std.specs.List.{list_any};
+ghost use Rattle.std.specs.Option.{option_map};
 ghost use Rattle.l4_futures.specs.Stuck.{names_one};
 ghost use Rattle.l4_model.specs.History.{IsHistory};
 ghost use Rattle.l4_questions.specs.Answers.{ending_after};
+ghost use Rattle.l4_questions.specs.Beside.{chart_as};
 ghost use Rattle.l4_questions.specs.Inner.Found.{is_stuck_wait, report_by};
 ghost use Rattle.l4_questions.specs.Printed.{chart_in, head_line};
 
+use crate::beside::AskedChart;
 use l4_audit::audit::{AuditFault, audited};
 use l4_audit::auditor::Auditor;
 use l4_audit::waits::Wait;
-use l4_chart::whole::{TextForm, whole_text};
+use l4_chart::whole::whole_text;
 use l4_history::history::History;
 use l4_reports::report_lines::write_report;
 use l4_script::machine::Machine;
@@ -36,6 +39,7 @@ pub(crate) struct FoundEnding<'m> {
 }
 
 impl<'m> Model for FoundEnding<'m> {
+    ghost use Rattle.l4_model.specs.History.{IsHistory};
     ghost use Rattle.l4_questions.specs.Endings.{Ending};
     ghost use Rattle.l4_waits.specs.Lines.{waits_text};
 
@@ -49,6 +53,8 @@ impl<'m> Model for FoundEnding<'m> {
       trace = f.trace.steps;
       is_stuck = f.is_stuck;
     } };
+
+    ghost invariant = { λ f. IsHistory f.machine.now f.trace.steps };
 }
 
 impl<'m> FoundEnding<'m> {
@@ -114,11 +120,15 @@ impl<'m> FoundEnding<'m> {
     /// A chart of the history that comes to it, where one is asked for.
     ///
     /// `NoMemory`: memory was refused.
-    pub(crate) fn chart(&self, alloc: Global, form: Option<TextForm>) -> Result<Vec<u8>, NoMemory>
-        ensures { IfOk result (λ lines. lines.items ≡ chart_in form self.now) }
+    pub(crate) fn chart(
+        &self,
+        alloc: Global,
+        chart: Option<AskedChart<'_, '_>>,
+    ) -> Result<Vec<u8>, NoMemory>
+        ensures { IfOk result (λ lines. lines.items ≡ chart_in (option_map chart_as chart.entry) self.now) }
     {
-        match form {
-            Some(form) => whole_text(alloc, self.machine, &self.trace, form),
+        match chart {
+            Some(asked) => whole_text(alloc, self.machine, asked.listing, &self.trace, asked.form),
             None => Ok(Vec::new(alloc)),
         }
     }

@@ -9,7 +9,7 @@ ghost use Rattle.l4_questions.specs.Printed.{ending_text, status_of_asked, statu
 ghost use Rattle.l4_questions.specs.Printed.{unmet_of, IsTold};
 ghost use Rattle.l4_questions.specs.Inner.Writing.{AreWritten};
 ghost use Rattle.l4_questions.specs.declared.question.Question.{Question as AskedQuestion};
-ghost use Rattle.l4_questions.specs.declared.beside.Shown.{Shown};
+ghost use Rattle.l4_questions.specs.Beside.{Shown, shown_as};
 
 use crate::asked::is_asked;
 use crate::beside::{Beside, status_beside, write_unmet};
@@ -67,7 +67,7 @@ impl Written {
     ) -> Result<(), NoMemory>
         requires room { self.old.count + 1 < 2 ^ 64 }
         ensures lines { OnOk result (self.new.lines.items ≡ self.old.lines.items ++
-            ending_text beside.entry.shown (self.old.count + 1) found.entry) }
+            ending_text (shown_as beside.entry.shown) (self.old.count + 1) found.entry) }
         ensures unmet { OnOk result (self.new.unmet.items ≡ self.old.unmet.items ++
             unmet_of (option_copied beside.entry.expected) (self.old.count + 1) found.entry) }
         ensures count { OnOk result (self.new.count ≡ self.old.count + 1) }
@@ -95,9 +95,9 @@ impl Written {
     ) -> Result<(), NoMemory>
         requires room { self.old.count + 1 < 2 ^ 64 }
         ensures written { OnOk result ((all left : List Ending) →
-            AreWritten question.now beside.entry.shown (option_copied beside.entry.expected)
+            AreWritten question.now (shown_as beside.entry.shown) (option_copied beside.entry.expected)
             all (found.entry ∷ left) self.old →
-            AreWritten question.now beside.entry.shown (option_copied beside.entry.expected)
+            AreWritten question.now (shown_as beside.entry.shown) (option_copied beside.entry.expected)
             all left self.new) }
         ensures count { OnOk result (self.new.count ≤ self.old.count + 1) }
     {
@@ -145,7 +145,7 @@ pub(crate) fn written_endings<E: Listed>(
     endings: &[E],
 ) -> Result<Written, NoMemory>
     requires { AllByRecursion (E.leads machine.now) endings.now }
-    ensures { IfOk result (AreWritten question.now beside.entry.shown
+    ensures { IfOk result (AreWritten question.now (shown_as beside.entry.shown)
         (option_copied beside.entry.expected) (map (E.ending machine.now) endings.now) []) }
 {
     let mut written = Written::new(alloc);

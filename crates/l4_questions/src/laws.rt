@@ -25,7 +25,7 @@ ghost use Rattle.l4_questions.specs.Stuck.{asks_who_is_stuck};
 ghost use Rattle.l4_questions.specs.Runs.{AsksForLines, ComesToRest, NoneIsAsked, StandsFor};
 ghost use Rattle.l4_questions.specs.declared.question.Question.{Question as AskedQuestion};
 ghost use Rattle.l4_questions.specs.declared.question.Wanted.TheVariants.{AnEnding, NoEnding};
-ghost use Rattle.l4_questions.specs.declared.beside.Shown.{Shown};
+ghost use Rattle.l4_questions.specs.Beside.{Shown};
 
 /// Status 0, where a question asks that no such ending exist, says that none does: no history of the
 /// machine comes to an ending that is asked for, whatever the scheduler does and whatever time

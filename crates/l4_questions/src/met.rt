@@ -24,7 +24,7 @@ ghost use Rattle.l4_questions.specs.Placed.{IsPlacedAnswer};
 ghost use Rattle.l4_questions.specs.Runs.{AsksForLines};
 ghost use Rattle.l4_questions.specs.declared.question.Question.{Question as AskedQuestion};
 ghost use Rattle.l4_questions.specs.declared.question.Wanted.TheVariants.{Whatever};
-ghost use Rattle.l4_questions.specs.declared.beside.Shown.{Shown};
+ghost use Rattle.l4_questions.specs.Beside.{Shown};
 
 /// Where a search is whole, and each of its endings that is asked for meets what is expected, each
 /// that any history of the machine comes to meets it, whatever the scheduler does and whatever time

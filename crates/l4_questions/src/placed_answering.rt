@@ -1,6 +1,7 @@
 //! The answer to a question about the runs that processors make by schedules.
 ghost use Rattle.std.specs.Prelude.{◌≡◌, ◌⊎◌, IfErr, IfOk, Some};
 ghost use Rattle.std.specs.Option.{option_copied};
+ghost use Rattle.l4_questions.specs.Beside.{shown_as};
 ghost use Rattle.l4_questions.specs.Limits.{question_fault};
 ghost use Rattle.l4_questions.specs.Placed.{IsPlacedAnswer};
 ghost use Rattle.l4_questions.specs.declared.question.QuestionFault.TheVariants.{NoMemory as OutOfMemory};
@@ -28,7 +29,7 @@ pub fn placed_answer<P: Progress>(
     beside: Beside<'_, '_>,
     progress: &mut P,
 ) -> Result<Answer, QuestionFault>
-    ensures ok { IfOk result (λ answer. IsPlacedAnswer machine.now question.now beside.entry.shown
+    ensures ok { IfOk result (λ answer. IsPlacedAnswer machine.now question.now (shown_as beside.entry.shown)
         (option_copied beside.entry.expected) answer.lines.items answer.unmet.items answer.status) }
     ensures err { IfErr result (λ fault. (fault ≡ OutOfMemory) ⊎
         (question_fault question.now ≡ Some fault)) }

@@ -118,7 +118,7 @@ also_armed g h cpu deadline shifted is =
         }
 
 -- What a tick went to is a clock.
-ticked_below : (m : Machine) (g : System) (cpu to : ℕ) (a : System) →
+pub ticked_below : (m : Machine) (g : System) (cpu to : ℕ) (a : System) →
     option_map (λ x. x.system) (happens m g (Ticks cpu to)) ≡ Some a → to < clock_limit
 ticked_below m g cpu to a is = by (happens m g (Ticks cpu to)) refl is
   where
@@ -182,7 +182,7 @@ is_some_map : {A B : Type 0} (f : A → B) (o : Option A) → is_some (option_ma
 is_some_map f None = refl
 is_some_map f (Some x) = refl
 
-busy_like : (m : Machine) (cpu : ℕ) (l k : Local) → IsLike l k → is_busy m cpu l ≡ is_busy m cpu k
+pub busy_like : (m : Machine) (cpu : ℕ) (l k : Local) → IsLike l k → is_busy m cpu l ≡ is_busy m cpu k
 busy_like m cpu l k like =
     sym (is_some_map (λ c. does_choice m cpu c (opened 0 l)) (core_choice m cpu l))
     ∙ both (turn m cpu l) (turn m cpu k) (turn_like m cpu l k like)
@@ -194,7 +194,7 @@ busy_like m cpu l k like =
     both None (Some y) same = absurd same
     both (Some x) None same = absurd same
 
-none_armed : (c d : ℕ) (xs ys : List (ℕ × ℕ)) → map (ahead c) xs ≡ map (ahead d) ys →
+pub none_armed : (c d : ℕ) (xs ys : List (ℕ × ℕ)) → map (ahead c) xs ≡ map (ahead d) ys →
     is_empty xs ≡ is_empty ys
 none_armed c d [] [] e = refl
 none_armed c d (x ∷ xs) (y ∷ ys) e = refl

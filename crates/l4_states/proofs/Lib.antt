@@ -7,3 +7,5 @@ pub mod Early
 pub mod Chosen
 pub mod Found
 pub mod Endings
+pub mod Remembered
+pub mod Places

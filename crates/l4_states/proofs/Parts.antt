@@ -306,11 +306,11 @@ owed_apart a b x y h =
     )
 
 -- all but the stamp, the numbers and the clock
-local_apart : (count : ℕ) (a b : Local) (x y : List ℕ) →
+pub local_apart : (count : ℕ) (a b : Local) (x y : List ℕ) →
     local_code count a x ≡ local_code count b y → (bare_local a ≡ bare_local b) × (x ≡ y)
 local_apart count a b x y h =
     let threads = sized_image Thread Thread relative_thread thread_code thread_apart count
-    a.threads b.threads _ _ h in
+    a.threads b.threads _ _ (rest_is _ _ _ _ h) in
     let lists = lists_apart count a.clock b.clock a.lists b.lists _ _ threads.1 in
     let told = sized_apart ℕ number_code number_apart count a.told b.told _ _ lists.1 in
     let owed = sized_image (Option Owed) (Option Owed) (option_map numberless_owed)

@@ -119,7 +119,7 @@ content_pared (OrderLetter caller target what) x = refl
 content_pared (OrderDoneLetter caller) x = refl
 content_pared (RetargetLetter o) x = refl
 
-letters_pared : (ls : List Letter) (x : List ℕ) →
+pub letters_pared : (ls : List Letter) (x : List ℕ) →
     chained content_code (contents ls) x ≡ chained content_code (pared_contents ls) x
 letters_pared [] x = refl
 letters_pared (l ∷ ls) x =
@@ -132,23 +132,23 @@ same_length f [] = refl
 same_length f (x ∷ xs) = ap suc (same_length f xs)
 
 -- What letters tell without numbers
-contents_pared : (ls : List Letter) → map numberless_content (contents ls) ≡ pared_contents ls
+pub contents_pared : (ls : List Letter) → map numberless_content (contents ls) ≡ pared_contents ls
 contents_pared [] = refl
 contents_pared (l ∷ ls) =
     ap (λ (cs : List Content). numberless_content l.content ∷ cs) (contents_pared ls)
 
 -- The code of a processor reads no stamp and no clock either.
-local_bare : (count : ℕ) (l : Local) (x : List ℕ) →
+pub local_bare : (count : ℕ) (l : Local) (x : List ℕ) →
     local_code count l x ≡ local_code count (bare_local l) x
 local_bare count l x =
-    ap (λ (ns : List ℕ). sized count thread_code l.threads
+    ap (λ (ns : List ℕ). 1 ∷ sized count thread_code l.threads
     (lists_code count l.clock l.lists (sized count number_code l.told ns)))
     (λ i. length_code count (same_length (option_map numberless_owed) l.owed i)
     ∷ owed_pared l.owed x i)
-    ∙ ap (sized count thread_code l.threads) (lists_bare count l.clock l.lists
+    ∙ ap (λ (ns : List ℕ). 1 ∷ sized count thread_code l.threads ns) (lists_bare count l.clock l.lists
     (sized count number_code l.told
     (sized count (optional owed_code) (map (option_map numberless_owed) l.owed) x)))
-    ∙ (λ i. length_code count (same_length relative_thread l.threads i)
+    ∙ (λ i. 1 ∷ length_code count (same_length relative_thread l.threads i)
     ∷ threads_bare l.threads (lists_code count 0 (bare_local l).lists (sized count number_code l.told
     (sized count (optional owed_code) (map (option_map numberless_owed) l.owed) x))) i)
 

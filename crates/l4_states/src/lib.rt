@@ -22,6 +22,7 @@ ghost use Rattle.l4_explore.specs.Search.{Seen};
 ghost use Rattle.l4_explore.specs.Inner.States.{AreAllStates, AreCut};
 ghost use Rattle.l4_states.specs.Inner.Bytes.{bytes_of};
 ghost use Rattle.l4_states.specs.Choices.{IsCoded, LeadsEarly, state_after};
+ghost use Rattle.l4_states.specs.Inner.Remembered.{AreRemembered};
 ghost use Rattle.l4_states.specs.Endings.{AreAllEndings, AreEndings};
 ghost use Rattle.l4_states.specs.Listed.{AreAllListed, IsCutOff};
 
@@ -46,6 +47,12 @@ pub fn law_schedules()
 pub fn law_stands()
     ensures { (m : Machine) (s : List ℕ) → IsMachine m → LeadsEarly m s →
         StandsForAll (state_after m) s }
+{}
+
+/// What a choice does is known wherever it reads the same. It reads what its processor knows, and
+/// the letters that it takes one of.
+pub fn law_remembered()
+    ensures { (m : Machine) → IsMachine m → AreRemembered m }
 {}
 
 /// A search finds all core runs whose ticks go to least deadlines, of as many events as it went

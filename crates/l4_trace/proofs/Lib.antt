@@ -1,3 +1,4 @@
+pub mod InFront
 pub mod Joined
 pub mod KeywordRows
 pub mod LineRows

@@ -235,13 +235,13 @@ tick_is_written first operands step is e =
     }
 
 -- The words of a message were appended to those that were read.
-record AreRead (read out : List ℕ) (spelled : List (List ℕ)) : Type 0 where
-  words : List ℕ
-  appended : out ≡ read ++ words
-  same : map hexadecimal words ≡ spelled
-  are_words : list_all is_word words ≡ true
+pub record AreRead (read out : List ℕ) (spelled : List (List ℕ)) : Type 0 where
+  pub words : List ℕ
+  pub appended : out ≡ read ++ words
+  pub same : map hexadecimal words ≡ spelled
+  pub are_words : list_all is_word words ≡ true
 
-message_is_written : (read out : List ℕ) (spelled : List (List ℕ)) → message_words read spelled ≡ Some out → AreRead read out spelled
+pub message_is_written : (read out : List ℕ) (spelled : List (List ℕ)) → message_words read spelled ≡ Some out → AreRead read out spelled
 message_is_written read out [] e = record { words = []; appended = sym (some_same read out e) ∙ sym (append-nil read); same = refl; are_words = refl }
 message_is_written read out (word ∷ others) e =
     let w = some_bind (number_of 16 word) _ out e in

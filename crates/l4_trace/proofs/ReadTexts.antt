@@ -18,7 +18,7 @@ use Rattle.l4_words.proofs.Parts.{has_part}
 use Rattle.l4_trace.proofs.ReadingLines.{read_line}
 
 -- A text that begins with the line of a step.
-parts_behind : (step : Step) (others : List ℕ) → has_line step ≡ true → parts_of (line_of step ++ others) ≡ body_of step ∷ parts_of others
+pub parts_behind : (step : Step) (others : List ℕ) → has_line step ≡ true → parts_of (line_of step ++ others) ≡ body_of step ∷ parts_of others
 parts_behind step others h =
     let lacks_end = lacks 10 (body_of step) (line_is_above (words_of step) (step_is_plain step h)) in
     ap parts_of (append_assoc (body_of step) (10 ∷ []) others) ∙ slice_split_at (λ x. x == 10) (body_of step) 10 others lacks_end refl

@@ -17,6 +17,7 @@
 #![tactic(auto)]
 
 pub mod fault;
+mod frequent;
 mod keywords;
 pub mod lines;
 pub mod reader;

@@ -5,10 +5,12 @@ ghost use Rattle.l4_trace.specs.declared.fault.TraceFault.TheVariants.{Line};
 ghost use Rattle.l4_trace.specs.Inner.Forward.{ReadsNext, ReadsOn};
 
 use crate::fault::TraceFault;
+use crate::frequent::Front;
 use crate::steps::step_of_line;
 use arrayvec::ArrayVec;
 use l4_types::messages::MOST_WORDS;
 use l4_types::step_ref::StepRef;
+use l4_types::steps::Step;
 use l4_words::lines::split_line;
 use std::marker::Model;
 
@@ -54,13 +56,82 @@ impl<'t> Reader<'t> {
         self.read
     }
 
-    /// Reads the step of the next line. None after the last line. The words of its message replace
-    /// those in `words`.
+    /// Reads the step of the next line, a frequent one as it comes. None after the last line. The
+    /// words of its message replace those in `words`.
     ///
     /// `Line`: the next line, counted from 1 at the beginning of the text, spells no step, or has
     /// no line end. The reader then stays before this line.
     #[inline(always)]
     pub fn next<'w>(&mut self, words: &'w mut ReadWords) -> Result<Option<StepRef<'w>>, TraceFault>
+        ensures { ReadsNext self.old result self.new }
+    {
+        let mut front = Front::of(self.rest);
+        if let Some(thread) = front.thread_line(b"local ") {
+            self.pass(front.rest());
+            return Ok(Some(Step::Local(thread)));
+        }
+        let mut front = Front::of(self.rest);
+        if let Some(name) = front.name_line(b"begin ") {
+            self.pass(front.rest());
+            return Ok(Some(Step::Begin(name)));
+        }
+        let mut front = Front::of(self.rest);
+        if let Some(name) = front.name_line(b"queue ") {
+            self.pass(front.rest());
+            return Ok(Some(Step::Queue(name)));
+        }
+        let mut front = Front::of(self.rest);
+        if let Some(told) = front.delivery_line(words) {
+            self.pass(front.rest());
+            return Ok(Some(Step::Deliver(told.delivery(words.as_slice()))));
+        }
+        let mut front = Front::of(self.rest);
+        if let Some(thread) = front.thread_line(b"wait ") {
+            self.pass(front.rest());
+            return Ok(Some(Step::Wait(thread)));
+        }
+        let mut front = Front::of(self.rest);
+        if let Some(thread) = front.thread_line(b"rtimeout ") {
+            self.pass(front.rest());
+            return Ok(Some(Step::ReceiveTimeout(thread)));
+        }
+        let mut front = Front::of(self.rest);
+        if let Some(tick) = front.tick_line() {
+            self.pass(front.rest());
+            return Ok(Some(Step::Tick(tick)));
+        }
+        self.next_other(words)
+    }
+
+    // As `next`, for a line that is not frequent. What may hold a step is cleared where it begins:
+    // so it begins only here.
+    #[inline(always)]
+    fn next_other<'w>(
+        &mut self,
+        words: &'w mut ReadWords,
+    ) -> Result<Option<StepRef<'w>>, TraceFault>
+        ensures { ReadsNext self.old result self.new }
+    {
+        Ok(self.next_of_any(words)?)
+    }
+
+    // Goes on behind a line that was read.
+    #[inline(always)]
+    fn pass(&mut self, rest: &'t [u8])
+        requires { length rest.now < length self.old.rest }
+        ensures { self.new ≡ record { read = self.old.read + 1; rest = rest.now } }
+    {
+        self.rest = rest;
+        self.read += 1;
+    }
+
+    // As `next`, for a line of any kind. A call of its own, since a step that is returned lies in
+    // memory.
+    #[inline(never)]
+    fn next_of_any<'w>(
+        &mut self,
+        words: &'w mut ReadWords,
+    ) -> Result<Option<StepRef<'w>>, TraceFault>
         ensures { ReadsNext self.old result self.new }
     {
         let Some((line, others)) = split_line(self.rest) else {
@@ -69,8 +140,7 @@ impl<'t> Reader<'t> {
         let Some(step) = step_of_line(line, words) else {
             return Err(self.fault());
         };
-        self.rest = others;
-        self.read += 1;
+        self.pass(others);
         Ok(Some(step))
     }
 

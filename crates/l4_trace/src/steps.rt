@@ -31,7 +31,7 @@ const DELETE: &[u8] = b"delete";
 
 /// Reads the words of a message that follow its tag, at most 63. They replace those that were read
 /// before.
-fn read_words(mut spelled: Words<'_>, words: &mut ReadWords) -> Option<()>
+pub(crate) fn read_words(mut spelled: Words<'_>, words: &mut ReadWords) -> Option<()>
     ensures { MatchOption result
         (message_words [] spelled.entry ≡ None)
         (λ _. message_words [] spelled.entry ≡ Some words.new.items) }
@@ -111,7 +111,7 @@ fn of_name(mut operands: Words<'_>) -> Option<Name>
 
 /// The delivery of these parts. None if its received tag would not be this word.
 #[inline(always)]
-fn delivered(
+pub(crate) fn delivered(
     name: Name,
     receiver: GlobalId,
     shown: GlobalId,

@@ -59,5 +59,10 @@ circle_lines waits steps nexts =
 abbrev pub text_of : List (GlobalId × Wait) → List Step → List ℕ
 text_of waits steps = flat_map wait_line waits ++ circle_lines waits steps (nexts_of waits)
 
+-- Those for circles alone.
+abbrev pub circles_text : Machine → World → List ℕ
+circles_text m w =
+    circle_lines (waits_in m w) (possible m (late w)) (nexts_of (waits_in m w))
+
 abbrev pub waits_text : Machine → World → List ℕ
 waits_text m w = text_of (waits_in m w) (possible m (late w))

@@ -1,5 +1,6 @@
 //! The lines that tell who waits for whom.
-ghost use Rattle.std.specs.Prelude.{◌≡◌, ◌++◌, Some, codes, flat_map, map, IfOk, OnOk, OnErr};
+ghost use Rattle.std.specs.Prelude.{◌≡◌, ◌≤◌, ◌++◌, Some, codes, flat_map, length, map, take};
+ghost use Rattle.std.specs.Prelude.{IfOk, OnOk, OnErr};
 ghost use Rattle.std.specs.String.{string_bytes};
 ghost use Rattle.l4_model.specs.History.{IsHistory, reached};
 ghost use Rattle.l4_model.specs.World.{World};
@@ -7,13 +8,14 @@ ghost use Rattle.l4_types.specs.StepView.{step_of};
 ghost use Rattle.l4_waits.specs.Circles.{circle_at};
 ghost use Rattle.l4_waits.specs.Lines.{whom, how_word, wait_line, id_at, ids_at};
 ghost use Rattle.l4_waits.specs.Lines.{circle_word, ids_line, circle_line, circle_lines};
-ghost use Rattle.l4_waits.specs.Lines.{text_of, waits_text};
+ghost use Rattle.l4_waits.specs.Lines.{circles_text, text_of, waits_text};
 ghost use Rattle.l4_words.specs.Threads.{thread_word};
 
 use crate::circles::{circle_at, nexts_of};
 use crate::deadlocks::are_stuck;
 use l4_audit::audit::{AuditFault, audited};
 use l4_audit::auditor::Auditor;
+use l4_audit::reasons::StepFault;
 use l4_audit::waits::Wait;
 use l4_history::history::History;
 use l4_script::machine::Machine;
@@ -56,6 +58,68 @@ pub fn write_waits_after(
         Err(AuditFault::NoMemory) => Err(NoMemory),
         Err(AuditFault::Refused { .. }) => unreachable!(),
     }
+}
+
+// The lines of the circles at the end of an audit.
+fn circles_of(alloc: Global, auditor: Auditor<'_>) -> Result<Vec<u8>, NoMemory>
+    ensures { IfOk result (λ lines. lines.items ≡
+        circles_text auditor.entry.at.machine auditor.entry.at.world) }
+{
+    let waits = auditor.waits(alloc)?;
+    let late = auditor.possible_late(alloc)?;
+    let nexts = nexts_of(alloc, waits.as_slice())?;
+    let mut text = String::new(alloc);
+    push_circles(
+        &mut text,
+        waits.as_slice(),
+        late.as_slice(),
+        nexts.as_slice(),
+    )?;
+    Ok(text.into_bytes())
+}
+
+// The audit after the first `count` steps of a history.
+fn audited_until<'m>(
+    alloc: Global,
+    machine: &'m Machine,
+    history: &History,
+    count: usize,
+) -> Result<Auditor<'m>, NoMemory>
+    requires within { count ≤ length history.now.steps }
+    requires possible { IsHistory machine.now (take count history.now.steps) }
+    ensures machine { IfOk result (λ auditor. auditor.at.machine ≡ machine.now) }
+    ensures reached { IfOk result (λ auditor.
+        reached machine.now (take count history.now.steps) ≡ Some auditor.at.world) }
+{
+    let mut auditor = Auditor::new(alloc, machine)?;
+    for place in 0..count {
+        let step = history.step(place);
+        match auditor.step(&step) {
+            Ok(()) => {}
+            Err(StepFault::NoMemory) => return Err(NoMemory),
+            Err(StepFault::Refused(_)) => unreachable!(),
+        }
+    }
+    Ok(auditor)
+}
+
+/// The lines of the circles after the first `count` steps of a history, as `write_waits` has them.
+///
+/// `NoMemory`: memory was refused.
+pub fn circles_after(
+    alloc: Global,
+    machine: &Machine,
+    history: &History,
+    count: usize,
+) -> Result<Vec<u8>, NoMemory>
+    requires within { count ≤ length history.now.steps }
+    requires possible { IsHistory machine.now (take count history.now.steps) }
+    ensures { IfOk result (λ lines. (w : World) →
+        reached machine.now (take count history.now.steps) ≡ Some w →
+        lines.items ≡ circles_text machine.now w) }
+{
+    let auditor = audited_until(alloc, machine, history, count)?;
+    circles_of(alloc, auditor)
 }
 
 fn push_text(text: &mut String, waits: &[(GlobalId, Wait)], steps: &[Step]) -> Result<(), NoMemory>

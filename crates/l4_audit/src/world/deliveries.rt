@@ -119,6 +119,7 @@ impl World<'_> {
 
     /// Delivers the message of the first waiting sender that a receiver accepts, and ends its send.
     /// A retarget may be owed.
+    #[inline(always)]
     pub(crate) fn deliver(&mut self, delivery: &DeliveryRef<'_>) -> Result<(), StepFault>
         ensures { Judged self.old (delivered delivery.now) result self.new }
     {
@@ -137,6 +138,7 @@ impl World<'_> {
     }
 
     // Hands a message to its receiver, and ends its send.
+    #[inline(always)]
     fn take_over(&mut self, sender: usize, receiver: usize, delivery: &DeliveryRef<'_>, now: u64)
         requires sender { sender < length self.old.world.threads }
         requires receiver { receiver < length self.old.world.threads }

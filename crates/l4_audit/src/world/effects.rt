@@ -53,6 +53,7 @@ impl World<'_> {
     }
 
     /// Gives a thread the message of a delivery.
+    #[inline(always)]
     pub(crate) fn receive(&mut self, place: usize, delivery: &DeliveryRef<'_>)
         requires { place < length self.old.world.threads }
         ensures { self.new ≡ with_world self.old

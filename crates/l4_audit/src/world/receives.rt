@@ -33,6 +33,7 @@ impl World<'_> {
     }
 
     /// Times a receive phase out.
+    #[inline(always)]
     pub(crate) fn receive_timeout(&mut self, id: GlobalId) -> Result<(), StepFault>
         ensures { Judged self.old (ReceiveTimeout id) result self.new }
     {

@@ -41,6 +41,7 @@ impl World<'_> {
 
     /// Appends an undecided send to the list of its destination. Not while a retarget of the
     /// destination to the sender is owed.
+    #[inline(always)]
     pub(crate) fn queue_send(&mut self, name: Name) -> Result<(), StepFault>
         ensures { Judged self.old (Queue name) result self.new }
     {

@@ -28,6 +28,7 @@ impl World<'_> {
     }
 
     /// Runs an instruction of a thread that concerns nobody else, or ends the thread.
+    #[inline(always)]
     pub(crate) fn local(&mut self, id: GlobalId) -> Result<(), StepFault>
         ensures { Judged self.old (Local id) result self.new }
     {
@@ -54,11 +55,12 @@ impl World<'_> {
     }
 
     /// Begins the next send of a thread.
+    #[inline(always)]
     pub(crate) fn begin(&mut self, name: Name) -> Result<(), StepFault>
         ensures { Judged self.old (Begin name) result self.new }
     {
         let thread = self.may_begin(name)?;
-        let permitted = thread.may_show(self.machine);
+        let permitted = thread.shows(self.machine);
         let (place, instr, clock) = (thread.place(), thread.instruction(), thread.clock());
         self.start(place, &instr, permitted, clock);
         Ok(())
@@ -76,11 +78,12 @@ impl World<'_> {
     }
 
     /// Begins a receive phase without a send phase.
+    #[inline(always)]
     pub(crate) fn wait(&mut self, id: GlobalId) -> Result<(), StepFault>
         ensures { Judged self.old (Wait id) result self.new }
     {
         let thread = self.may_wait(id)?;
-        let permitted = thread.may_show(self.machine);
+        let permitted = thread.shows(self.machine);
         let (place, instr, clock) = (thread.place(), thread.instruction(), thread.clock());
         self.start(place, &instr, permitted, clock);
         Ok(())
@@ -135,6 +138,7 @@ impl World<'_> {
     }
 
     /// Advances the clock of a processor.
+    #[inline(always)]
     pub(crate) fn tick(&mut self, tick: Tick) -> Result<(), StepFault>
         ensures { Judged self.old (Ticks tick.cpu tick.clock) result self.new }
     {

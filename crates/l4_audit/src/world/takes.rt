@@ -12,6 +12,7 @@ use l4_types::step_ref::StepRef;
 impl World<'_> {
     /// Takes a step, if it is possible. Else nothing changes. A delivery that leaves a retarget
     /// owed takes memory.
+    #[inline(always)]
     pub fn take(&mut self, step: &StepRef<'_>) -> Result<(), StepFault>
         requires { IsPlaced self.old }
         ensures { Judged self.old (seen step.now) result self.new }

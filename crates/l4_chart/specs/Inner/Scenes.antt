@@ -1,5 +1,5 @@
 -- Where the parts of a picture stand, in whole pixels.
-use Rattle.std.specs.Prelude.{ℕ, ◌+◌, ◌-◌, ◌*◌, ◌/◌, ◌^◌, max, min, Option, Some, None, List, length}
+use Rattle.std.specs.Prelude.{ℕ, ◌+◌, ◌-◌, ◌*◌, ◌/◌, ◌^◌, ◌==◌, count_by, max, min, Option, Some, None, List, length}
 use Rattle.l4_chart.specs.Layouts.{widest}
 use Rattle.l4_chart.specs.declared.columns.Column.{Column}
 use Rattle.l4_chart.specs.declared.scene.Scene.{Scene}
@@ -8,6 +8,15 @@ use Rattle.l4_chart.specs.declared.scene.Scene.{Scene}
 -- and 16 besides.
 abbrev pub column_step : (longest : ℕ) → ℕ
 column_step longest = max (longest * 8 + 16) 72
+
+-- A row for each step, for what each thread is in, and for each line of a circle. The byte of a line
+-- end is 10.
+abbrev pub lines_in : (text : List ℕ) → ℕ
+lines_in text = count_by (λ byte. byte == 10) text
+
+abbrev pub row_count : (steps standings circles : ℕ) → ℕ
+row_count steps standings circles =
+    min (min (steps + standings) (2 ^ 64 - 1) + circles) (2 ^ 64 - 1)
 
 abbrev pub scene_of : List Column → (rows : ℕ) → Scene
 scene_of columns rows = record {

@@ -23,6 +23,14 @@ zero_bytes (suc more) = 0 ∷ suc more ∷ []
 abbrev pub zeros_told : Written → Written
 zeros_told w = record { bytes = w.bytes ++ zero_bytes w.zeros; zeros = 0 }
 
+-- A code with nothing written.
+abbrev pub unwritten : Written
+unwritten = record { bytes = []; zeros = 0 }
+
+-- A code behind another one.
+abbrev pub appended : Written → Written → Written
+appended w v = record { bytes = (w.bytes ++ zero_bytes w.zeros) ++ v.bytes; zeros = v.zeros }
+
 -- The bound of numbers for which so many more bytes have room. The last of these has one bit.
 abbrev pub room : (more : ℕ) → ℕ
 room zero = 2

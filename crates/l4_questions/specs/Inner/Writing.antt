@@ -6,7 +6,7 @@ use Rattle.l4_questions.specs.Endings.{Ending}
 use Rattle.l4_questions.specs.Printed.{all_unmet, ending_text, endings_text, numbered_text, unmet_of}
 use Rattle.l4_questions.specs.declared.judged.Written.{Written}
 use Rattle.l4_questions.specs.declared.question.Question.{Question}
-use Rattle.l4_questions.specs.declared.beside.Shown.{Shown}
+use Rattle.l4_questions.specs.Beside.{Shown}
 
 -- With what an answer has of those that are left, it is all that it has of the endings.
 pub record AreWritten (q : Question) (shown : Shown) (expected : Option (List Expected))

@@ -112,9 +112,10 @@ abbrev pub owed_code : Owed → List ℕ → List ℕ
 owed_code o rest = name_code o.send
     (global_code o.originator (global_code o.old_partner (global_code o.new_partner rest)))
 
+-- It begins with 1, so that no run of zeros goes on from what stands before it.
 abbrev pub local_code : (threads : ℕ) → Local → List ℕ → List ℕ
-local_code threads l rest =
-    sized threads thread_code l.threads
+local_code threads l rest = 1
+    ∷ sized threads thread_code l.threads
     (lists_code threads l.clock l.lists
     (sized threads number_code l.told (sized threads (optional owed_code) l.owed rest)))
 

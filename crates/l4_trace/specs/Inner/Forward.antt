@@ -1,12 +1,14 @@
 -- A text that is read forward, line by line.
-use Rattle.std.specs.Prelude.{ℕ, ◌≡◌, ◌+◌, Option, Some, None, Result, Ok, Err, List, [], ◌∷◌}
-use Rattle.l4_model.specs.Steps.{Step}
+use Rattle.std.specs.Prelude.{ℕ, ◌≡◌, ◌+◌, ◌++◌, true, Option, Some, None, Result, Ok, Err, List, [], ◌∷◌}
+use Rattle.l4_model.specs.Steps.{Step, Deliver}
 use Rattle.l4_types.specs.declared.step_ref.DeliveryRef.{DeliveryRef}
 use Rattle.l4_types.specs.declared.steps.Step.{Step as StepRef}
 use Rattle.l4_types.specs.StepView.{seen}
 use Rattle.l4_words.specs.Lines.{parts_of}
 use Rattle.l4_trace.specs.declared.fault.TraceFault.{TraceFault}
 use Rattle.l4_trace.specs.declared.fault.TraceFault.TheVariants.{NoMemory, Line}
+use Rattle.l4_trace.specs.declared.frequent.Told.{Told}
+use Rattle.l4_trace.specs.Lines.{has_line, line_of}
 use Rattle.l4_trace.specs.Reading.{step_of_line, steps_of}
 
 -- How many lines were read, and the text that follows them.
@@ -35,3 +37,12 @@ ReadsOn ahead (Ok x) = (steps : List Step) × (steps_of ahead.rest ≡ Ok steps)
 ReadsOn ahead (Err NoMemory) = ⊥
 ReadsOn ahead (Err (Line number)) =
     (behind : ℕ) × (steps_of ahead.rest ≡ Err behind) × (number ≡ ahead.read + behind)
+
+-- A text begins with the line of this step, and this follows that line.
+pub record BeginsWith (step : Step) (rest text : List ℕ) : Type 0 where
+  pub spelled : has_line step ≡ true
+  pub whole : text ≡ line_of step ++ rest
+
+-- The delivery of a line, once the words of its message are read.
+abbrev pub told_step : Told → (words : List ℕ) → Step
+told_step t words = Deliver t.name t.receiver t.shown t.actual t.tag words

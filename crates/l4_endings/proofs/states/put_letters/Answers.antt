@@ -1,4 +1,4 @@
-use Rattle.l4_endings.proofs.Coding.{all_written}
+use Rattle.l4_endings.proofs.Finding.{all_written}
 use Rattle.l4_endings.proofs.states.put_letters.Goals as goal
 
 pub returns : goal.returns

@@ -2,6 +2,7 @@ use Rattle.std.proofs.Common.{◌++◌, ℕ, List, [], map, ap, subst, sym, ◌�
 use Rattle.std.specs.List.{AllByRecursion}
 use Rattle.std.specs.Option.{option_copied}
 use Rattle.l4_futures.specs.Endings.{HasLooked}
+use Rattle.l4_questions.specs.Beside.{shown_as}
 use Rattle.l4_questions.specs.Answers.{endings_after, traces_along}
 use Rattle.l4_questions.specs.Inner.Found.{led_ending, IsLed}
 use Rattle.l4_questions.specs.Printed.{IsTold}
@@ -27,7 +28,7 @@ pub returns-clause-ok : goal.returns-clause-ok
 returns-clause-ok g c =
     let m = c.args.machine.now in
     let q = c.args.question.now in
-    let shown = c.args.beside.shown in
+    let shown = (shown_as c.args.beside.shown) in
     let expected = option_copied c.args.beside.expected in
     let found = c.in_ok-found.found in
     let traces = traces_along m found.endings.items in

@@ -1,6 +1,7 @@
 use Rattle.std.proofs.Common.{◌+◌, ◌∷◌, drop, map, ap, arith, subst, sym, ◌∙◌}
 use Rattle.std.specs.Option.{option_copied}
 use Rattle.std.proofs.lemmas.List.{at_drop_all, at_drop_more}
+use Rattle.l4_questions.specs.Beside.{shown_as}
 use Rattle.l4_questions.specs.Inner.Writing.{AreWritten}
 use Rattle.l4_questions.proofs.StuckThreads.{at_place}
 use Rattle.l4_questions.proofs.judged.written_endings.Goals as goal
@@ -8,7 +9,7 @@ use Rattle.l4_questions.proofs.judged.written_endings.Goals as goal
 pub loop-entries-init : goal.loop-entries-init
 loop-entries-init g c = record {
   written =
-      c.new-written.ensures.written c.args.question.now c.args.beside.shown
+      c.new-written.ensures.written c.args.question.now (shown_as c.args.beside.shown)
       (option_copied c.args.beside.expected)
       (map (g.E.Listed.ending c.args.machine.now) c.args.endings.now);
   few = omega (arith, c.new-written.ensures.count);
@@ -34,7 +35,7 @@ loop-entries-preserved g c =
     record {
       written =
           c.in_ok-write.ensures.written (map f endings) left
-          (subst (λ es. AreWritten c.args.question.now c.args.beside.shown
+          (subst (λ es. AreWritten c.args.question.now (shown_as c.args.beside.shown)
           (option_copied c.args.beside.expected) (map f endings) es c.loop-entries.written) next
           c.loop-entries.invariant.written);
       few = omega (arith, c.in_ok-write.ensures.count, c.loop-entries.invariant.few);
@@ -43,7 +44,7 @@ loop-entries-preserved g c =
 pub returns : goal.returns
 returns g c =
     let f = g.E.Listed.ending c.args.machine.now in
-    subst (λ es. AreWritten c.args.question.now c.args.beside.shown
+    subst (λ es. AreWritten c.args.question.now (shown_as c.args.beside.shown)
     (option_copied c.args.beside.expected) (map f c.args.endings.now) es c.loop-entries.written)
     (at_drop_all (map f) c.args.endings.now c.loop-entries.entries-index
     (omega (arith, c.loop-entries-test.false))) c.loop-entries.invariant.written

@@ -2,6 +2,7 @@ use Rattle.std.proofs.Common.{ℕ, List, [], map, ap, subst, ◌∙◌, arith}
 use Rattle.std.specs.Option.{option_copied}
 use Rattle.l4_states.specs.Endings.{AreEndings}
 use Rattle.l4_endings.specs.Inner.Tried.{told}
+use Rattle.l4_questions.specs.Beside.{shown_as}
 use Rattle.l4_questions.specs.Inner.Found.{placed_by}
 use Rattle.l4_questions.specs.Placed.{placed_endings}
 use Rattle.l4_questions.specs.Printed.{IsTold}
@@ -16,7 +17,7 @@ pub returns-clause-ok : goal.returns-clause-ok
 returns-clause-ok g c =
     let m = c.args.machine.now in
     let q = c.args.question.now in
-    let shown = c.args.beside.shown in
+    let shown = (shown_as c.args.beside.shown) in
     let expected = option_copied c.args.beside.expected in
     let found = c.in_ok-found.found in
     let endings = told found.endings.items in

@@ -1,7 +1,9 @@
 use Rattle.std.proofs.Common.{ap, sym, ◌∙◌}
 use Rattle.std.specs.Result.{result_err}
 use Rattle.l4_script.specs.Inner.Scripts.{instr_of}
+use Rattle.std.specs.Prelude.{◌&&◌}
 use Rattle.l4_thread.specs.Inner.Ipcs.{may_show}
+use Rattle.l4_thread.specs.Inner.Requests.{propagates}
 use Rattle.l4_audit.specs.Inner.Audited.{Audited, with_world}
 use Rattle.l4_audit.specs.Starting.{starting}
 use Rattle.l4_audit.proofs.Taking.{begins_on}
@@ -13,8 +15,9 @@ start-requires c =
     let a = c.args.self.now in
     let none = sym c.may_begin.ensures.reason ∙ ap result_err c.in_ok-thread.was in
     rw c.place-place.ensures
-    (can_start a c.args.name.thread c.in_ok-thread.thread (instr_of c.instruction-instr.result) c.may_show-permitted.result c.in_ok-thread.ensures.thread c.instruction-instr.ensures.within
-    (λ asks. c.in_ok-thread.ensures.room) (c.may_show-permitted.ensures ∙ ap (λ (x : Audited). may_show x.machine c.in_ok-thread.thread.declared.id c.in_ok-thread.thread.now.context.actual) c.self.view_is))
+    (can_start a c.args.name.thread c.in_ok-thread.thread (instr_of c.instruction-instr.result) c.shows-permitted.result c.in_ok-thread.ensures.thread c.instruction-instr.ensures.within
+    (λ asks. c.in_ok-thread.ensures.room) (c.shows-permitted.ensures ∙ ap (λ (x : Audited). propagates c.in_ok-thread.thread.now.context &&
+    may_show x.machine c.in_ok-thread.thread.declared.id c.in_ok-thread.thread.now.context.actual) c.self.view_is))
 
 pub returns : goal.returns
 returns c =

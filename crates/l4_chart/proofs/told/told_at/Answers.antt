@@ -1,0 +1,9 @@
+use Rattle.std.proofs.Common.{ap}
+use Rattle.l4_types.specs.StepView.{seen}
+use Rattle.l4_chart.proofs.Walking.{told_is}
+use Rattle.l4_chart.proofs.told.told_at.Goals as goal
+
+pub returns-clause-told : goal.returns-clause-told
+returns-clause-told c =
+    told_is c.args.world.now c.take.new.world c.args.listing.now c.args.number (seen c.args.step) _ _ _ c.in_ok-take.ensures c.known_before-known.ensures
+    c.step_destination-to.ensures c.step_instruction-at.ensures

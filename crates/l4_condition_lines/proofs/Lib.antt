@@ -1,0 +1,4 @@
+pub mod Reading
+pub mod Judging
+pub mod Telling
+mod Rows

@@ -1,0 +1,4 @@
+pub mod Events
+pub mod Known
+pub mod Numbers
+pub mod Rows

@@ -6,7 +6,7 @@ import shutil
 import subprocess
 import tempfile
 
-from edits import CRATES, DEFINITIONS, TOP, edits_of
+from edits import CRATES, DEFINITIONS, TOP, cites_gone, edits_of
 
 MODEL = ["l4_model", "l4_core_model", "l4_refines", "l4_merge", "l4_bisimilar", "l4_explore", "l4_states", "l4_worlds", "l4_first", "l4_persistent", "l4_rests", "l4_futures", "l4_forever", "l4_invariants"]
 IMPORT = re.compile(r"l4_core_model\.proofs\.(\w+)")
@@ -54,7 +54,7 @@ def refused_by(copy, crate):
     if any("logic=proved" in line for line in said[-3:]):
         return ""
     where = next((found.group(1) for line in said if (found := UNBUILT.match(line))), crate)
-    lemmas = [f"{found.group(1)}:{found.group(2)}" for line in said if (found := REFUSED.match(line))]
+    lemmas = [f"{found.group(1)}:{found.group(2)}" for line in said if (found := REFUSED.match(line)) and not cites_gone(line)]
     if not lemmas:
         return f"no lemma: {next((line for line in said if 'error' in line), '')}"
     more = f" and {len(lemmas) - 1} more" if lemmas[1:] else ""

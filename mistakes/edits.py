@@ -10,9 +10,11 @@ CRATES = TOP / "crates"
 DEFINITIONS = "definitions"
 # The first lines of a mistake in a table.
 MISTAKE, GATE = "mistake: ", "gate: yes"
-FUNCTION = re.compile(r"\s*(?:pub(?:\([^)]*\))?\s+)?(?:const\s+)?fn\s+(\w+)")
+FUNCTION = re.compile(r"\s*(?:pub(?:\([^)]*\))?\s+)?(?:const\s+)?(?:extern\s+\"C\"\s+)?fn\s+(\w+)")
 MODULE = re.compile(r"^[a-z_]\w*::")
 IMPL = re.compile(r"impl(?:<[^{]*?>)?\s+(?:[\w:<>', ]+\s+for\s+)?(\w+)")
+# What the prover says of a name that is not there.
+GONE = " has no ", " is not in scope"
 # The functions of a generic type with one type put in.
 OF_ONE = re.compile(r"impl (\w+)<([A-Z]\w*)")
 
@@ -82,6 +84,11 @@ class Edit:
     def judges(self):
         """The functions one of which must be refused."""
         return self.refusers() | self.functions() - {None}
+
+
+def cites_gone(text):
+    """Whether this error is only that a name is not there, which shows nothing of what a clause or a lemma says."""
+    return any(gone in text for gone in GONE)
 
 
 def function_at(text, at):

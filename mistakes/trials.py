@@ -16,7 +16,7 @@ import subprocess
 import sys
 import tempfile
 
-from edits import TOP, is_of, paths_of
+from edits import TOP, cites_gone, is_of, paths_of
 
 sys.path.insert(0, str(pathlib.Path(shutil.which("rt")).resolve().parent))
 import rtlib  # noqa: E402
@@ -25,7 +25,9 @@ import rtlib  # noqa: E402
 rtlib.Crate.stamp = functools.cache(rtlib.Crate.stamp)
 
 VERDICT = re.compile(r"fn \w+::(\S+): (.*)")
-ERROR = re.compile(r"(?:so far: )?\./proofs/(\S+)/Answers\.antt:\d+:\d+: error: (.*)")
+ERROR = re.compile(r"(?:so far: )?\./proofs/(\S+)\.antt:\d+:\d+: error: (.*)")
+# An error of what stands on a lemma that has one.
+DEPENDENT = re.compile(r"\d+ declarations? that depends? on `([^`]+)`, which was .*, w\w+ not checked: (.*)")
 UNREAD = re.compile(r"src/\S+: error\[.*|rattle: error.*")
 PARTS = "src", "specs", "proofs"
 TEXT = {"stdout": subprocess.PIPE, "stderr": subprocess.STDOUT, "text": True}
@@ -39,23 +41,36 @@ class Batch:
     """Mistakes of one crate that are planted together."""
 
     def __init__(self, first):
-        self.edits, self.judges, self.texts = [first], first.judges(), first.planted({})
+        self.edits, self.judges, self.texts = [first], judges_of(first), first.planted({})
 
     def takes(self, edit):
         """Takes one more, where other functions judge it and its texts stand once where they have been planted."""
         changed = edit.planted(self.texts)
-        if changed is None or self.judges & edit.judges():
+        if changed is None or self.judges & judges_of(edit):
             return False
         self.edits.append(edit)
-        self.judges |= edit.judges()
+        self.judges |= judges_of(edit)
         self.texts |= changed
         return True
 
     def asked(self):
         """The functions to ask for, as the prover names them. None, for all, where an edit has no function that it could be asked for."""
-        paths = paths_of(self.edits[0].home)
-        of_each = [{path for judge in edit.judges() for at, path in paths if is_of(at, judge)} for edit in self.edits]
+        of_each = [{asked for _, asked in paths_judging(edit)} for edit in self.edits]
         return sorted(set().union(*of_each)) if all(of_each) else None
+
+
+# The functions of a crate are read once.
+functions_of = functools.cache(paths_of)
+
+
+def paths_judging(edit):
+    """The functions that judge it: the path of each, and by which path the prover is asked for it."""
+    return [(at, asked) for at, asked in functions_of(edit.home) if any(is_of(at, judge) for judge in edit.judges())]
+
+
+def judges_of(edit):
+    """What judges it, by name and by path: a name without its type is that of functions of any."""
+    return edit.judges() | {at for at, _ in paths_judging(edit)}
 
 
 def batches_of(edits, is_alone):
@@ -78,9 +93,25 @@ def why_refused(said, function):
     verdicts = [text for path, text in told(VERDICT, said) if is_of(path, function)]
     if all(text == "proved" for text in verdicts):
         return None
-    errors = [text for path, text in told(ERROR, said) if is_of(path.replace("/", "::"), function)]
-    real = [text for text in errors if " has no " not in text]
+    errors = told(ERROR, said)
+    own = [(path, text) for path, text in errors if path.endswith("/Answers") and is_of(path.removesuffix("/Answers").replace("/", "::"), function)]
+    real = [text for path, text in own if is_real(path, text, errors)]
     return next((text for text in verdicts if "`search` did not prove" in text), real[0] if real else None)
+
+
+def is_real(path, text, errors):
+    """Whether this refuses something for what it says, and not since a name is gone, there or in a lemma that it stands on."""
+    if not (found := DEPENDENT.match(text)):
+        return not cites_gone(text)
+    others = [(at, why) for at, why in errors if why != text]
+    on = [(at, why) for at, why in others if is_about(why, found[1])]
+    return any(is_real(at, why, others) for at, why in [one for one in on if one[0] == path] or on)
+
+
+def is_about(text, lemma):
+    """Whether this is the error of a lemma, or it was not checked since another has one."""
+    found = DEPENDENT.match(text)
+    return lemma in re.findall(r"[^\s,()]+", found[2]) if found else text.startswith(f"`{lemma}`:")
 
 
 def is_refused(edit, said):
@@ -129,9 +160,11 @@ def try_batch(batch, takes_names):
     with tempfile.TemporaryDirectory(prefix="mistake-") as room:
         said = prove(batch, pathlib.Path(room))
     left = [edit for edit in batch.edits if not is_refused(edit, said)]
-    for edit in [edit for edit in left if takes_names and is_unproved(edit, said)]:
+    nameless = [edit for edit in left if is_unproved(edit, said)]
+    for edit in nameless if takes_names or len(batch.edits) == 1 else []:
         print(f"  {edit.name}: refused, but only since a proof names what it takes away: change a value and keep the names", flush=True)
-        left.remove(edit)
+    if takes_names:
+        left = [edit for edit in left if edit not in nameless]
     keep(edit for edit in batch.edits if edit not in left)
     if left and len(batch.edits) > 1:
         return [edit for one in left for edit in try_batch(Batch(one), takes_names)]

@@ -1,14 +1,15 @@
 """Prints what `l4run endings` says of a machine, as a second emulator finds it, and ends with the same status.
 
     python3 -B trials/endings.py FILE [--placed] [--depth N] [--states N] [--stuck] [--with LINE] [--never LINE] [--none or --some] [--waits] [--expect NAME]
+    python3 -B trials/endings.py FILE --always 'never LINE & LINE' [--depth N] [--states N]
     python3 -B trials/endings.py FILE --trace N [..]
 
 Each ending, a world in which nothing but clocks can go on, is printed once with its report, the shortest first: whatever the scheduler does and whatever time passes, with the
-number of steps that lead there, ticks not counted; or with --placed of core runs whose ticks go to the least deadline of their processor, with the first schedule that leads
-there. The last line says how many worlds or states there are, how deep all were found, and whether there are no more. --trace prints the trace of one ending in place of all
+number of steps that lead there, ticks not counted; or with --placed of core runs whose ticks go to the least deadline of their processor, with a shortest schedule: the first
+by the choices of persistent sets. The last line says how many worlds or states were looked at, how deep all were found, and whether there are no more. --trace prints the trace of one ending in place of all
 else. With --stuck, but with neither --placed, --with nor --never, a line behind the endings tells of each thread that may be stuck for ever, and --trace counts these on. With
---waits who waits for whom stands behind each report. What of NAME an ending does not meet is told on standard error. Faults but that of --trace are not told as the program tells
-them.
+--waits who waits for whom stands behind each report. What of NAME an ending does not meet is told on standard error. With --always it is asked in place of endings whether a world on
+the way meets a condition; --trace 1 prints the history that is told of it. Faults but that of --trace are not told as the program tells them.
 """
 
 import argparse
@@ -16,7 +17,7 @@ import functools
 import pathlib
 import sys
 
-from second import expectations, machines, model, searches, traces, waits, words, worlds
+from second import expectations, invariants, machines, model, searches, sets, traces, waits, words, worlds
 from second.expectations import ANY_WORD, ANY_WORDS, fits, is_name, split_lines
 
 DEPTH, STATES = 1_000, 100_000
@@ -24,6 +25,7 @@ LEAST, MOST = 1, 1_000_000
 WHOLE, FAULT, USAGE, CUT, FOUND, UNMET, MISSED = 0, 1, 2, 3, 4, 4, 4
 OPEN = (words.ANY, words.ANY_LOCAL)
 BEGINNINGS = ("thread", "waiting", "ending", ANY_WORD)
+NEVER = "never "
 OUT_OF_RANGE = "l4run: ending out of range\n"
 
 
@@ -105,8 +107,8 @@ def stuck_text(stuck):
     return "".join(lines) + ("" if stuck.is_whole else "stuck for ever: cut\n")
 
 
-def found_placed(machine, asked):
-    found = searches.search(machine, asked.depth, asked.states)
+def found_placed(machine, asked, chooser):
+    found = searches.search(machine, asked.depth, asked.states, chooser)
     endings = [Ending(machine, searches.walk(machine, state.choices).history, ",".join(map(str, state.choices))) for state in found.endings()]
     last = f"states {len(found.states)} depth {found.depth} {whole_of_placed(machine) if found.is_whole else 'cut'}\n"
     return Found(endings, last, found.is_whole, lambda: NO_STUCK)
@@ -135,12 +137,28 @@ def answer(text, asked):
 
 def full_answer(text, asked, expected):
     """The lines that answer a question, those of standard error, and the exit status."""
+    if asked.always is not None:
+        return verdict_of(machines.read(text), asked)
     return answer_of(found_in(text, asked), asked, expected)
+
+
+def verdict_of(machine, asked):
+    verdict = invariants.verdict(machine, invariants.Condition(asked.always), asked.depth, asked.states)
+    if asked.trace is not None:
+        return trace_answer([] if verdict.history is None else [verdict.history], asked.trace)
+    return verdict.lines, "", verdict.status
 
 
 def found_in(text, asked):
     machine = machines.read(text)
-    return found_placed(machine, asked) if asked.placed else found_anywhere(machine, asked)
+    return found_placed(machine, asked, sets.Sets(machine)) if asked.placed else found_anywhere(machine, asked)
+
+
+def whole_answer(text, asked):
+    """The lines that answer a question about placed endings by a search of all choices, and the exit status."""
+    machine = machines.read(text)
+    lines, _, status = answer_of(found_placed(machine, asked, sets.All()), asked, [])
+    return lines, status
 
 
 def answer_of(found, asked, expected):
@@ -181,6 +199,13 @@ def line(word):
     return word
 
 
+def condition(word):
+    """The lines of a condition."""
+    if not word.startswith(NEVER):
+        raise argparse.ArgumentTypeError("no condition")
+    return [line(part) for part in word[len(NEVER) :].split(" & ")]
+
+
 def question(arguments):
     reader = argparse.ArgumentParser()
     reader.add_argument("file", type=pathlib.Path)
@@ -192,6 +217,7 @@ def question(arguments):
     reader.add_argument("--none", action="store_true")
     reader.add_argument("--some", action="store_true")
     reader.add_argument("--placed", action="store_true")
+    reader.add_argument("--always", type=condition)
     reader.add_argument("--trace", type=int)
     reader.add_argument("--waits", action="store_true")
     reader.add_argument("--expect", type=pathlib.Path)

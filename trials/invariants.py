@@ -1,14 +1,17 @@
-"""Compares two ways to find out whether a world on the way of some history of random machines meets a condition of lines. Prints counts.
+"""Compares two ways to find out whether a world on the way of some history of random machines meets a condition of lines, and with them what `l4run endings --always` says, where a
+program is given. Prints counts.
 
 - A search that tries a step alone only where the condition does not see it and where it does not lead back, against one that tries every step and in which two worlds are one only
   where all but clocks and numbers of sends is equal: the same answer, and no fewer steps than the fewest.
 - The history of the world that is told is one by the rules, with as many steps as are told, and the condition is met behind it.
 - A search that leaves something out misses a world: of one text for each such thing, and of random machines as many as are counted.
+- The program's lines and status, and the trace of its history, are those of a search in its order.
 """
 
 import collections
 import math
 import random
+import subprocess
 import sys
 
 import endings
@@ -22,6 +25,9 @@ DEPTH, MOST_WORLDS = 1_000, 2_000
 # So many worlds may the search of every step find.
 MOST_PLAIN = 300
 CONDITIONS = 6
+# In place of a program: the two ways are compared with each other alone.
+NO_PROGRAM = "none"
+LIMITS = ((DEPTH, MOST_WORLDS), (DEPTH, MOST_WORLDS), (DEPTH, 1), (DEPTH, 9), (DEPTH, 40), (1, MOST_WORLDS), (4, MOST_WORLDS), (12, 60))
 # How many steps a walk takes to the world whose lines are asked for.
 WALK_STEPS = 12
 
@@ -153,8 +159,28 @@ def judge_lock(counts):
     counts["steps to two holders of a broken lock by every step"] += nearest.steps
 
 
-def main(count, part):
+def same_lines(program, file, machine, lines, dice, counts):
+    depth, most = dice.choice(LIMITS)
+    verdict = invariants.verdict(machine, Condition(lines), depth, most)
+    asked = [f"--always=never {' & '.join(lines)}", f"--depth={depth}", f"--states={most}"]
+    same_answer(program, [file, *asked], verdict.lines, "", verdict.status)
+    if verdict.history is None:
+        same_answer(program, [file, *asked, "--trace=1"], "", "l4run: ending out of range\n", 1)
+    else:
+        same_answer(program, [file, *asked, "--trace=1"], traces.text(verdict.history), "", 0)
+    counts[f"answers with status {verdict.status}"] += 1
+    counts["answers with perhaps fewer steps"] += "or fewer" in verdict.lines
+
+
+def same_answer(program, words, *wanted):
+    answer = subprocess.run([program, "endings", *words], stdout=subprocess.PIPE, stderr=subprocess.PIPE, text=True)
+    said = answer.stdout, answer.stderr, answer.returncode
+    need(said == wanted, f"{words}\nthe program says, {said[-1]}:\n{said[0]}{said[1]}the second emulator says, {wanted[-1]}:\n{wanted[0]}{wanted[1]}")
+
+
+def main(program, folder, count, part):
     dice, counts = random.Random(SEED + part), collections.Counter()
+    file = f"{folder}/always-{part}.l4"
     if part == 1:
         judge_missed(counts)
         judge_lock(counts)
@@ -162,10 +188,14 @@ def main(count, part):
         text = KINDS[number % len(KINDS)](dice).text()
         machine = machines.read(text)
         counts[f"machines of profile {machine.profile}, {machine.format.bits} bits"] += 1
+        with open(file, "w") as machine_file:
+            machine_file.write(text)
         for _ in range(CONDITIONS):
             lines = condition_lines(dice, machine)
             try:
                 judge(machine, lines, dice, counts)
+                if program != NO_PROGRAM:
+                    same_lines(program, file, machine, lines, dice, counts)
             except Differs as differs:
                 sys.exit(f"{differs}, never {' & '.join(lines)}, the machine:\n{text}")
     for what, number in counts.items():
@@ -173,4 +203,4 @@ def main(count, part):
 
 
 if __name__ == "__main__":
-    main(int(sys.argv[3]), int(sys.argv[4]))
+    main(sys.argv[1], sys.argv[2], int(sys.argv[3]), int(sys.argv[4]))

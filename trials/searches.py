@@ -1,5 +1,7 @@
-"""Compares what `l4run endings --placed` says of random machines with what the second emulator says: the same
-lines and the same status, where both find as many states. Prints counts.
+"""Compares what `l4run endings --placed` says of random machines with what the second emulator says, by two
+searches of its own. That of persistent sets tells the same lines and the same status, where both find as many
+states. That of all choices tells the same endings, by as many events, and the same status: where it is not cut by
+a number of states. Prints counts.
 
 Both search to a depth and among so many states that a machine takes no more than seconds. The program
 may tell more states apart, as its processors know more than the second emulator's: such machines are
@@ -8,6 +10,7 @@ counted, and where a search ends at a number of states, one list of endings then
 
 import collections
 import random
+import re
 import subprocess
 import sys
 
@@ -39,12 +42,42 @@ def compared(program, file, text, words, counts):
     is_same = told.stdout == expected and told.returncode == status
     if not is_same and not agree(told.stdout, expected):
         sys.exit(f"{words}, the machine:\n{text}\nthe program says, {told.returncode}:\n{told.stdout}\nthe second emulator says, {status}:\n{expected}")
+    compare_with_all(told, text, endings.question([file, *words]), counts)
     last = expected.splitlines()[-1].split()
     counts[f"machines whose search is {'cut' if last[-1] == 'cut' else 'whole'}"] += 1
     counts[f"machines with status {status}"] += 1
     counts["machines with the same lines and status"] += is_same
     counts["states"] += int(last[1])
     counts["endings"] += expected.count("\nending quiet\n")
+
+
+def compare_with_all(told, text, asked, counts):
+    """Compares endings and their lengths with those of a search of all choices, if it was not cut by a number of states."""
+    expected, status = endings.whole_answer(text, asked)
+    (ours, _), (theirs, last) = map(listed, (told.stdout, expected))
+    if last[-1] == "cut" and int(last[3]) < asked.depth:
+        counts["machines with too many states for a search of all choices"] += 1
+        return
+    if ours != theirs or told.returncode != status and last[-1] != "cut":
+        sys.exit(f"{asked}, the machine:\n{text}\nthe program says, {told.returncode}:\n{told.stdout}\nall choices say, {status}:\n{expected}")
+    counts["machines with the endings of a search of all choices"] += 1
+    counts["states of a search of all choices"] += int(last[1])
+
+
+NUMBER_OF_A_SEND = re.compile(r"#\d+")
+
+
+def listed(lines):
+    """The endings, each by its length and its lines in any order without numbers of sends, and the words of the last line."""
+    *told, last = lines.splitlines()
+    found = []
+    for line in told:
+        if line.startswith("ending ") and line != "ending quiet":
+            schedule = line.split(" ")[2:]
+            found.append((schedule[0].count(",") + 1 if schedule else 0, []))
+        else:
+            found[-1][1].append(NUMBER_OF_A_SEND.sub("", line))
+    return sorted((length, sorted(report)) for length, report in found), last.split()
 
 
 def agree(ours, theirs):

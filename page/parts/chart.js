@@ -33,7 +33,8 @@ class Chart {
     draw(svg, told) {
         const picture = new DOMParser().parseFromString(svg, "image/svg+xml").documentElement;
         picture.querySelector("style")?.remove();
-        const rows = [...picture.querySelectorAll("g.row")];
+        // What threads are in behind the last step has rows too, without a number.
+        const rows = [...picture.querySelectorAll("g.row")].filter((row) => row.querySelector("text.number"));
         this.numbers = rows.map((row) => Number(row.querySelector("text.number").textContent));
         this.total = told.length;
         this.lines = el("div", { className: "lines" }, ...rows.map((row, place) => this.line(row, this.numbers[place], told)));
@@ -76,8 +77,8 @@ class Chart {
     line(row, number, told) {
         row.dataset.step = number;
         const title = row.querySelector("title").textContent;
-        const { to } = told[number - 1];
-        const made = el("div", { title: withReceiver(title, to) }, el("span", { textContent: number }), withReceiver(shortOf(title), to));
+        const { step, to } = told[number - 1];
+        const made = el("div", { title }, el("span", { textContent: number }), withReceiver(shortOf(step), to));
         made.dataset.step = number;
         if (row.classList.contains("failure")) made.className = "failure";
         return made;

@@ -192,3 +192,63 @@ class WholeSearch(Search):
 
 def search(machine, condition, depth, most, left_out=NONE_LEFT_OUT):
     return Search(machine, condition, left_out).go(depth, most)
+
+
+# What the program says: it judges what a whole search has found, and then looks for a shorter history by all steps.
+
+
+@dataclasses.dataclass(frozen=True)
+class Verdict:
+    """The lines of an answer, its status, and the history that is told, if one is."""
+
+    lines: str
+    status: int
+    history: list | None
+
+
+def explore(search, depth, most):
+    """Lets a search go on from all that it finds. How far it went, and whether there is no more."""
+    for here, found in enumerate(search.order):
+        if found.steps >= depth:
+            return depth, False
+        for step, world, key in search.choices(found, here):
+            if key in search.places:
+                continue
+            if len(search.order) >= most:
+                return found.steps, False
+            search.places[key] = len(search.order)
+            search.order.append(worlds.Found(world, found.steps + 1, worlds.possible(world), found, step))
+    return search.order[-1].steps, True
+
+
+def first_met(search):
+    return next((found for found in search.order if search.condition.is_met(found.world)), None)
+
+
+def nearest(machine, condition, met, most):
+    """A history of fewer steps, where one is found, and whether there is none of fewer."""
+    search = WholeSearch(machine, condition)
+    depth, is_whole = explore(search, max(met.steps - 1, 0), most)
+    nearer = first_met(search)
+    return (nearer, True) if nearer else (met, is_whole or depth >= met.steps - 1)
+
+
+def verdict(machine, condition, depth, most):
+    search = Search(machine, condition)
+    deep, is_whole = explore(search, depth, most)
+    met = first_met(search)
+    last = f"worlds {len(search.order)} steps {deep} {'whole' if is_whole else 'cut'}\n"
+    if not met:
+        return Verdict(("never met\n" if is_whole else "not met: cut\n") + last, 0 if is_whole else 3, None)
+    met, is_shortest = nearest(machine, condition, met, most)
+    head = f"met, steps {met.steps}{'' if is_shortest else ' or fewer'}\n"
+    return Verdict(head + told(met.world) + last, 4, met.history())
+
+
+def told(world):
+    """The lines of a world but that of an ending, those of sends in order of declaration of their threads."""
+    lines = world.report(at_rest=False).splitlines()[:-1]
+    threads = [line for line in lines if line.startswith("thread ")]
+    places = {line.split(" ")[1]: place for place, line in enumerate(threads)}
+    sends = sorted(lines[len(threads) :], key=lambda line: places[line.split(" ")[1].partition("#")[0]])
+    return "".join(line + "\n" for line in threads + sends)

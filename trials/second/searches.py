@@ -1,5 +1,5 @@
-"""A search in breadth of all core runs of a machine whose ticks go to least deadlines: the states that they lead to, each once, with the first schedule that
-leads there. States are told apart by all that processors know and by the letters under way, but by no stamp and
+"""A search in breadth of the core runs of a machine whose ticks go to least deadlines: the states that they lead to, each once, with the first schedule of
+choices that leads there. The choices are all, or those of persistent sets (sets.py), which lead to all endings. States are told apart by all that processors know and by the letters under way, but by no stamp and
 by no number of a send. Of a deadline they tell how far it is ahead, and else not how late it is."""
 
 import dataclasses
@@ -140,14 +140,14 @@ def walk(machine, choices):
     return done
 
 
-def search(machine, depth, most):
+def search(machine, depth, most, chooser):
     """Ends where a state is as deep as this, or where there is one state more than these."""
     opening = Walk(machine)
     codes, states = {opening.code()}, [State((), opening.is_at_rest())]
     for state in states:
         if len(state.choices) >= depth:
             return Search(states, depth, False)
-        for choice in walk(machine, state.choices).choices():
+        for choice in chooser.chosen(walk(machine, state.choices)):
             choices = (*state.choices, choice)
             after = walk(machine, choices)
             code = after.code()

@@ -36,7 +36,7 @@ use Rattle.l4_commands.specs.declared.job.Scheduler.TheVariants.{Any, Placed}
 use Rattle.l4_commands.specs.declared.job.TextChart.{TextChart}
 use Rattle.l4_commands.specs.declared.job.Wanted.{Wanted}
 use Rattle.l4_commands.specs.declared.job.Wanted.TheVariants.{Whatever, NoEnding, AnEnding}
-use Rattle.l4_commands.specs.declared.texts.TheConstants.{INPUT_TWICE, SCHEDULE_OF_RUN, RECORD_AND_EXPECT, TURNS_ALONE, NEXT_BESIDE, OVER_ITS_FILE, TWO_FORMS, UNKNOWN_LINE, DELETED_LINE, NUMBER_LINE, NONE_AND_SOME, TRACE_BESIDE, CHART_AND_JSON, CHART_BESIDE}
+use Rattle.l4_commands.specs.declared.texts.TheConstants.{INPUT_TWICE, SCHEDULE_OF_RUN, RECORD_AND_EXPECT, TURNS_ALONE, NEXT_BESIDE, OVER_ITS_FILE, TWO_FORMS, UNKNOWN_LINE, DELETED_LINE, NUMBER_LINE, NONE_AND_SOME, ALWAYS_BESIDE, TRACE_BESIDE, CHART_AND_JSON, CHART_BESIDE}
 use Rattle.l4_commands.specs.declared.words.WordsFault.{WordsFault}
 use Rattle.l4_commands.specs.declared.words.WordsFault.TheVariants.{Help, Usage, NoMemory}
 
@@ -190,6 +190,7 @@ pub record IsSearchOf (rows : List Row) (search : EndingsJob) : Type 0 where
   pub never : option_copied search.never ≡ first_of (codes "never") rows
   pub wanted :
       Some search.wanted ≡ wanted_by (has_flag (codes "none") rows) (has_flag (codes "some") rows)
+  pub always : option_copied search.always ≡ first_of (codes "always") rows
   pub chart : search.chart ≡ text_chart (has_flag (codes "chart") rows)
   pub waits : search.waits ≡ has_flag (codes "waits") rows
   pub expected : option_copied search.expected ≡ first_of (codes "expect") rows
@@ -199,6 +200,7 @@ pub record IsSearchOf (rows : List Row) (search : EndingsJob) : Type 0 where
 pub record IsLintOf (rows : List Row) (lint : LintJob) : Type 0 where
   pub file : Some lint.file.now ≡ first_of (codes "file") rows
   pub schedule : option_copied lint.schedule ≡ first_of (codes "schedule") rows
+  pub unnamed : lint.is_named ≡ false
   pub json : lint.json ≡ has_flag (codes "json") rows
 
 -- The job that the matches ask for, by the name of the subcommand.
@@ -307,9 +309,19 @@ is_none_and_some rows = has_flag (codes "none") rows && has_flag (codes "some") 
 abbrev pub is_trace_beside : List Row → Bool
 is_trace_beside rows =
     has_value (codes "trace") rows
-    && (has_flag (codes "placed") rows || has_flag (codes "none") rows
-    || has_flag (codes "some") rows || has_flag (codes "chart") rows
-    || has_flag (codes "waits") rows || has_value (codes "expect") rows)
+    && (has_flag (codes "placed") rows || has_flag (codes "some") rows
+    || has_flag (codes "chart") rows || has_flag (codes "waits") rows
+    || has_value (codes "expect") rows)
+
+-- It is asked whether a world meets a condition in place of what endings there are.
+abbrev pub is_always_beside : List Row → Bool
+is_always_beside rows =
+    has_value (codes "always") rows
+    && (has_flag (codes "some") rows || has_flag (codes "none") rows
+    || has_value (codes "with") rows || has_value (codes "never") rows
+    || has_flag (codes "stuck") rows || has_flag (codes "placed") rows
+    || has_flag (codes "chart") rows || has_flag (codes "waits") rows
+    || has_value (codes "expect") rows)
 
 abbrev pub is_chart_and_json : List Row → Bool
 is_chart_and_json rows = has_flag (codes "chart") rows && has_flag (codes "json") rows
@@ -318,9 +330,10 @@ is_chart_and_json rows = has_flag (codes "chart") rows && has_flag (codes "json"
 abbrev pub endings_told : List Row → Option Text
 endings_told rows =
     or_else (lines_told rows)
-    (if is_none_and_some rows then Some NONE_AND_SOME.now
+    (if is_always_beside rows then Some ALWAYS_BESIDE.now
+    else (if is_none_and_some rows then Some NONE_AND_SOME.now
     else (if is_trace_beside rows then Some TRACE_BESIDE.now
-    else (if is_chart_and_json rows then Some CHART_AND_JSON.now else None)))
+    else (if is_chart_and_json rows then Some CHART_AND_JSON.now else None))))
 
 -- Whether the standard input, which can be read only once, is named more than once. A job reads a
 -- machine text, a trace or a schedule, and expectations.

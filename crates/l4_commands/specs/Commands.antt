@@ -97,6 +97,7 @@ endings_rules =
     ∷ flag (codes "stuck")
     ∷ flag (codes "none")
     ∷ flag (codes "some")
+    ∷ value (codes "always")
     ∷ flag (codes "chart")
     ∷ flag (codes "waits")
     ∷ value (codes "expect")

@@ -7,7 +7,7 @@ ghost use Rattle.l4_commands.specs.Asked.{IsAuditOf, IsChartOf, IsJobIn, IsLintO
 ghost use Rattle.l4_commands.specs.Asked.{IsReplayOf, IsRunOf, IsSearchOf, are_two, chart_told};
 ghost use Rattle.l4_commands.specs.Asked.{endings_told, extras_in, flags_in, form_of, has_flag};
 ghost use Rattle.l4_commands.specs.Asked.{has_turns_alone, has_value, is_input_of, is_next_beside};
-ghost use Rattle.l4_commands.specs.Asked.{drawn_told, is_chart_beside};
+ghost use Rattle.l4_commands.specs.Asked.{drawn_told, is_always_beside, is_chart_beside};
 ghost use Rattle.l4_commands.specs.Asked.{is_chart_and_json, is_none_and_some, is_over_file, is_same};
 ghost use Rattle.l4_commands.specs.Asked.{is_trace_beside, judged_in, line_told, lines_told};
 ghost use Rattle.l4_commands.specs.Asked.{lists_input, names_input, names_input_twice, number_in};
@@ -20,8 +20,8 @@ use crate::job::{
     Printed, ReplayJob, RunJob, Scheduler, TextChart, Wanted, list_name,
 };
 use crate::texts::{
-    CHART_AND_JSON, CHART_BESIDE, INPUT_TWICE, NEXT_BESIDE, NONE_AND_SOME, OVER_ITS_FILE,
-    RECORD_AND_EXPECT, SCHEDULE_OF_RUN, TRACE_BESIDE, TURNS_ALONE, TWO_FORMS,
+    ALWAYS_BESIDE, CHART_AND_JSON, CHART_BESIDE, INPUT_TWICE, NEXT_BESIDE, NONE_AND_SOME,
+    OVER_ITS_FILE, RECORD_AND_EXPECT, SCHEDULE_OF_RUN, TRACE_BESIDE, TURNS_ALONE, TWO_FORMS,
 };
 use clap::ArgMatches;
 use l4_lines::lines::{LineFault, line_fault};
@@ -261,6 +261,7 @@ fn endings_job<'a>(matches: &ArgMatches<'a>) -> Option<EndingsJob<'a>>
         with_line: text(matches, "with"),
         never: text(matches, "never"),
         wanted: wanted_by(has_flag(matches, "none"), has_flag(matches, "some"))?,
+        always: text(matches, "always"),
         chart: text_chart(has_flag(matches, "chart")),
         waits: has_flag(matches, "waits"),
         expected: text(matches, "expect"),
@@ -275,6 +276,7 @@ fn lint_job<'a>(matches: &ArgMatches<'a>) -> Option<LintJob<'a>>
     Some(LintJob {
         file: text(matches, "file")?,
         schedule: text(matches, "schedule"),
+        is_named: false,
         json: has_flag(matches, "json"),
     })
 }
@@ -440,8 +442,23 @@ fn is_trace_beside(matches: &ArgMatches<'_>) -> bool
 {
     has_value(matches, "trace")
         && (has_flag(matches, "placed")
-            || has_flag(matches, "none")
             || has_flag(matches, "some")
+            || has_flag(matches, "chart")
+            || has_flag(matches, "waits")
+            || has_value(matches, "expect"))
+}
+
+// Whether `--always` is given beside what asks for endings.
+fn is_always_beside(matches: &ArgMatches<'_>) -> bool
+    ensures { result ≡ is_always_beside (rows_in matches.now) }
+{
+    has_value(matches, "always")
+        && (has_flag(matches, "some")
+            || has_flag(matches, "none")
+            || has_value(matches, "with")
+            || has_value(matches, "never")
+            || has_flag(matches, "stuck")
+            || has_flag(matches, "placed")
             || has_flag(matches, "chart")
             || has_flag(matches, "waits")
             || has_value(matches, "expect"))
@@ -460,6 +477,9 @@ fn endings_conflict<'a>(matches: &ArgMatches<'a>) -> Option<Conflict<'a>>
 {
     if let Some(conflict) = wrong_line(matches) {
         return Some(conflict);
+    }
+    if is_always_beside(matches) {
+        return Some(Conflict::Arguments(ALWAYS_BESIDE));
     }
     if is_none_and_some(matches) {
         return Some(Conflict::Arguments(NONE_AND_SOME));

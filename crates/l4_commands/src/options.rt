@@ -334,6 +334,11 @@ come",
         help: "Ends with status 4 where there is no such ending, with 0 where one was found",
     },
     Argument {
+        name: "always",
+        takes: Takes::Text("CONDITION"),
+        help: "Asks in place of endings that no world on the way meets this, `never LINE & LINE`",
+    },
+    Argument {
         name: "chart",
         takes: Takes::Nothing,
         help: "Prints above each report a chart of how it comes to that",

@@ -2,7 +2,7 @@
 
 /// The version of the program and of the kit that proves it, and the profiles and formats that it
 /// reads.
-pub const VERSION: &str = "0.40
+pub const VERSION: &str = "0.41
 rattle-kit-13f logic dac8208d650f15bf
 profiles 1 and 2, words of 64 and 32 bits";
 
@@ -49,7 +49,8 @@ one of these:
   l4run: expectation line 1: Unknown   also BadLine, BadWord, Deleted, Number
   l4run: cannot read NAME              also cannot write, cannot write NAME, no memory
 
-docs/FORMATS.md tells each line that is printed, and each fault.";
+On a terminal further lines explain it. docs/FORMATS.md tells each line that is printed, and each \
+fault.";
 
 pub const REPLAY_EXAMPLE: &str =
     "Example: `l4run replay ping.l4 --schedule 0,0,0`, with the machine text that `l4run help run` \
@@ -144,7 +145,9 @@ prints these steps, which `l4run audit` and `l4run chart` read. The last line sa
 were looked at, how
 many steps deep, and whether that is the `whole` or was `cut`: then there may be more endings, and \
 the status is 3.
-Where there is none at all, `no ending: it goes on for ever` stands before it.
+Where there is none at all, `no ending: it goes on for ever` stands before it. With `--none`, walks \
+at random are tried
+before a long search: what one finds is told alone, `found by a walk`.
 
 With `--placed` the first line of an ending has a shortest schedule, which `l4run replay` takes. \
 Then `whole` speaks of
@@ -154,25 +157,32 @@ all clocks to the least deadline of all, and may end as none of these. `in turn`
 has two threads, which
 take their turns in one order, not in every order.
 
-Status 4: `--none` found one, `--some` found that there is none, or an ending does not meet \
-`--expect`. 0: nothing of
-these, and the search was whole, or `--some` found one. 2: wrong usage. 1: a fault as of `run`, or \
-`l4run: depth out of
-range`, `l4run: states out of range`, `l4run: ending out of range`. docs/FORMATS.md (Endings) \
-tells each line.";
+With `--always 'never thread 1.1 ready .. & thread 2.1 ready ..'` it asks in place of endings \
+whether any world on the way
+tells all of these lines of a report. It prints `never met`, or `not met: cut`, or `met, steps K` \
+and the lines of such a
+world, and `--trace 1` how it comes to it.
+
+Status 4: `--none` found one, `--some` found that there is none, a world meets what `--always` \
+names, or an ending does
+not meet `--expect`. 0: nothing of these, and the search was whole, or `--some` found one. 2: wrong \
+usage. 1: a fault as
+of `run`, or `l4run: depth out of range`, `l4run: states out of range`, `l4run: ending out of \
+range`, `l4run: condition
+line N`. docs/FORMATS.md (Endings) tells each line.";
 
 pub const LINT_EXAMPLE: &str =
     "Example: `l4run lint ping.l4`, with the machine text that `l4run help run` shows but the line \
 `set 64 10`,
 prints `line 4 column 5: BadNumber: `64`: wanted: a register, 1 to 63`. Each fault has such a \
 line: where
-it is, its kind, what stands there, and what may. The status is 1 then, and 0 where nothing is \
-wrong. Then each
-doubt has a line. In the place of the kind stands `always` where what it says holds in every \
-run, else `perhaps`;
-it may be as it is meant. Behind that, `--schedule LIST` tells each faulty item of a list for this \
-machine, with
-status 1.
+it is, its kind, what stands there, and what may. On a terminal it begins with `ping.l4:4:5: `, as \
+editors look for
+it. The status is 1 then, and 0 where nothing is wrong. Then each doubt has a line. In the place \
+of the kind stands
+`always` where what it says holds in every run, else `perhaps`; it may be as it is meant. Behind \
+that, `--schedule
+LIST` tells each faulty item of a list for this machine, with status 1.
 
 Kinds: BadLine, BadNumber, BadId, BadCpu, TypedItems, DoubleId, TooManyThreads, \
 TooManyInstructions, BadTarget,
@@ -250,9 +260,15 @@ pub const NONE_AND_SOME: &str = "error: only one of '--none' and '--some' can be
 For more information, try '--help'.
 ";
 
+pub const ALWAYS_BESIDE: &str =
+    "error: '--always' goes with none of '--placed', '--stuck', '--with', '--never', '--none', \
+'--some', '--chart', '--waits' and '--expect'
+
+For more information, try '--help'.
+";
+
 pub const TRACE_BESIDE: &str =
-    "error: '--trace' goes with none of '--placed', '--none', '--some', '--chart', '--waits' and \
-'--expect'
+    "error: '--trace' goes with none of '--placed', '--some', '--chart', '--waits' and '--expect'
 
 For more information, try '--help'.
 ";

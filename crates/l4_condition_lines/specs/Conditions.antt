@@ -1,5 +1,5 @@
 -- Conditions of worlds by lines of a report.
-use Rattle.std.specs.Prelude.{ℕ, Bool, false, ◌≡◌, Option, Some, List, ◌++◌, filter_map, flat_map, is_none, map, zip}
+use Rattle.std.specs.Prelude.{ℕ, Bool, false, ◌≡◌, Option, Some, List, ◌++◌, filter_map, flat_map, map, zip}
 use Rattle.std.specs.List.{list_all}
 use Rattle.std.specs.Option.{option_map}
 use Rattle.l4_model.specs.Words.{GlobalId, Id}
@@ -7,7 +7,8 @@ use Rattle.l4_model.specs.Machine.{Machine}
 use Rattle.l4_model.specs.World.{Name, Thread, World}
 use Rattle.l4_model.specs.Steps.{Step}
 use Rattle.l4_model.specs.History.{reached, view}
-use Rattle.l4_lines.specs.Lines.{has_line, line_fault}
+pub use Rattle.l4_expect.specs.Conditions.{may_be_judged}
+use Rattle.l4_lines.specs.Lines.{has_line}
 use Rattle.l4_reports.specs.ReportLines.{ending_line, thread_line, waiting_line}
 use Rattle.l4_types.specs.declared.reports.Ending.{Ending}
 use Rattle.l4_common_lines.specs.CommonLines.{report_at}
@@ -28,10 +29,6 @@ world_text m w = flat_map thread_line (view m w) ++ flat_map waiting_line (sends
 -- A world meets a condition where it tells each line that is asked for.
 abbrev pub meets : Machine → (asked : List (List ℕ)) → World → Bool
 meets m asked w = list_all (λ line. has_line line (world_text m w)) asked
-
--- Worlds as good as each other tell alike what these lines ask for.
-abbrev pub may_be_judged : (asked : List (List ℕ)) → Bool
-may_be_judged asked = list_all (λ line. is_none (line_fault line)) asked
 
 -- A world that a history reaches tells the lines of the report of that history, but for that of its
 -- ending.

@@ -8,7 +8,7 @@
 //! where no line is one that a search may not ask for (`law_lines_alike`). So a condition of lines
 //! is one that `l4_invariants` speaks of.
 //!
-//! All of it is definitions and proofs; the functions have empty bodies. No command uses it yet.
+//! All of it is definitions and proofs; the functions have empty bodies. `l4_always` judges so.
 //!
 //! ```rust
 //! law_lines_read(); // from here on: a condition of lines reads what its lines say

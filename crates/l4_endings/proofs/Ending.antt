@@ -7,15 +7,16 @@ use Rattle.std.proofs.lemmas.List.{append-nil, map-append, take_more}
 use Rattle.l4_model.specs.Machine.{Machine}
 use Rattle.l4_core_model.specs.Runs.{IsMachine}
 use Rattle.l4_core_model.specs.Schedules.{Entry}
-use Rattle.l4_explore.specs.Search.{Seen, seen_at, unseen}
-use Rattle.l4_explore.specs.Inner.States.{AreAllStates, AreCut}
+use Rattle.l4_explore.specs.Search.{Seen, depth_of, seen_at, unseen, IsCut, IsExplored}
 use Rattle.l4_explore.specs.Tries.{State}
 use Rattle.l4_machine.specs.Entries.{entry_from}
 use Rattle.l4_machine.specs.declared.entries.Entry as code
 use Rattle.l4_states.specs.Choices.{choice, state_after}
-use Rattle.l4_states.specs.Endings.{ends_of, entries_of, AreEndings}
-use Rattle.l4_states.specs.Listed.{IsCutOff}
-use Rattle.l4_states.proofs.Found.{all_listed, cut_off}
+use Rattle.l4_states.specs.Endings.{ends_of, entries_of}
+use Rattle.l4_persistent.specs.Endings.{AreEndings}
+use Rattle.l4_persistent.specs.Inner.Ends.{AreOfSet}
+use Rattle.l4_persistent.proofs.Endings.{cut_off, looked_at}
+use Rattle.l4_persistent.proofs.Rests.{rests_listed}
 use Rattle.l4_states.proofs.Following.{state_led}
 use Rattle.l4_endings.specs.Inner.Tried.{entries_from, told}
 use Rattle.l4_endings.specs.Inner.Walked.{AreChoices}
@@ -80,15 +81,17 @@ are_choices m s state is =
 
 pub are_endings : (m : Machine) (found : List Seen) (endings : List (List Entry))
     (states asked most depth : ℕ) (is_whole : Bool) → IsMachine m →
-    AreAllStates (state_after m) found depth is_whole →
-    (is_whole ≡ false → AreCut (state_after m) found asked most depth) → states ≡ length found →
-    endings ≡ map (entries_of m) (ends_of found) →
+    IsExplored (state_after m) (AreOfSet m) found depth is_whole →
+    (is_whole ≡ true → depth ≡ depth_of found) →
+    (is_whole ≡ false → IsCut (state_after m) (AreOfSet m) found asked most depth) →
+    states ≡ length found → endings ≡ map (entries_of m) (ends_of found) →
     AreEndings m endings states asked most depth is_whole
-are_endings m found endings states asked most depth is_whole machine explored cut count are = record {
+are_endings m found endings states asked most depth is_whole machine explored deep cut count are = record {
   found = found;
   count = count;
-  all = all_listed m machine found depth is_whole explored;
-  cut = λ no. subst (λ (n : ℕ). IsCutOff m n asked most depth) (sym count)
-      (cut_off m machine found depth is_whole explored asked most (cut no));
+  looked = looked_at m machine found depth is_whole explored;
+  rests = rests_listed m machine found depth is_whole explored;
+  deep = deep;
+  cut = λ no. cut_off m machine found depth is_whole explored asked most (cut no);
   endings_are = are;
 }

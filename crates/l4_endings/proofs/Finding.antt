@@ -21,17 +21,21 @@ use Rattle.l4_explore.specs.Tries.{deepest}
 use Rattle.l4_machine.specs.UnderWay.{UnderWay, IsProcessorOf, IsRun}
 use Rattle.l4_states.specs.Inner.Codes.{chained, content_code, local_code, number_code}
 use Rattle.l4_states.specs.Choices.{after_choices, after_entry, choice, state_after, state_in, IsEarly, IsNear, IsReached, LeadsEarly}
-use Rattle.l4_states.specs.Inner.Remembered.{cpu_of, known_of, pair_place, part_code, poster_at, poster_of, receiver_at, rests_at}
+use Rattle.l4_states.specs.Inner.Remembered.{cpu_of, known_of, local_at, pair_place, part_code, poster_at, poster_of, receiver_at, rests_at}
 use Rattle.l4_states.proofs.Following.{after-append, has_reached}
-use Rattle.l4_states.proofs.Places.{near_same, pair_below, pair_rests, rests_same}
+use Rattle.l4_states.proofs.Places.{likely, near_same, pair_below, pair_rests, rests_same}
 use Rattle.l4_states.proofs.Reached.{reached_within}
 use Rattle.l4_states.proofs.Remembered.{own_code, pair_code, pair_is}
 use Rattle.l4_codes.specs.Inner.Written.{unwritten, with_numbers, Written, Writes}
 use Rattle.l4_rounds.proofs.Possible.{number_below}
+use Rattle.l4_sets.specs.Inner.Contacts.{AreContacts}
+use Rattle.l4_sets.specs.declared.contacts.Contacts.{Contacts}
+use Rattle.l4_sets.proofs.Alike.{contacts_like}
 use Rattle.l4_parts.specs.declared.parts.Part.{Part}
 use Rattle.l4_parts.specs.declared.events.Event.{Event}
 use Rattle.l4_parts.specs.declared.events.Write.{Write}
 use Rattle.l4_states.proofs.Early.{low_opening}
+use Rattle.l4_persistent.proofs.Slow.{slow_opening}
 use Rattle.l4_parts.specs.Inner.Numbers.{part_at, AreLonger, HasNumber, IsKept}
 use Rattle.l4_parts.specs.Inner.Known.{number_at, written, AreEvents, AreKnown, AreTrue, AreWrites, Fit, HasAt, IsAt, IsEvent, IsLed, IsOf, IsRow, IsRowBehind, IsTrue}
 use Rattle.l4_parts.specs.Inner.Events.{Matches}
@@ -59,10 +63,14 @@ armed_rests_not true deadline d (e ∷ es) some is = refl
 armed_rests_not false deadline d (e ∷ es) some is = refl
 
 new_true : (m : Machine) (g : System) (p : Part) → IsMachine m → IsReached m g → IsAt m g p.place p →
-    rests_at m g p.place ≡ p.rests → (p.place < m.cpus → IsNear g p.place) → IsTrue m p
-new_true m g p machine reached here rests near = record {
+    rests_at m g p.place ≡ p.rests → (p.place < m.cpus → IsNear g p.place) →
+    (p.place < m.cpus → AreContacts m p.place (local_at m g p.place) p.contacts) → IsTrue m p
+new_true m g p machine reached here rests near contacts = record {
   rests = λ h there at. sym (rests_same m g h p.place machine reached there (at_same m g h p.place p here at)) ∙ rests;
   near = λ h there own at. near_same m g h p.place machine reached there own (at_same m g h p.place p here at) (near own);
+  contacts = λ h there own at.
+      contacts_like m p.place (local_at m g p.place) (local_at m h p.place) p.contacts
+      (likely m g h p.place own (at_same m g h p.place p here at)) (contacts own);
 }
 
 pub kept_longer : (old new : List Part) (p : Part) → IsKept old new p → AreLonger old new
@@ -114,11 +122,13 @@ module _ (m : Machine) (r : Run) (w : UnderWay) (is : IsRun m r w) where
   pub core_known : (cpu place : ℕ) (p : Processor) (a b : Written) (rests : Bool) (old new : List Part) →
       cpu < m.cpus → place ≡ cpu → IsProcessorOf m r.system cpu p → a ≡ unwritten →
       Writes (local_code (length p.machine.threads) p.local) a b → rests ≡ local_at_rest m r.system cpu →
-      IsNear r.system cpu → IsKept old new (record { place = place; code = b; rests = rests }) →
+      IsNear r.system cpu → (contacts : Contacts) (moves : ℕ) → AreContacts m cpu p.local contacts →
+      IsKept old new (record { place = place; code = b; rests = rests; contacts = contacts; moves = moves }) →
       AreTrue m old → AreTrue m new
-  core_known cpu place p a b rests old new own same of none writes rests_is near kept are =
-      kept_true m old new (record { place = place; code = b; rests = rests }) kept
-      (new_true m r.system (record { place = place; code = b; rests = rests }) is.lawful (run_reached m r w is)
+  core_known cpu place p a b rests old new own same of none writes rests_is near contacts moves are_contacts kept are =
+      kept_true m old new (record { place = place; code = b; rests = rests; contacts = contacts; moves = moves }) kept
+      (new_true m r.system (record { place = place; code = b; rests = rests; contacts = contacts; moves = moves })
+      is.lawful (run_reached m r w is)
       (record {
         place_is = refl;
         code_is = subst (λ n. Writes (part_code m r.system n) unwritten b) (sym same)
@@ -128,7 +138,9 @@ module _ (m : Machine) (r : Run) (w : UnderWay) (is : IsRun m r w) where
       ∙ ap (λ (c : Bool). cond c (local_at_rest m r.system cpu)
       (is_empty (letters r.system.mail (poster_at m cpu) (receiver_at m cpu)))) (lt-ltb cpu m.cpus own)
       ∙ sym rests_is)
-      (λ low. subst (IsNear r.system) (sym same) near)) are
+      (λ low. subst (IsNear r.system) (sym same) near)
+      (λ low. subst (λ n. AreContacts m n (local_at m r.system n) contacts) (sym same)
+      (subst (λ (l : Local). AreContacts m cpu l contacts) (sym (ap (known_of m cpu) of.local)) are_contacts))) are
 
   pub core_number : {E : Type 0} (o : Result ℕ E) (cpu place : ℕ) (p : Processor) (a b : Written) (new : List Part) →
       cpu < m.cpus → place ≡ cpu → IsProcessorOf m r.system cpu p → a ≡ unwritten →
@@ -154,17 +166,20 @@ module _ (m : Machine) (r : Run) (w : UnderWay) (is : IsRun m r w) where
       m.cpus ≤ place → from ≡ poster_at m place → to ≡ receiver_at m place →
       ls ≡ letters r.system.mail from to → ns ≡ letters r.system.mail from to → a ≡ unwritten →
       Writes (letters_code ls) a b → rests ≡ is_empty ns →
-      IsKept old new (record { place = place; code = b; rests = rests }) → AreTrue m old → AreTrue m new
-  letters_known place from to ls ns a b rests old new past of_from of_to are also none writes rests_is kept true_ =
-      kept_true m old new (record { place = place; code = b; rests = rests }) kept
-      (new_true m r.system (record { place = place; code = b; rests = rests }) is.lawful (run_reached m r w is)
+      (contacts : Contacts) (moves : ℕ) →
+      IsKept old new (record { place = place; code = b; rests = rests; contacts = contacts; moves = moves }) →
+      AreTrue m old → AreTrue m new
+  letters_known place from to ls ns a b rests old new past of_from of_to are also none writes rests_is contacts moves kept true_ =
+      kept_true m old new (record { place = place; code = b; rests = rests; contacts = contacts; moves = moves }) kept
+      (new_true m r.system (record { place = place; code = b; rests = rests; contacts = contacts; moves = moves })
+      is.lawful (run_reached m r w is)
       (record {
         place_is = refl;
         code_is = letters_write place from to ls a b past of_from of_to are none writes;
       })
       (pair_rests m r.system place past
       ∙ sym (rests_is ∙ ap is_empty (also ∙ (λ i. letters r.system.mail (of_from i) (of_to i)))))
-      (λ low. absurd (omega (arith, low, past)))) true_
+      (λ low. absurd (omega (arith, low, past))) (λ low. absurd (omega (arith, low, past)))) true_
 
   pub letters_number : {E : Type 0} (o : Result ℕ E) (place from to : ℕ) (ls : List Letter) (a b : Written)
       (new : List Part) → m.cpus ≤ place → from ≡ poster_at m place → to ≡ receiver_at m place →
@@ -198,6 +213,7 @@ row_behind m s w parts row walked is = record {
   system = walked.run.system;
   leads = walked.leads;
   low = walked.clocks;
+  slow = walked.slow;
   row_is = is;
 }
 
@@ -407,6 +423,7 @@ opening_behind m parts row r = record {
   system = opening_system m;
   leads = refl;
   low = low_opening m;
+  slow = slow_opening m;
   row_is = r;
 }
 

@@ -3,4 +3,5 @@ pub mod Nexts
 pub mod Ending
 pub mod Finding
 pub mod Listing
-pub mod Depths
+pub mod Persisting
+pub mod Posting

@@ -15,6 +15,7 @@ use Rattle.l4_machine.specs.UnderWay.{UnderWay, GoesOn, HasRun, IsRun}
 use Rattle.l4_states.specs.Choices.{after_choices, after_entry, choice, choice_of, state_after, state_in, IsEarly, IsNear, LeadsEarly}
 use Rattle.l4_states.proofs.Early.{AreLow, is_early, low_next, low_opening}
 use Rattle.l4_states.proofs.Endings.{replayed}
+use Rattle.l4_persistent.proofs.Slow.{AreSlow, slow_next, slow_opening}
 use Rattle.l4_states.proofs.Following.{after-append, has_reached}
 use Rattle.l4_states.proofs.Reached.{reached_within}
 use Rattle.l4_explore.specs.Tries.{deepest}
@@ -43,6 +44,7 @@ walked_start m w is = record {
   leads = refl;
   events = refl;
   clocks = low_opening m;
+  slow = slow_opening m;
 }
 
 pub has_run : (m : Machine) (s : List ℕ) (w : UnderWay) → IsWalked m s w → HasRun w
@@ -109,6 +111,13 @@ walked_on m s w v e cpus walked some count goes near =
           (sym (length-append s (e ∷ [])))
           (subst (λ (g : System). AreLow (length s + 1) g.locals) (sym r.system)
           (low_next m walked.run.system (length s) walked.clocks e o.next
+          (subst (λ n. IsNear walked.run.system (e / (n + 2))) count
+          (near m walked.run walked.is)) o.leads));
+      slow =
+          subst (λ n. AreSlow n (after_entry_of_run (choice m e) m walked.run).system.locals)
+          (sym (length-append s (e ∷ [])))
+          (subst (λ (g : System). AreSlow (length s + 1) g.locals) (sym r.system)
+          (slow_next m walked.run.system (length s) walked.slow e o.next
           (subst (λ n. IsNear walked.run.system (e / (n + 2))) count
           (near m walked.run walked.is)) o.leads));
     }

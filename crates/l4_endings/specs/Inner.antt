@@ -1,4 +1,5 @@
 pub mod Learned
+pub mod Posted
 pub mod Remembered
 pub mod Tried
 pub mod Walked

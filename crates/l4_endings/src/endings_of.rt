@@ -3,8 +3,8 @@ ghost use Rattle.std.specs.Prelude.{ℕ, ◌≡◌, ◌<◌, ◌≤◌, ◌++◌
 ghost use Rattle.std.specs.Prelude.{true};
 ghost use Rattle.l4_explore.specs.Search.{seen_at};
 ghost use Rattle.l4_explore.specs.Tries.{deepest};
-ghost use Rattle.l4_states.specs.Endings.{ends_of, entries_of, AreAllEndings, AreEndings};
-ghost use Rattle.l4_endings.specs.Deepest.{IsDeepest};
+ghost use Rattle.l4_states.specs.Endings.{ends_of, entries_of};
+ghost use Rattle.l4_persistent.specs.Endings.{AreAllEndings, AreEndings};
 ghost use Rattle.l4_endings.specs.Inner.Tried.{entries_from, told};
 ghost use Rattle.l4_endings.specs.Inner.Walked.{AreChoices};
 
@@ -22,27 +22,27 @@ use std::alloc::Global;
 /// The result of a search for endings.
 #[derive(Drop)]
 pub struct FoundEndings {
-    /// Each ending by the entries that lead there: a shortest schedule, and of the shortest the
-    /// first. Shorter schedules come first.
+    /// Each ending by the entries that lead there, a shortest schedule. Shorter schedules come first.
     pub endings: Vec<Vec<Entry>>,
-    /// The number of states found, at rest or not, no two of them similar.
+    /// The number of states that the search has looked at, no two of them similar.
     pub states: usize,
-    /// Each core run of at most this many events leads to a state that is similar to a found one.
-    /// Where the search is whole, no state is farther away, and one is as far.
+    /// All endings of at most this many events are listed. Where the search is whole, this is how
+    /// many entries lead to the farthest state that it has looked at.
     pub depth: usize,
-    /// Whether longer core runs lead to no other states.
+    /// Whether all endings are listed.
     pub is_whole: bool,
 }
 
 /// The endings of all core runs of a machine of at most `depth` events, whose ticks go to the least
-/// deadline of their processor. Similar endings are listed once. They differ only in stamps, in
-/// numbers of sends, in how late it is, or in the order of letters of different pairs of
-/// processors.
+/// deadline of their processor, and whose clocks stay below 2^61. Similar endings are listed once.
+/// They differ only in stamps, in numbers of sends, in how late it is, or in the order of letters
+/// of different pairs of processors.
 ///
-/// It finds at most `most` states. Where there is one more, all states that fewer events lead to
-/// are found. No search goes deeper than 1,000,000 events. A search that is not whole was cut off.
-/// Some state takes as many events as the search may go deep, or there is one more state.
-/// `progress` hears how far the search has come.
+/// In each state it tries the choices of a persistent set of processors alone: of all others the
+/// events may come later. It looks at no more than `most` states. Where there is one more, all
+/// endings that fewer events lead to are found. No search goes deeper than 1,000,000 events. A
+/// search that is not whole was cut off. Some state that it has found takes as many events as it
+/// may go deep, or there is one more state. `progress` hears how far the search has come.
 ///
 /// `NoMemory`: memory was refused.
 pub fn endings<P: Progress>(
@@ -59,8 +59,7 @@ pub fn endings<P: Progress>(
         AreEndings machine.now (told r.endings.items) r.states (min depth deepest) most r.depth
         r.is_whole) }
     ensures few { IfOk result (λ r. r.states ≤ most) }
-    ensures whole { IfOk result (λ r.
-        r.is_whole ≡ true → (r.depth < depth) × IsDeepest machine.now r.depth) }
+    ensures whole { IfOk result (λ r. r.is_whole ≡ true → r.depth < depth) }
 {
     machine.facts();
     let memory = Memory::new(alloc, machine)?;

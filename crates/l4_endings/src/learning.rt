@@ -18,7 +18,7 @@ use l4_parts::events::{Event, Events, apply, writes_of};
 use l4_parts::parts::Parts;
 use l4_parts::rows::pair_place;
 use l4_rounds::choices::is_possible;
-use l4_script::machine::Machine;
+use l4_sets::Aims;
 use l4_types::errors::NoMemory;
 use std::alloc::{AllocError, Global};
 
@@ -44,27 +44,27 @@ fn parts_read(row: &[u32], cpus: u8, number: u32) -> (u32, u32)
 // The row of the state behind one more choice. None if it can't be made.
 fn row_after(
     alloc: Global,
-    machine: &Machine,
+    aims: &Aims<'_>,
     parts: &mut Parts,
     schedule: &[u32],
     number: u32,
 ) -> Result<Option<Vec<u32>>, NoMemory>
-    requires leads { AreChoices machine.now schedule.now }
+    requires leads { AreChoices aims.now schedule.now }
     requires short { length schedule.now < deepest }
-    requires number { number < machine.now.cpus * (machine.now.cpus + 2) }
+    requires number { number < aims.now.cpus * (aims.now.cpus + 2) }
     ensures longer { AreLonger parts.old.parts.items parts.new.parts.items }
-    ensures are { AreTrue machine.now parts.old.parts.items →
-        AreTrue machine.now parts.new.parts.items }
+    ensures are { AreTrue aims.now parts.old.parts.items →
+        AreTrue aims.now parts.new.parts.items }
     ensures found { IfOk result
-        (IsFound machine.now schedule.now number parts.new.parts.items) }
+        (IsFound aims.now schedule.now number parts.new.parts.items) }
 {
-    let cpus = machine.cpus();
-    let mut walk = walk_to(alloc, machine, schedule)?;
+    let cpus = aims.cpus();
+    let mut walk = walk_to(alloc, aims, schedule)?;
     if !is_possible(&walk, cpus, number) {
         return Ok(None);
     }
     make(&mut walk, cpus, number)?;
-    Ok(Some(row_of(alloc, parts, &walk, cpus)?))
+    Ok(Some(row_of(alloc, aims, parts, &walk, cpus)?))
 }
 
 // What a choice does that leads from one row to another one, or to none.
@@ -102,23 +102,23 @@ fn event_from(
 // Finds out what a choice does behind a schedule, whose state has this row, and remembers it.
 fn learn(
     alloc: Global,
-    machine: &Machine,
+    aims: &Aims<'_>,
     parts: &mut Parts,
     events: &mut Events,
     schedule: &[u32],
     row: &[u32],
     number: u32,
 ) -> Result<usize, NoMemory>
-    requires known { AreKnown machine.now parts.old.parts.items events.old.events.items }
-    requires row { IsRowBehind machine.now schedule.now parts.old.parts.items row.now }
+    requires known { AreKnown aims.now parts.old.parts.items events.old.events.items }
+    requires row { IsRowBehind aims.now schedule.now parts.old.parts.items row.now }
     requires short { length schedule.now < deepest }
-    requires number { number < machine.now.cpus * (machine.now.cpus + 2) }
+    requires number { number < aims.now.cpus * (aims.now.cpus + 2) }
     ensures longer { AreLonger parts.old.parts.items parts.new.parts.items }
-    ensures known { AreKnown machine.now parts.new.parts.items events.new.events.items }
-    ensures event { IfOk result (IsEventAt machine.now events.new.events.items row.now number) }
+    ensures known { AreKnown aims.now parts.new.parts.items events.new.events.items }
+    ensures event { IfOk result (IsEventAt aims.now events.new.events.items row.now number) }
 {
-    let read = parts_read(row, machine.cpus(), number);
-    let new = row_after(alloc, machine, parts, schedule, number)?;
+    let read = parts_read(row, aims.cpus(), number);
+    let new = row_after(alloc, aims, parts, schedule, number)?;
     let event = event_from(alloc, number, read, row, new)?;
     Ok(events.add(event)?)
 }
@@ -129,26 +129,26 @@ fn learn(
 /// `NoMemory`: memory was refused.
 pub(crate) fn event_of(
     alloc: Global,
-    machine: &Machine,
+    aims: &Aims<'_>,
     parts: &mut Parts,
     events: &mut Events,
     schedule: &[u32],
     row: &[u32],
     number: u32,
 ) -> Result<usize, NoMemory>
-    requires known { AreKnown machine.now parts.old.parts.items events.old.events.items }
-    requires row { IsRowBehind machine.now schedule.now parts.old.parts.items row.now }
+    requires known { AreKnown aims.now parts.old.parts.items events.old.events.items }
+    requires row { IsRowBehind aims.now schedule.now parts.old.parts.items row.now }
     requires short { length schedule.now < deepest }
-    requires number { number < machine.now.cpus * (machine.now.cpus + 2) }
+    requires number { number < aims.now.cpus * (aims.now.cpus + 2) }
     ensures longer { AreLonger parts.old.parts.items parts.new.parts.items }
-    ensures known { AreKnown machine.now parts.new.parts.items events.new.events.items }
-    ensures event { IfOk result (IsEventAt machine.now events.new.events.items row.now number) }
+    ensures known { AreKnown aims.now parts.new.parts.items events.new.events.items }
+    ensures event { IfOk result (IsEventAt aims.now events.new.events.items row.now number) }
 {
-    let (part, queue) = parts_read(row, machine.cpus(), number);
+    let (part, queue) = parts_read(row, aims.cpus(), number);
     if let Some(event) = events.find(row, number, part, queue) {
         return Ok(event);
     }
-    learn(alloc, machine, parts, events, schedule, row, number)
+    learn(alloc, aims, parts, events, schedule, row, number)
 }
 
 /// Whether the choice of an event can be made. The row becomes that of the state behind it.
@@ -168,29 +168,29 @@ pub(crate) fn go_on(events: &Events, event: usize, row: &mut Vec<u32>) -> bool
 /// `NoMemory`: memory was refused.
 pub(crate) fn row_behind(
     alloc: Global,
-    machine: &Machine,
+    aims: &Aims<'_>,
     parts: &mut Parts,
     events: &mut Events,
     opening: &[u32],
     schedule: &[u32],
 ) -> Result<Vec<u32>, NoMemory>
-    requires known { AreKnown machine.now parts.old.parts.items events.old.events.items }
-    requires opening { IsRow machine.now (opening_system machine.now) parts.old.parts.items
+    requires known { AreKnown aims.now parts.old.parts.items events.old.events.items }
+    requires opening { IsRow aims.now (opening_system aims.now) parts.old.parts.items
         opening.now }
-    requires leads { AreChoices machine.now schedule.now }
+    requires leads { AreChoices aims.now schedule.now }
     requires short { length schedule.now < deepest }
     ensures longer { AreLonger parts.old.parts.items parts.new.parts.items }
-    ensures known { AreKnown machine.now parts.new.parts.items events.new.events.items }
+    ensures known { AreKnown aims.now parts.new.parts.items events.new.events.items }
     ensures row { IfOk result (λ row.
-        IsRowBehind machine.now schedule.now parts.new.parts.items row.items) }
+        IsRowBehind aims.now schedule.now parts.new.parts.items row.items) }
 {
-    machine.facts();
+    aims.facts();
     let mut row = Vec::with_capacity(alloc, opening.len())?;
     row.extend_from_slice(opening)?;
     for place in 0..schedule.len() {
         let event = event_of(
             alloc,
-            machine,
+            aims,
             parts,
             events,
             &schedule[..place],

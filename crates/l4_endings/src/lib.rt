@@ -16,6 +16,7 @@
 mod endings_of;
 mod learning;
 mod memory;
+mod sets;
 mod states;
 mod tried;
 mod walks;

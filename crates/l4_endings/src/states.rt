@@ -15,8 +15,9 @@ use l4_codes::code::Code;
 use l4_codes::letters::put_letter;
 use l4_codes::processors::put_core;
 use l4_machine::{Letters, Walk};
-use l4_parts::parts::Parts;
+use l4_parts::parts::{Part, Parts};
 use l4_rounds::choices::least_deadline;
+use l4_sets::{Aims, Contacts};
 use std::alloc::{AllocError, Global};
 
 // Whether nothing is to be done on a processor, given its least deadline.
@@ -28,6 +29,19 @@ fn rests_until(is_busy: bool, deadline: Option<u64>) -> bool
         Some(_) => false,
         None => !is_busy,
     }
+}
+
+// How many choices a processor has by itself: its turn, and a tick.
+fn moves_of(walk: &Walk<'_>, cpu: u8) -> u32
+    requires run { HasRun walk.now }
+    requires cpu { cpu < walk.now.machine.cpus }
+{
+    let core = walk.core(cpu);
+    let may_tick = match core.least_deadline() {
+        Some(deadline) => deadline > core.clock(),
+        None => false,
+    };
+    u32::from(core.busy()) + u32::from(may_tick)
 }
 
 // Whether nothing is to be done or armed on a processor. Its least deadline is near.
@@ -46,11 +60,13 @@ fn is_resting(walk: &Walk<'_>, cpu: u8) -> bool
 // The number of what a processor knows.
 fn number_of_core(
     alloc: Global,
+    aims: &Aims<'_>,
     parts: &mut Parts,
     walk: &Walk<'_>,
     cpu: u8,
 ) -> Result<u32, AllocError>
     requires run { HasRun walk.now }
+    requires same { aims.now ≡ walk.now.machine }
     requires cpu { cpu < walk.now.machine.cpus }
     ensures longer { AreLonger parts.old.parts.items parts.new.parts.items }
     ensures are { (m : MachineOfModel) (r : Run) → IsRun m r walk.now →
@@ -59,9 +75,16 @@ fn number_of_core(
         IfOk result (HasAt m r.system parts.new.parts.items cpu) }
 {
     let rests = is_resting(walk, cpu);
+    let core = walk.core(cpu);
     let mut code = Code::new(alloc);
-    put_core(&mut code, walk.core(cpu))?;
-    parts.number_of(u32::from(cpu), code, rests)
+    put_core(&mut code, core)?;
+    parts.number_of(Part {
+        place: u32::from(cpu),
+        code,
+        rests,
+        contacts: aims.contacts(core),
+        moves: moves_of(walk, cpu),
+    })
 }
 
 // Writes the contents of letters, in order.
@@ -100,18 +123,26 @@ fn number_of_letters(
     let rests = walk.letters(to, from).is_empty();
     let mut code = Code::new(alloc);
     put_letters(&mut code, walk.letters(to, from))?;
-    parts.number_of(place, code, rests)
+    parts.number_of(Part {
+        place,
+        code,
+        rests,
+        contacts: Contacts::none(),
+        moves: u32::from(!rests),
+    })
 }
 
 // The number of the part at a place.
 fn number_of(
     alloc: Global,
+    aims: &Aims<'_>,
     parts: &mut Parts,
     walk: &Walk<'_>,
     cpus: u8,
     place: u32,
 ) -> Result<u32, AllocError>
     requires run { HasRun walk.now }
+    requires same { aims.now ≡ walk.now.machine }
     requires cpus { cpus ≡ walk.now.machine.cpus }
     requires inside { place < cpus + cpus * cpus }
     ensures longer { AreLonger parts.old.parts.items parts.new.parts.items }
@@ -121,7 +152,7 @@ fn number_of(
         IfOk result (HasAt m r.system parts.new.parts.items place) }
 {
     if place < u32::from(cpus) {
-        return number_of_core(alloc, parts, walk, place as u8);
+        return number_of_core(alloc, aims, parts, walk, place as u8);
     }
     number_of_letters(alloc, parts, walk, cpus, place)
 }
@@ -131,11 +162,13 @@ fn number_of(
 /// `AllocError`: memory was refused.
 pub(crate) fn row_of(
     alloc: Global,
+    aims: &Aims<'_>,
     parts: &mut Parts,
     walk: &Walk<'_>,
     cpus: u8,
 ) -> Result<Vec<u32>, AllocError>
     requires run { HasRun walk.now }
+    requires same { aims.now ≡ walk.now.machine }
     requires cpus { cpus ≡ walk.now.machine.cpus }
     requires most { cpus < 17 }
     ensures longer { AreLonger parts.old.parts.items parts.new.parts.items }
@@ -147,7 +180,7 @@ pub(crate) fn row_of(
     let count = u32::from(cpus) + u32::from(cpus) * u32::from(cpus);
     let mut row = Vec::with_capacity(alloc, count as usize)?;
     for place in 0..count {
-        row.push(number_of(alloc, parts, walk, cpus, place)?)?;
+        row.push(number_of(alloc, aims, parts, walk, cpus, place)?)?;
     }
     Ok(row)
 }

@@ -1,8 +1,8 @@
 //! The choices of a machine, as a search tries them.
 ghost use Rattle.std.specs.Prelude.{◌≡◌};
 ghost use Rattle.l4_core_model.specs.Runs.{IsMachine};
-ghost use Rattle.l4_explore.specs.Inner.States.{AreAllEntries};
 ghost use Rattle.l4_states.specs.Choices.{state_after};
+ghost use Rattle.l4_persistent.specs.Inner.Ends.{AreOfSet};
 ghost use Rattle.l4_endings.specs.Inner.Tried.{schedules};
 
 use crate::memory::Memory;
@@ -11,7 +11,7 @@ use l4_explore::tries::{Choice, Reached, Tries};
 use l4_script::machine::Machine;
 use std::alloc::{AllocError, Global};
 
-/// The choices of a machine, each of which a search tries in each state.
+/// The choices of a machine. In each state a search tries those of a persistent set.
 #[derive(Drop)]
 pub(crate) struct Choices<'m> {
     pub(crate) machine: &'m Machine,
@@ -23,7 +23,7 @@ pub(crate) struct Choices<'m> {
 impl<'m> Tries for Choices<'m> {
     ghost state_of = { λ c. state_after c.machine.now };
 
-    ghost offers = { λ c. AreAllEntries (state_after c.machine.now) };
+    ghost offers = { λ c. AreOfSet c.machine.now };
 
     ghost coded = { λ c. (schedules c.machine.now c.lawful).coded };
 

@@ -10,7 +10,7 @@ ghost use Rattle.l4_endings.specs.Inner.Walked.{AreChoices, IsWalked};
 
 use l4_machine::Walk;
 use l4_rounds::choices::{choice, least_deadline};
-use l4_script::machine::Machine;
+use l4_sets::Aims;
 use l4_types::errors::NoMemory;
 use std::alloc::Global;
 
@@ -19,15 +19,15 @@ use std::alloc::Global;
 /// `NoMemory`: memory was refused.
 pub(crate) fn walk_to<'m>(
     alloc: Global,
-    machine: &'m Machine,
+    aims: &Aims<'m>,
     numbers: &[u32],
 ) -> Result<Walk<'m>, NoMemory>
     requires few { length numbers.now < 2 ^ 60 }
-    requires choices { AreChoices machine.now numbers.now }
-    ensures { IfOk result (IsWalked machine.now numbers.now) }
+    requires choices { AreChoices aims.now numbers.now }
+    ensures { IfOk result (IsWalked aims.now numbers.now) }
 {
-    let cpus = machine.cpus();
-    let mut walk = Walk::new(alloc, machine)?;
+    let cpus = aims.cpus();
+    let mut walk = Walk::new(alloc, aims.machine())?;
     for number in numbers {
         make(&mut walk, cpus, *number)?;
     }

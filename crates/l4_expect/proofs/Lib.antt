@@ -1,4 +1,5 @@
 pub mod Fitting
+pub mod Judgeable
 pub mod Kept
 pub mod Printing
 pub mod Reading

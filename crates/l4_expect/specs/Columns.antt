@@ -117,3 +117,10 @@ may_be_line (first ∷ words) =
     (fits_word first (codes "thread") && fits_columns true of_thread (first ∷ words))
     || (fits_word first (codes "waiting") && fits_columns false of_send (first ∷ words))
     || (fits_word first (codes "ending") && fits_columns false of_ending (first ∷ words))
+
+-- It may be one of a world on the way, which tells no ending.
+abbrev pub may_be_told : (asked : List (List ℕ)) → Bool
+may_be_told [] = false
+may_be_told (first ∷ words) =
+    (fits_word first (codes "thread") && fits_columns true of_thread (first ∷ words))
+    || (fits_word first (codes "waiting") && fits_columns false of_send (first ∷ words))

@@ -1,10 +1,12 @@
 -- Which lines may be expected of a report.
-use Rattle.std.specs.Prelude.{Bool, true, false, ◌||◌, if◌then◌else◌, ℕ, Option, None, Some, List, [], ◌∷◌}
+use Rattle.std.specs.Prelude.{Bool, true, false, ◌||◌, if◌then◌else◌, ℕ, Option, None, Some, Ok, Err, List, [], ◌∷◌}
 use Rattle.l4_words.specs.Words.{words_in}
 use Rattle.l4_lines.specs.Lines.{is_rest, line_fault}
 use Rattle.l4_lines.specs.declared.lines.LineFault.{LineFault}
 use Rattle.l4_lines.specs.declared.lines.LineFault.TheVariants as line_fault
-use Rattle.l4_expect.specs.Columns.{may_be_line}
+use Rattle.l4_script.specs.Judged.{Judged}
+use Rattle.l4_script.specs.Lines.{line_of}
+use Rattle.l4_expect.specs.Columns.{may_be_line, may_be_told}
 use Rattle.l4_expect.specs.declared.judging.Scope.{Scope}
 use Rattle.l4_expect.specs.declared.judging.Scope.TheVariants.{OneRun, Endings}
 use Rattle.l4_expect.specs.declared.judging.Wrong.{Wrong}
@@ -33,3 +35,18 @@ abbrev pub wrong_asked : Scope → (asked : List ℕ) → Option Wrong
 wrong_asked scope asked =
     if has_early_rest (words_in asked) then Some BadLine
     else wrong_by scope (may_be_line (words_in asked)) (line_fault asked)
+
+-- So it is of a line of a condition, which asks for one that a world on the way tells.
+
+abbrev pub wrong_in_world : (asked : List ℕ) → Option Wrong
+wrong_in_world asked =
+    if has_early_rest (words_in asked) then Some BadLine
+    else wrong_by Endings (may_be_told (words_in asked)) (line_fault asked)
+
+abbrev pub wrong_by_words : Judged (Option (List (List ℕ))) → (asked : List ℕ) → Option Wrong
+wrong_by_words (Ok (Some words)) asked = wrong_in_world asked
+wrong_by_words (Ok None) asked = Some BadLine
+wrong_by_words (Err kind) asked = Some BadLine
+
+abbrev pub wrong_told : (asked : List ℕ) → Option Wrong
+wrong_told asked = wrong_by_words (line_of asked) asked

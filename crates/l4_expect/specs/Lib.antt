@@ -1,4 +1,5 @@
 pub mod Columns
+pub mod Conditions
 pub mod Expected
 pub mod Inner
 pub mod Judging

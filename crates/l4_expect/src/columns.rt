@@ -6,7 +6,7 @@ ghost use Rattle.l4_words.specs.Words.{words_in};
 ghost use Rattle.l4_expect.specs.Columns.{are_more, are_none, are_registers, fits_columns};
 ghost use Rattle.l4_expect.specs.Columns.{is_code, is_destination, is_ending, is_last_register};
 ghost use Rattle.l4_expect.specs.Columns.{is_local, is_nil, is_of, is_register, is_state, is_tag};
-ghost use Rattle.l4_expect.specs.Columns.{may_be_line, may_stand};
+ghost use Rattle.l4_expect.specs.Columns.{may_be_line, may_be_told, may_stand};
 
 use l4_lines::lines::{fits_word, is_any, is_rest, thread_asked};
 use l4_types::ids::{Kind, ThreadId};
@@ -225,4 +225,15 @@ pub(crate) fn may_be_line(asked: &[u8]) -> bool
     fits_word(first, b"thread") && fits_columns(true, OF_THREAD, asked)
         || fits_word(first, b"waiting") && fits_columns(false, OF_SEND, asked)
         || fits_word(first, b"ending") && fits_columns(false, OF_ENDING, asked)
+}
+
+/// Whether a line that is asked for may be one of a world: of a thread or a send.
+pub(crate) fn may_be_told(asked: &[u8]) -> bool
+    ensures { result ≡ may_be_told (words_in asked.now) }
+{
+    let Some(first) = Words::of(asked).next() else {
+        return false;
+    };
+    fits_word(first, b"thread") && fits_columns(true, OF_THREAD, asked)
+        || fits_word(first, b"waiting") && fits_columns(false, OF_SEND, asked)
 }

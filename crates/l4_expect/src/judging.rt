@@ -1,10 +1,12 @@
 //! Which lines may be expected of a report.
 ghost use Rattle.std.specs.Prelude.{◌≡◌};
 ghost use Rattle.l4_words.specs.Words.{words_in};
-ghost use Rattle.l4_expect.specs.Judging.{has_early_rest, wrong_asked, wrong_by};
+ghost use Rattle.l4_expect.specs.Judging.{has_early_rest, wrong_asked, wrong_by, wrong_in_world};
+ghost use Rattle.l4_expect.specs.Judging.{wrong_told};
 
-use crate::columns::may_be_line;
+use crate::columns::{may_be_line, may_be_told};
 use l4_lines::lines::{LineFault, fault_of_line, is_rest};
+use l4_script::text::words_of;
 use l4_words::words::Words;
 
 /// Whose reports have to meet expectations.
@@ -41,6 +43,27 @@ pub(crate) fn wrong_asked(scope: Scope, asked: &[u8]) -> Option<Wrong>
         return Some(Wrong::BadLine);
     }
     wrong_by(scope, may_be_line(asked), fault_of_line(asked))
+}
+
+/// What is wrong with a line of a condition. None where a world on the way may tell such a line.
+pub(crate) fn wrong_told(asked: &[u8]) -> Option<Wrong>
+    ensures { result ≡ wrong_told asked.now }
+{
+    match words_of(asked) {
+        Ok(Some(_)) => wrong_in_world(asked),
+        Ok(None) => Some(Wrong::BadLine),
+        Err(_) => Some(Wrong::BadLine),
+    }
+}
+
+// What is wrong with a line of words as one of a world.
+fn wrong_in_world(asked: &[u8]) -> Option<Wrong>
+    ensures { result ≡ wrong_in_world asked.now }
+{
+    if has_early_rest(asked) {
+        return Some(Wrong::BadLine);
+    }
+    wrong_by(Scope::Endings, may_be_told(asked), fault_of_line(asked))
 }
 
 // What is wrong with a line, by its words, and by its fault as a line that may be asked of endings.

@@ -14,8 +14,8 @@ use l4_types::errors::NoMemory;
 use l4_words::lines::split_line;
 use l4_words::words::Words;
 
-// Whether a report has a line that is asked for.
-fn has_line(asked: &[u8], report: &[u8]) -> bool
+/// Whether a report has a line that is asked for.
+pub(crate) fn has_line(asked: &[u8], report: &[u8]) -> bool
     ensures { result ≡ has_line asked.now report.now }
 {
     find_line(asked, report).is_some()

@@ -1,12 +1,12 @@
-// What a listener hears of a search. How many states a machine has, and how deep these lie, was found
-// by a second emulator, which was written from the rules (bench/endings.py).
+// What a listener hears of a search. How many states it looks at, and how deep these lie, was found
+// by a second emulator, which was written from the rules (trials/endings.py).
 use l4_endings::endings;
 use l4_explore::progress::Progress;
 use l4_samples::{ACROSS, CALLS};
 use l4_script::machine::Machine;
 use std::alloc::Global;
 
-const STATES_OF_ACROSS: usize = 16;
+const STATES_OF_ACROSS: usize = 11;
 
 const DEPTH_OF_ACROSS: usize = 8;
 

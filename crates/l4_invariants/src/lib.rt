@@ -16,7 +16,7 @@
 //! finds a shortest one, and where it was cut, none of at most as many steps as were tried is left
 //! (`law_shortest`, `law_not_met_within`).
 //!
-//! All of it is definitions and proofs; the functions have empty bodies. No command uses it yet.
+//! All of it is definitions and proofs; the functions have empty bodies. `l4_always` searches so.
 //!
 //! ```rust
 //! law_never_met(); // from here on: what no found world meets, no history meets

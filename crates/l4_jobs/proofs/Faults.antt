@@ -1,5 +1,6 @@
 -- A job that comes to something has no fault.
 use Rattle.std.proofs.Common.{◌≡◌, ℕ, Bool, true, false, Option, Some, None, Result, Ok, Err, List, refl, ap, sym, subst, inl, inr, ◌∙◌}
+use Rattle.std.specs.Borrow.{Bor}
 use Rattle.std.specs.Prelude.{◌⊎◌, IsSomeAnd}
 use Rattle.std.specs.declared.io.ErrorKind.{ErrorKind}
 use Rattle.std.specs.Option.{option_map}
@@ -21,6 +22,7 @@ use Rattle.l4_commands.specs.declared.job.Judged.{Judged}
 use Rattle.l4_commands.specs.declared.job.Scheduler.{Scheduler}
 use Rattle.l4_commands.specs.declared.job.Scheduler.TheVariants.{Any, Placed}
 use Rattle.l4_questions.specs.Limits.{question_fault}
+use Rattle.l4_questions.specs.Walked.{IsAnyTrace}
 use Rattle.l4_questions.specs.declared.question.Question.{Question}
 use Rattle.l4_commands.specs.declared.job.Job.{Job}
 use Rattle.l4_commands.specs.declared.job.Job.TheVariants.{Run, Replay, Next, Audit, Chart, Endings, Lint}
@@ -32,7 +34,7 @@ use Rattle.l4_jobs.specs.Jobs.{IsAskedFault, IsDoneFor, IsDoneOn, IsFaultBehind,
 use Rattle.l4_jobs.specs.Nexts.{IsNextDone, IsNextFault}
 use Rattle.l4_jobs.specs.Outputs.{Output}
 use Rattle.l4_jobs.specs.Schedules.{IsReplayFault, asked_schedule, fault_of_result, fault_of_run, named_schedule, run_by_list, run_of_schedule}
-use Rattle.l4_jobs.specs.Searches.{IsAnswerBy, IsDoneBy, fault_of_question, question_of, shown_of}
+use Rattle.l4_jobs.specs.Searches.{IsAnswerBy, IsDoneBy, IsSearchDoneBy, IsVerdictOut, fault_before, fault_by, fault_of_limits, fault_of_question, question_of, shown_of}
 use Rattle.l4_questions.specs.Beside.{Shown}
 use Rattle.l4_jobs.specs.declared.fault.Fault.{Fault}
 use Rattle.l4_jobs.proofs.Spelled.{trace_right}
@@ -70,14 +72,30 @@ audited_right judged m name trace lines status f (inr (r, one)) = never_faulty (
 
 answered_right : (scheduler : Scheduler) (q : Question) (m : Machine) (shown : Shown) (expected : Option (List Expected)) (lines unmet : List ℕ) (status : ℕ) →
     IsAnswerBy scheduler m q shown expected lines unmet status → question_fault q ≡ None
-answered_right Any q m shown expected lines unmet status is = is.lawful
+answered_right Any q m shown expected lines unmet status (inl is) = is.lawful
+answered_right Any q m shown expected lines unmet status (inr is) = is.walked.lawful
 answered_right Placed q m shown expected lines unmet status is = is.lawful
 
 searched_right : (trace : Option ℕ) (search : EndingsJob) (text : List ℕ) (m : Machine) (expected : Option (List Expected)) (o : Output) →
     IsDoneBy trace search text m expected o → question_fault (question_of search) ≡ None
 searched_right None search text m expected o is =
     answered_right search.scheduler (question_of search) m (shown_of text search) expected o.lines o.said o.status is.answered
-searched_right (Some number) search text m expected o is = is.answered.lawful
+searched_right (Some number) search text m expected o is = by is.answered
+  where
+    by : IsAnyTrace m (question_of search) number is.trace → question_fault (question_of search) ≡ None
+    by (inl searched) = searched.lawful
+    by (inr walk) = walk.walked.lawful
+
+condition_right : (trace : Option ℕ) (m : Machine) (q : Question) (asked : List (List ℕ)) (o : Output) → IsVerdictOut trace m q asked o → question_fault q ≡ None
+condition_right None m q asked o is = is.lawful
+condition_right (Some number) m q asked o (trace, told, out) = told.lawful
+
+search_right : (always : Option (Bor (List ℕ))) (search : EndingsJob) (text : List ℕ) (m : Machine) (expected : Option (List Expected)) (o : Output) →
+    IsSearchDoneBy always search text m expected o → fault_by always (fault_of_limits search) ≡ None
+search_right None search text m expected o is = ap (option_map fault_of_question) (searched_right search.trace search text m expected o is)
+search_right (Some condition) search text m expected o is =
+    ap (λ r. fault_before r (fault_of_limits search)) is.is
+    ∙ ap (option_map fault_of_question) (condition_right search.trace m (question_of search) is.asked o is.out)
 
 -- On the machine of a text
 
@@ -128,7 +146,7 @@ right_on (Chart chart) text m read expected o f (trace, given, s) (inl is) = abs
 right_on (Chart chart) text m read expected o f (trace, given, s) (inr (right, is)) =
     never_faulty true m chart.trace.now read s.charted.steps f (subst (λ t. IsTraceOf t s.charted.steps) (all_given read trace given) s.charted.reads) (inl refl) is
 right_on (Endings search) text m read expected o f s is =
-    absurd (let bad : None ≡ Some f = sym (ap (option_map fault_of_question) (searched_right search.trace search text m expected o s)) ∙ is in cc)
+    absurd (let bad : None ≡ Some f = sym (search_right search.always search text m expected o s) ∙ is in cc)
 right_on (Lint lint) text m read expected o f s is = unread (list_name_in lint.schedule) read f is
 
 -- By what is expected

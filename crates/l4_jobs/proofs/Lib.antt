@@ -18,3 +18,4 @@ pub mod Spelled
 pub mod Statuses
 pub mod Telling
 pub mod Traces
+mod Parted

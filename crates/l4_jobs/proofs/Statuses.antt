@@ -1,5 +1,6 @@
 -- The exit statuses of jobs.
 use Rattle.std.proofs.Common.{◌≡◌, ℕ, zero, suc, Bool, true, false, Option, Some, None, Result, Ok, Err, List, [], ◌∷◌, refl, ap, subst, sym, inl, inr, ◌∙◌}
+use Rattle.std.specs.Borrow.{Bor}
 use Rattle.std.specs.Prelude.{is_some, if◌then◌else◌}
 use Rattle.l4_model.specs.Machine.{Machine}
 use Rattle.l4_expect.specs.Expected.{Expected}
@@ -7,9 +8,12 @@ use Rattle.l4_expect.specs.Unmet.{expected_status}
 use Rattle.l4_expect.specs.declared.judging.Scope.{Scope}
 use Rattle.l4_lint.specs.Faults.{Fault as LintFault, faults_of}
 use Rattle.l4_lint.specs.Spelling.{status_of}
+use Rattle.l4_always.specs.declared.search.Met.{Met}
+use Rattle.l4_questions.specs.Always.{verdict_status}
 use Rattle.l4_questions.specs.Endings.{Ending as Found}
 use Rattle.l4_questions.specs.Printed.{meets, status_of_asked, status_of_search}
 use Rattle.l4_questions.specs.Stuck.{if_cut, is_any, stuck_status}
+use Rattle.l4_questions.specs.declared.question.Question.{Question}
 use Rattle.l4_questions.specs.declared.question.Wanted.{Wanted}
 use Rattle.l4_questions.specs.declared.question.Wanted.TheVariants as wanted
 use Rattle.l4_script.specs.Texts.{machine_of_text}
@@ -33,7 +37,7 @@ use Rattle.l4_jobs.specs.Inputs.{Gives}
 use Rattle.l4_jobs.specs.Jobs.{IsDone, IsDoneOn, IsInLinesFor, IsStatusOf}
 use Rattle.l4_jobs.specs.Outputs.{Output}
 use Rattle.l4_jobs.specs.Runs.{status_of_ending}
-use Rattle.l4_jobs.specs.Searches.{IsAnswerBy, IsDoneBy, IsTraceOut, question_of, shown_of, wanted_of}
+use Rattle.l4_jobs.specs.Searches.{IsAnswerBy, IsDoneBy, IsSearchDoneBy, IsTraceOut, IsVerdictOut, question_of, shown_of, wanted_of}
 
 -- Something is expected exactly where a file is named.
 same_some : (name : Option (List ℕ)) (scope : Scope) (gives : Gives) (expected : Option (List Expected)) → IsExpected name scope gives expected →
@@ -79,7 +83,7 @@ answered search wanted.Whatever found is_whole status asks is = whole_or_cut sea
 answered search wanted.NoEnding [] is_whole status asks is = whole_or_cut search is_whole status is
 answered search wanted.NoEnding (e ∷ found) is_whole status asks is = inr (inr (inr (is, inl (inl (wants_none search.wanted asks)))))
 answered search wanted.AnEnding (e ∷ found) is_whole status asks is = inl is
-answered search wanted.AnEnding [] true status asks is = inr (inr (inr (is, inl (inr (wants_one search.wanted asks)))))
+answered search wanted.AnEnding [] true status asks is = inr (inr (inr (is, inl (inr (inl (wants_one search.wanted asks))))))
 answered search wanted.AnEnding [] false status asks is = inr (inr (inl is))
 
 all_meet : (found : List Found) → list_all (meets None) found ≡ true
@@ -117,9 +121,10 @@ stuck_arm search wanted.AnEnding is_any is_whole told status asks is before = su
 answer_status : (scheduler : Scheduler) (search : EndingsJob) (text : List ℕ) (m : Machine) (expected : Option (List Expected)) (lines unmet : List ℕ) (status : ℕ) →
     is_some expected ≡ is_some (expected_of (Endings search)) →
     IsAnswerBy scheduler m (question_of search) (shown_of text search) expected lines unmet status → IsStatusOf (Endings search) status
-answer_status Any search text m expected lines unmet status same is =
+answer_status Any search text m expected lines unmet status same (inl is) =
     stuck_arm search (wanted_of search.wanted) (is_any is.stuck) is.is_stuck_whole is.told_status status refl is.status_is
     (search_status search expected _ _ is.told_status same is.told.status_is)
+answer_status Any search text m expected lines unmet status same (inr is) = search_status search expected _ _ status same is.told.status_is
 answer_status Placed search text m expected lines unmet status same is = search_status search expected _ _ status same is.told.status_is
 
 trace_status : (search : EndingsJob) (trace : Option (List ℕ)) (o : Output) → IsTraceOut trace o → IsStatusOf (Endings search) o.status
@@ -130,6 +135,21 @@ done_by : (trace : Option ℕ) (search : EndingsJob) (text : List ℕ) (m : Mach
     is_some expected ≡ is_some (expected_of (Endings search)) → IsDoneBy trace search text m expected o → IsStatusOf (Endings search) o.status
 done_by None search text m expected o same is = answer_status search.scheduler search text m expected o.lines o.said o.status same is.answered
 done_by (Some number) search text m expected o same is = trace_status search is.trace o is.out
+
+-- Of whether a world on the way meets a condition
+
+verdict_by : (search : EndingsJob) (met : Option Met) (is_whole : Bool) (status : ℕ) → is_some search.always ≡ true → status ≡ verdict_status met is_whole → IsStatusOf (Endings search) status
+verdict_by search (Some met) is_whole status some is = inr (inr (inr (is, inl (inr (inr some)))))
+verdict_by search None is_whole status some is = whole_or_cut search is_whole status is
+
+verdict_arm : (trace : Option ℕ) (search : EndingsJob) (m : Machine) (q : Question) (lines : List (List ℕ)) (o : Output) → is_some search.always ≡ true → IsVerdictOut trace m q lines o → IsStatusOf (Endings search) o.status
+verdict_arm None search m q lines o some is = verdict_by search is.verdict.met is.verdict.is_whole o.status some is.status_is
+verdict_arm (Some number) search m q lines o some (trace, told, out) = trace_status search trace o out
+
+done_for : (always : Option (Bor (List ℕ))) (search : EndingsJob) (text : List ℕ) (m : Machine) (expected : Option (List Expected)) (o : Output) → search.always ≡ always →
+    is_some expected ≡ is_some (expected_of (Endings search)) → IsSearchDoneBy always search text m expected o → IsStatusOf (Endings search) o.status
+done_for None search text m expected o by same is = done_by search.trace search text m expected o same is
+done_for (Some condition) search text m expected o by same is = verdict_arm search.trace search m (question_of search) is.asked o (ap is_some by) is.out
 
 -- Of what a trace or a lint tells
 
@@ -159,7 +179,7 @@ status_on (Next next) text m second expected o same (list, reads, is) = inl is.s
 status_on (Audit audit) text m second expected o same (trace, given, is) =
     audit_status (Audit audit) audit.judged m trace o.lines o.status is.audited
 status_on (Chart chart) text m second expected o same (trace, given, is) = chart_status (Chart chart) _ o.status is.charted.status_is
-status_on (Endings search) text m second expected o same is = done_by search.trace search text m expected o same is
+status_on (Endings search) text m second expected o same is = done_for search.always search text m expected o refl same is
 status_on (Lint lint) text m second expected o same (list, reads, is) = list_status (Lint lint) _ o.status is.status_is
 
 status_for : (job : Job) (text : List ℕ) (d : Result Machine TextFault) (second expects : Gives) (o : Output) → IsInLinesFor job text d second expects o →

@@ -1,14 +1,19 @@
 -- What a search for all endings is asked, what it prints, and its faults.
-use Rattle.std.specs.Prelude.{◌≡◌, ℕ, not, Option, None, Some, List, []}
+use Rattle.std.specs.Prelude.{◌≡◌, ℕ, not, Option, None, Some, Result, Ok, Err, List, []}
+use Rattle.std.specs.Borrow.{Bor}
 use Rattle.std.specs.Option.{option_map}
 use Rattle.l4_model.specs.Machine.{Machine}
 use Rattle.l4_chart.specs.Listings.{listing_of}
 use Rattle.l4_chart.specs.declared.whole.TextForm.{TextForm}
+use Rattle.l4_expect.specs.Conditions.{condition_of}
 use Rattle.l4_expect.specs.Expected.{Expected}
-use Rattle.l4_questions.specs.Answers.{IsAnswer, IsTraceAnswer}
+use Rattle.l4_expect.specs.declared.expectations.ExpectFault.{ExpectFault}
+use Rattle.l4_expect.specs.declared.expectations.ExpectFault.TheVariants as expect_fault
+use Rattle.l4_questions.specs.Always.{IsAlwaysAnswer, IsAlwaysTrace}
 use Rattle.l4_questions.specs.Limits.{question_fault}
 use Rattle.l4_questions.specs.Placed.{IsPlacedAnswer}
 use Rattle.l4_questions.specs.Beside.{AskedChart, Shown}
+use Rattle.l4_questions.specs.Walked.{IsAnyAnswer, IsAnyTrace}
 use Rattle.l4_questions.specs.declared.question.Question.{Question}
 use Rattle.l4_questions.specs.declared.question.QuestionFault.{QuestionFault}
 use Rattle.l4_questions.specs.declared.question.QuestionFault.TheVariants as question
@@ -58,7 +63,7 @@ shown_of text e = record { chart = option_map (asked_chart text) e.chart; waits 
 -- The answer is of all histories, or of the runs that processors make.
 abbrev pub IsAnswerBy : Scheduler → Machine → Question → Shown →
     Option (List Expected) → (lines unmet : List ℕ) → (status : ℕ) → Type 0
-IsAnswerBy Any = IsAnswer
+IsAnswerBy Any = IsAnyAnswer
 IsAnswerBy Placed = IsPlacedAnswer
 
 -- It is printed, and with each ending a chart and who waits for whom, where these are asked for, of the
@@ -80,7 +85,7 @@ IsTraceOut None o = (o.lines ≡ []) × (o.said ≡ fault_line fault.Ending) × 
 pub record IsTraceDone (search : EndingsJob) (m : Machine) (number : ℕ) (o : Output) :
     Type 0 where
   pub trace : Option (List ℕ)
-  pub answered : IsTraceAnswer m (question_of search) number trace
+  pub answered : IsAnyTrace m (question_of search) number trace
   pub out : IsTraceOut trace o
   pub unrecorded : o.list ≡ None
 
@@ -89,14 +94,52 @@ abbrev pub IsDoneBy : (trace : Option ℕ) → EndingsJob → (text : List ℕ) 
 IsDoneBy None search text m expected o = IsAnswerDone search text m expected o
 IsDoneBy (Some number) search text m expected o = IsTraceDone search m number o
 
+-- Where it is asked whether a world on the way meets a condition, that answer is printed, or the trace
+-- of the history that is told of it.
+
+abbrev pub IsVerdictOut : (trace : Option ℕ) → Machine → Question → (asked : List (List ℕ)) →
+    Output → Type 0
+IsVerdictOut None m q asked o = IsAlwaysAnswer m q asked o.lines o.said o.status
+IsVerdictOut (Some number) m q asked o =
+    (trace : Option (List ℕ)) × IsAlwaysTrace m q asked number trace × IsTraceOut trace o
+
+pub record IsVerdictDone (search : EndingsJob) (condition : List ℕ) (m : Machine) (o : Output) :
+    Type 0 where
+  pub asked : List (List ℕ)
+  pub is : condition_of condition ≡ Ok asked
+  pub out : IsVerdictOut search.trace m (question_of search) asked o
+  pub unrecorded : o.list ≡ None
+
+abbrev pub IsSearchDoneBy : (condition : Option (Bor (List ℕ))) → EndingsJob → (text : List ℕ) →
+    Machine → Option (List Expected) → Output → Type 0
+IsSearchDoneBy None search text m expected o = IsDoneBy search.trace search text m expected o
+IsSearchDoneBy (Some condition) search text m expected o = IsVerdictDone search condition.now m o
+
 abbrev pub IsSearchDone : EndingsJob → (text : List ℕ) → Machine → Option (List Expected) →
     Output → Type 0
-IsSearchDone search text m expected o = IsDoneBy search.trace search text m expected o
+IsSearchDone search text m expected o = IsSearchDoneBy search.always search text m expected o
+
+-- The faults of a search: of its condition, and then of its limits.
 
 abbrev pub fault_of_question : QuestionFault → Fault
 fault_of_question question.NoMemory = fault.NoMemory
 fault_of_question question.Depth = fault.Depth
 fault_of_question question.States = fault.States
 
+abbrev pub fault_of_limits : EndingsJob → Option Fault
+fault_of_limits e = option_map fault_of_question (question_fault (question_of e))
+
+abbrev pub fault_of_condition : ExpectFault → Fault
+fault_of_condition expect_fault.NoMemory = fault.NoMemory
+fault_of_condition (expect_fault.Line line wrong) = fault.Condition line wrong
+
+abbrev pub fault_before : Result (List (List ℕ)) ExpectFault → Option Fault → Option Fault
+fault_before (Err f) other = Some (fault_of_condition f)
+fault_before (Ok asked) other = other
+
+abbrev pub fault_by : (condition : Option (Bor (List ℕ))) → Option Fault → Option Fault
+fault_by None other = other
+fault_by (Some condition) other = fault_before (condition_of condition.now) other
+
 abbrev pub fault_of_search : EndingsJob → Option Fault
-fault_of_search e = option_map fault_of_question (question_fault (question_of e))
+fault_of_search e = fault_by e.always (fault_of_limits e)

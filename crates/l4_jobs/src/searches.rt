@@ -1,10 +1,14 @@
 //! What a search for all endings comes to.
-ghost use Rattle.std.specs.Prelude.{◌≡◌, ◌⊎◌, IfOk, IfErr, List, Some, ℕ};
+ghost use Rattle.std.specs.Prelude.{◌≡◌, ◌⊎◌, IfOk, IfErr, List, None, Ok, Option, Some, ℕ};
 ghost use Rattle.std.specs.Option.{option_copied, option_map};
 ghost use Rattle.l4_jobs.specs.Outputs.{output_of};
+ghost use Rattle.l4_expect.specs.Conditions.{condition_of};
 ghost use Rattle.l4_jobs.specs.Searches.{IsAnswerBy, IsAnswerDone, IsSearchDone, IsTraceDone};
-ghost use Rattle.l4_jobs.specs.Searches.{asked_chart, fault_of_search, question_of, text_form};
+ghost use Rattle.l4_jobs.specs.Searches.{IsTraceOut, IsVerdictDone, IsVerdictOut, asked_chart};
+ghost use Rattle.l4_jobs.specs.Searches.{fault_before};
+ghost use Rattle.l4_jobs.specs.Searches.{fault_of_limits, fault_of_search, question_of, text_form};
 ghost use Rattle.l4_jobs.specs.Searches.{wanted_of};
+ghost use Rattle.l4_jobs.specs.declared.fault.Fault.{Fault as ModelFault};
 ghost use Rattle.l4_jobs.specs.declared.fault.Fault.TheVariants.{NoMemory as OutOfMemory};
 ghost use Rattle.l4_chart.specs.Listings.{listing_of};
 ghost use Rattle.l4_questions.specs.Beside.{chart_as, shown_as};
@@ -17,11 +21,12 @@ use crate::fault::{Fault, line_of};
 use crate::job::{EndingsJob, Scheduler, TextChart, Wanted as Asked};
 use l4_chart::listing::Listing;
 use l4_chart::whole::TextForm;
-use l4_expect::expectations::Expectations;
+use l4_expect::conditions::Condition;
+use l4_expect::expectations::{ExpectFault, Expectations};
 use l4_explore::progress::Progress;
 use l4_questions::beside::{AskedChart, Beside, Shown};
 use l4_questions::question::{Question, QuestionFault, Wanted};
-use l4_questions::{Answer, answer, asked_trace, placed_answer};
+use l4_questions::{Answer, always_answer, always_trace, answer, asked_trace, placed_answer};
 use l4_script::machine::Machine;
 use l4_types::errors::NoMemory;
 use std::alloc::Global;
@@ -111,6 +116,23 @@ fn answer_by<P: Progress>(
     }
 }
 
+// What an answer comes to.
+fn answer_out<'a>(answer: Answer) -> Done<'a>
+    ensures { output_of result ≡ record {
+      lines = answer.lines.items;
+      list = None;
+      said = answer.unmet.items;
+      status = answer.status;
+    } }
+{
+    Done {
+        lines: answer.lines,
+        list: None,
+        said: answer.unmet,
+        status: answer.status,
+    }
+}
+
 // What a search comes to that prints the endings that are asked for.
 fn answer_done<'a, P: Progress>(
     alloc: Global,
@@ -124,7 +146,7 @@ fn answer_done<'a, P: Progress>(
         IsAnswerDone search.now text.now machine.now (option_copied expected.entry)
         (output_of done)) }
     ensures err { IfErr result (λ fault. (fault ≡ OutOfMemory) ⊎
-        (fault_of_search search.now ≡ Some fault)) }
+        (fault_of_limits search.now ≡ Some fault)) }
 {
     let question = question_of(search);
     let listing = listing_for(alloc, text, search.chart)?;
@@ -143,12 +165,29 @@ fn answer_done<'a, P: Progress>(
         beside,
         progress,
     )?;
-    Ok(Done {
-        lines: answer.lines,
-        list: None,
-        said: answer.unmet,
-        status: answer.status,
-    })
+    Ok(answer_out(answer))
+}
+
+// The trace that is printed in place of all else, or else that nothing has this number.
+fn trace_out<'a>(alloc: Global, trace: Option<Vec<u8>>) -> Result<Done<'a>, NoMemory>
+    ensures out { IfOk result (λ done.
+        IsTraceOut (option_map (λ t. t.items) trace) (output_of done)) }
+    ensures unrecorded { IfOk result (λ done. (output_of done).list ≡ None) }
+{
+    match trace {
+        Some(lines) => Ok(Done {
+            lines,
+            list: None,
+            said: Vec::new(alloc),
+            status: 0,
+        }),
+        None => Ok(Done {
+            lines: Vec::new(alloc),
+            list: None,
+            said: line_of(alloc, &Fault::Ending)?,
+            status: 1,
+        }),
+    }
 }
 
 // What a search comes to that prints the trace of one ending.
@@ -162,22 +201,65 @@ fn trace_done<'a, P: Progress>(
     ensures ok { IfOk result (λ done.
         IsTraceDone search.now machine.now number (output_of done)) }
     ensures err { IfErr result (λ fault. (fault ≡ OutOfMemory) ⊎
-        (fault_of_search search.now ≡ Some fault)) }
+        (fault_of_limits search.now ≡ Some fault)) }
 {
     let question = question_of(search);
-    match asked_trace(alloc, machine, &question, number, progress)? {
-        Some(lines) => Ok(Done {
-            lines,
-            list: None,
-            said: Vec::new(alloc),
-            status: 0,
-        }),
-        None => Ok(Done {
-            lines: Vec::new(alloc),
-            list: None,
-            said: line_of(alloc, &Fault::Ending)?,
-            status: 1,
-        }),
+    let trace = asked_trace(alloc, machine, &question, number, progress)?;
+    Ok(trace_out(alloc, trace)?)
+}
+
+// The condition of a text.
+fn condition_of<'a, 't>(alloc: Global, text: &'t str) -> Result<Condition<'t>, Fault<'a>>
+    ensures ok { IfOk result (λ condition. condition_of text.now ≡ Ok condition) }
+    ensures err { IfErr result (λ fault. (fault ≡ OutOfMemory) ⊎
+        ((other : Option ModelFault) → fault_before (condition_of text.now) other ≡ Some fault)) }
+{
+    match Condition::parse(alloc, text.as_bytes()) {
+        Ok(condition) => Ok(condition),
+        Err(ExpectFault::Line(line, wrong)) => Err(Fault::Condition(line, wrong)),
+        Err(ExpectFault::NoMemory) => Err(Fault::NoMemory),
+    }
+}
+
+// What a search comes to that asks whether a world on the way meets a condition.
+fn verdict_done<'a, P: Progress>(
+    alloc: Global,
+    machine: &Machine,
+    search: &EndingsJob<'_>,
+    condition: &Condition<'_>,
+    progress: &mut P,
+) -> Result<Done<'a>, Fault<'a>>
+    ensures ok { IfOk result (λ done. IsVerdictOut search.now.trace machine.now
+        (question_of search.now) condition.now (output_of done)) }
+    ensures unrecorded { IfOk result (λ done. (output_of done).list ≡ None) }
+    ensures err { IfErr result (λ fault. (fault ≡ OutOfMemory) ⊎
+        (fault_of_limits search.now ≡ Some fault)) }
+{
+    let question = question_of(search);
+    if let Some(number) = search.trace {
+        let trace = always_trace(alloc, machine, &question, condition, number, progress)?;
+        return Ok(trace_out(alloc, trace)?);
+    }
+    let answer = always_answer(alloc, machine, &question, condition, progress)?;
+    Ok(answer_out(answer))
+}
+
+// The same, by the text of the condition, which is judged first.
+fn condition_done<'a, P: Progress>(
+    alloc: Global,
+    machine: &Machine,
+    search: &EndingsJob<'_>,
+    text: &str,
+    progress: &mut P,
+) -> Result<Done<'a>, Fault<'a>>
+    ensures ok { IfOk result (λ done.
+        IsVerdictDone search.now text.now machine.now (output_of done)) }
+    ensures err { IfErr result (λ fault. (fault ≡ OutOfMemory) ⊎
+        (fault_before (condition_of text.now) (fault_of_limits search.now) ≡ Some fault)) }
+{
+    match condition_of(alloc, text) {
+        Ok(condition) => verdict_done(alloc, machine, search, &condition, progress),
+        Err(fault) => Err(fault),
     }
 }
 
@@ -197,8 +279,9 @@ pub(crate) fn search_done<'a, P: Progress>(
     ensures err { IfErr result (λ fault. (fault ≡ OutOfMemory) ⊎
         (fault_of_search search.now ≡ Some fault)) }
 {
-    match search.trace {
-        None => answer_done(alloc, text, machine, search, expected, progress),
-        Some(number) => trace_done(alloc, machine, search, number, progress),
+    match (search.always, search.trace) {
+        (Some(condition), _) => condition_done(alloc, machine, search, condition, progress),
+        (None, None) => answer_done(alloc, text, machine, search, expected, progress),
+        (None, Some(number)) => trace_done(alloc, machine, search, number, progress),
     }
 }

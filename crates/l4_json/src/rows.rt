@@ -235,6 +235,50 @@ pub const ROWS: &[Row] = &[
         ],
     },
     Row {
+        kind: "walked",
+        parts: &[
+            Part::Label("found"),
+            Part::Label("by"),
+            Part::Label("a"),
+            Part::Label("walk,"),
+            Part::Label("perhaps"),
+            Part::Label("not"),
+            Part::Label("the"),
+            Part::Label("shortest;"),
+            Part::Label("no"),
+            Part::Label("others"),
+            Part::Label("were"),
+            Part::Label("looked"),
+            Part::Label("for"),
+        ],
+    },
+    Row {
+        kind: "met",
+        parts: &[
+            Part::Label("met,"),
+            Part::Label("steps"),
+            Part::Word("steps"),
+        ],
+    },
+    Row {
+        kind: "met_or_fewer",
+        parts: &[
+            Part::Label("met,"),
+            Part::Label("steps"),
+            Part::Word("steps"),
+            Part::Label("or"),
+            Part::Label("fewer"),
+        ],
+    },
+    Row {
+        kind: "never_met",
+        parts: &[Part::Label("never"), Part::Label("met")],
+    },
+    Row {
+        kind: "not_met",
+        parts: &[Part::Label("not"), Part::Label("met:"), Part::Label("cut")],
+    },
+    Row {
         kind: "stuck",
         parts: &[
             Part::Label("stuck"),

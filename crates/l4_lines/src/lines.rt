@@ -78,8 +78,8 @@ fn asks_for_number(first: &[u8], second: &[u8]) -> bool
     fits_word(first, b"waiting") && has_number(second)
 }
 
-// Whether the words that are left stand for any words.
-fn are_rest(asked: Words<'_>) -> bool
+/// Whether the words that are left stand for any words.
+pub fn are_rest(asked: Words<'_>) -> bool
     ensures { result ≡ are_rest asked.entry }
 {
     match asked.one() {
@@ -139,9 +139,9 @@ fn is_numeral(word: &[u8]) -> bool
     !word.is_empty() && are_digits(word)
 }
 
-// Whether what stands behind the `#` of a word is a number.
+/// Whether what stands behind the `#` of a word is a number.
 #[tactic(auto, using(crate::proofs::Sends::number_at, crate::proofs::Sends::no_number))]
-fn has_number(word: &[u8]) -> bool
+pub fn has_number(word: &[u8]) -> bool
     ensures { result ≡ has_number word.now }
 {
     match find_byte(b'#', word) {

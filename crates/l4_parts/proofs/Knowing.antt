@@ -21,6 +21,7 @@ use Rattle.l4_states.proofs.Places.{pair_below}
 use Rattle.l4_states.proofs.Reached.{reached_within}
 use Rattle.l4_states.proofs.Remembered.{are_remembered}
 use Rattle.l4_codes.specs.Inner.Written.{unwritten, with_numbers}
+use Rattle.l4_persistent.proofs.Slow.{AreSlow, slow_next}
 use Rattle.l4_parts.specs.declared.parts.Part.{Part}
 use Rattle.l4_parts.specs.declared.events.Event.{Event}
 use Rattle.l4_parts.specs.declared.events.Write.{Write}
@@ -87,6 +88,7 @@ behind_longer m s old new row longer r = record {
   system = r.system;
   leads = r.leads;
   low = r.low;
+  slow = r.slow;
   row_is = row_longer m r.system old new row longer r.row_is;
 }
 
@@ -284,6 +286,9 @@ stands m s parts row e number machine are is r of below short =
         leads = next_is ∙ leads;
         low = subst (λ n. AreLow n h.locals) (sym (length-append s (number ∷ [])))
             (low_next m r.system (length s) r.low number h
+            (near_of m s parts row machine are r (cpu_of m number) (own_place m number below)) leads);
+        slow = subst (λ n. AreSlow n h.locals) (sym (length-append s (number ∷ [])))
+            (slow_next m r.system (length s) r.slow number h
             (near_of m s parts row machine are r (cpu_of m number) (own_place m number below)) leads);
         row_is = row_written m r.system h parts e row r.row_is of.fit f;
       };

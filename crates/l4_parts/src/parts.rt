@@ -3,6 +3,7 @@ ghost use Rattle.std.specs.Prelude.{◌≡◌, ◌<◌, ◌^◌, true, IfOk, IfS
 ghost use Rattle.l4_parts.specs.Inner.Numbers.{HasNumber, IsKept};
 
 use l4_codes::code::Code;
+use l4_sets::Contacts;
 use std::alloc::{AllocError, Global};
 use std::hash::{FoldHasher, Hasher};
 
@@ -19,6 +20,10 @@ pub struct Part {
     pub code: Code,
     /// Whether nothing is to be done, armed or under way there.
     pub rests: bool,
+    /// Whom a processor waits for, and whom it may post to. Of letters this is nobody.
+    pub contacts: Contacts,
+    /// How many choices there are by this part alone.
+    pub moves: u32,
 }
 
 impl Part {
@@ -66,18 +71,14 @@ impl Parts {
     /// The number of a part, which is added if it is new.
     ///
     /// `AllocError`: memory was refused, or there are 2^32 parts.
-    pub fn number_of(&mut self, place: u32, code: Code, rests: bool) -> Result<u32, AllocError>
-        ensures kept { IsKept self.old.parts.items self.new.parts.items (record {
-          place = place;
-          code = code;
-          rests = rests;
-        }) }
-        ensures number { IfOk result (HasNumber self.new.parts.items place code) }
+    pub fn number_of(&mut self, part: Part) -> Result<u32, AllocError>
+        ensures kept { IsKept self.old.parts.items self.new.parts.items part }
+        ensures number { IfOk result (HasNumber self.new.parts.items part.place part.code) }
     {
-        if let Some(number) = self.find(place, &code) {
+        if let Some(number) = self.find(part.place, &part.code) {
             return Ok(number);
         }
-        self.add(place, code, rests)
+        self.add(part)
     }
 
     // The number of a part, if it is known.
@@ -111,22 +112,18 @@ impl Parts {
     }
 
     // Adds a part.
-    fn add(&mut self, place: u32, code: Code, rests: bool) -> Result<u32, AllocError>
-        ensures kept { IsKept self.old.parts.items self.new.parts.items (record {
-          place = place;
-          code = code;
-          rests = rests;
-        }) }
-        ensures number { IfOk result (HasNumber self.new.parts.items place code) }
+    fn add(&mut self, part: Part) -> Result<u32, AllocError>
+        ensures kept { IsKept self.old.parts.items self.new.parts.items part }
+        ensures number { IfOk result (HasNumber self.new.parts.items part.place part.code) }
     {
         let number = self.parts.len();
         if number >= u32::MAX as usize {
             return Err(AllocError);
         }
-        let before = self.last(&code);
+        let before = self.last(&part.code);
         self.befores.push(before)?;
-        self.put_last(&code, number as u32 + 1);
-        self.parts.push(Part { place, code, rests })?;
+        self.put_last(&part.code, number as u32 + 1);
+        self.parts.push(part)?;
         Ok(number as u32)
     }
 

@@ -29,8 +29,8 @@ pub fn pair_place(cpus: u8, from: u8, to: u8) -> usize
     cpus as usize + (to as usize * cpus as usize + from as usize)
 }
 
-// The part at a place.
-fn part<'a>(parts: &'a [Part], row: &[u32], place: usize) -> &'a Part
+/// The part at a place.
+pub fn part<'a>(parts: &'a [Part], row: &[u32], place: usize) -> &'a Part
     requires inside { place < length row.now }
     requires number { number_at row.now place < length parts.now }
     ensures { result.now ≡ part_at parts.now (number_at row.now place) }

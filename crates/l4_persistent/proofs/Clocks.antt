@@ -17,7 +17,7 @@ use Rattle.l4_merge.specs.LocalTraces.{LocalTrace, empty_past}
 use Rattle.l4_merge.proofs.ClocksOfEvents.{turned_clock}
 use Rattle.l4_merge.proofs.OneDeed.{done_by, own_local_then, other_local_then}
 use Rattle.l4_persistent.specs.Persistent.{Leads, Done, Then}
-use Rattle.l4_persistent.specs.Inner.Rests.{clock_in, clock_at}
+use Rattle.l4_persistent.specs.Rests.{clock_in, clock_at}
 use Rattle.l4_persistent.proofs.Swaps.{deed_of}
 
 -- A turn keeps the clock.

@@ -25,8 +25,8 @@ use Rattle.l4_states.proofs.Reached.{run_within, IsWithin}
 use Rattle.l4_states.proofs.Following.{code_similar, similar_state, at_rest_similar}
 use Rattle.l4_states.proofs.Chosen.{are_chosen, least_run}
 use Rattle.l4_persistent.specs.Persistent.{cpu_of, AreSame, Goes, Leads, Done, Then, AreIdle}
-use Rattle.l4_persistent.specs.Inner.Ends.{MayRest, AreOfSet}
-use Rattle.l4_persistent.specs.Inner.Rests.{horizon, clock_in, clock_at}
+use Rattle.l4_persistent.specs.Inner.Ends.{everybody, CanGoOn, MayRest, AreOfSet}
+use Rattle.l4_persistent.specs.Rests.{horizon, clock_in, clock_at}
 use Rattle.l4_persistent.proofs.Sets.{begins_inside}
 use Rattle.l4_persistent.proofs.Silent.{goes_append}
 use Rattle.l4_persistent.proofs.Clocks.{rises}
@@ -167,7 +167,8 @@ module _ (m : Machine) (machine : IsMachine m) where
   nearer : (before : List Seen) (seen : Seen) (choices : List Next) → AreOfSet m before seen choices →
       (more : ℕ) (end : State) →
       MayRest m seen.state (more + 1) end → IsNearer (MayRest m) choices more end
-  nearer before seen choices o more end e = by (at_rest m o.system) refl
+  nearer before seen choices o more end e =
+      by (o.some (can followed.events followed.leads followed.as_many))
     where
       in_o : IsLeastRun m (length seen.schedule) o.system
       in_o = least_run m seen.schedule o.system o.leads
@@ -236,20 +237,21 @@ module _ (m : Machine) (machine : IsMachine m) where
             ends = ends ∙ e.ends;
           })
 
-      -- At rest no event is left.
-      stopped : at_rest m o.system ≡ true → IsNearer (MayRest m) choices more end
-      stopped rests = none followed.events followed.leads followed.as_many
-        where
-          none : (es : List Action) → Leads m o.system es followed.end → length e.events ≡ length es →
-              IsNearer (MayRest m) choices more end
-          none [] leads size = absurd (omega (arith, size, e.as_many))
-          none (a ∷ es) (Then x goes rest) size = absurd (rest_idle m o.system
-              (within (length seen.schedule) o.system in_o) rests a x goes)
+      -- Some choice can be made, as an event is left.
+      can : (es : List Action) → Leads m o.system es followed.end → length e.events ≡ length es →
+          CanGoOn m seen.schedule everybody
+      can [] leads size = absurd (omega (arith, size, e.as_many))
+      can (a ∷ es) (Then x goes rest) size =
+          let n = numbered m o.system a x (within (length seen.schedule) o.system in_o) goes in
+          record {
+            number = n.number;
+            inside = refl;
+            state = state_in m x.system;
+            leads = one_entry m seen.schedule o.system x.system n.number o.leads n.leads;
+          }
 
-      by : (b : Bool) → at_rest m o.system ≡ b → IsNearer (MayRest m) choices more end
-      by true rests = stopped rests
-      by false rests =
-          let can = o.some rests in
+      by : CanGoOn m seen.schedule o.set → IsNearer (MayRest m) choices more end
+      by can =
           let led = entry_leads m seen.schedule o.system can.number can.state o.leads can.leads in
           let event = event_of m o.system can.number led.0 led.1.0 in
           begun event.event event.behind (ap o.set event.processor ∙ can.inside) event.goes

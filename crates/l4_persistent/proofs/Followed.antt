@@ -16,7 +16,7 @@ use Rattle.l4_bisimilar.specs.Shifted.{AreShifted, HappenShifted, IsShifted, ahe
 use Rattle.l4_bisimilar.proofs.Times.{IsLike, are_bare, are_like, bare_local, handles_shifted, same_local, ticks_shifted, turns_shifted}
 use Rattle.l4_states.specs.Choices.{IsLeastTick}
 use Rattle.l4_persistent.specs.Persistent.{Goes, Leads, Done, Then}
-use Rattle.l4_persistent.specs.Inner.Rests.{clock_in, clock_at}
+use Rattle.l4_persistent.specs.Rests.{clock_in, clock_at}
 use Rattle.l4_persistent.proofs.Silent.{one_more}
 use Rattle.l4_persistent.proofs.Clocks.{has_clocks, rises, all_rise, ticked_below}
 

@@ -15,3 +15,5 @@ pub mod Followed
 pub mod Ends
 mod Examples
 pub mod Rests
+pub mod Endings
+pub mod Slow

@@ -15,7 +15,7 @@ use Rattle.l4_states.specs.Choices.{choice_of, choice, after_entry, after_choice
 use Rattle.l4_states.proofs.Following.{after-append}
 use Rattle.l4_states.proofs.Reached.{IsWithin}
 use Rattle.l4_persistent.specs.Persistent.{cpu_of, Goes}
-use Rattle.l4_persistent.specs.Inner.Ends.{processor_of}
+use Rattle.l4_persistent.specs.Rests.{processor_of}
 
 -- An event has a number
 

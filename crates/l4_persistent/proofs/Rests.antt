@@ -11,7 +11,7 @@ use Rattle.l4_states.specs.Listed.{IsListed}
 use Rattle.l4_states.proofs.Following.{state_led}
 use Rattle.l4_states.proofs.Chosen.{least_run}
 use Rattle.l4_persistent.specs.Persistent.{Leads, Done, Then}
-use Rattle.l4_persistent.specs.Inner.Rests.{ComesToRest, AreRestsListed}
+use Rattle.l4_persistent.specs.Rests.{ComesToRest, AreRestsListed}
 use Rattle.l4_persistent.specs.Inner.Ends.{MayRest, AreOfSet}
 use Rattle.l4_persistent.proofs.Ends.{kept, same_state, shifted_state}
 

@@ -1,2 +1,4 @@
+pub mod Endings
 pub mod Inner
 pub mod Persistent
+pub mod Rests

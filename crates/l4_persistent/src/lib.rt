@@ -10,7 +10,7 @@
 //! Whether a set is persistent is told by what its processors and the others know, and by the
 //! scripts: who waits for whom, and who may yet send or give an order to whom.
 //!
-//! All of it is definitions and proofs; the functions have an empty body. No search uses it yet.
+//! All of it is definitions and proofs; the functions have an empty body.
 //!
 //! ```rust
 //! law_swapped(); // from here on: two such events happen in either order, and lead to the same
@@ -22,13 +22,15 @@ ghost use Rattle.l4_model.specs.Machine.{Machine};
 ghost use Rattle.l4_core_model.specs.Laws.{IsCoreRun};
 ghost use Rattle.l4_core_model.specs.Runs.{Action, Happened, IsMachine, Run, System, happens};
 ghost use Rattle.l4_explore.specs.Inner.Ends.{AreKept};
-ghost use Rattle.l4_explore.specs.Search.{IsExplored, Seen};
+ghost use Rattle.l4_core_model.specs.Schedules.{Entry};
+ghost use Rattle.l4_explore.specs.Search.{IsCut, IsExplored, Seen};
 ghost use Rattle.l4_states.specs.Choices.{state_after};
+ghost use Rattle.l4_persistent.specs.Endings.{AreAllEndings, AreEndings, AreLookedAt, IsCutOff};
 ghost use Rattle.l4_persistent.specs.Inner.Ends.{AreOfSet, MayRest};
 ghost use Rattle.l4_persistent.specs.Inner.Posts.{Aims, AreAims, IsClosed, aims_of};
 ghost use Rattle.l4_persistent.specs.Persistent.{AreIdle, AreSwapped, BeginsInside, Goes};
 ghost use Rattle.l4_persistent.specs.Persistent.{IsPersistent, IsThere, Leads, cpu_of};
-ghost use Rattle.l4_persistent.specs.Inner.Rests.{AreRestsListed};
+ghost use Rattle.l4_persistent.specs.Rests.{AreRestsListed};
 
 /// Events of different processors are independent. Say that an event of one processor happens, and
 /// then one of another, which handles no letter that the first one posted on an empty way. Then
@@ -75,4 +77,27 @@ pub fn law_rests()
     ensures { (m : Machine) (found : List Seen) (depth : ℕ) (is_whole : Bool) → IsMachine m →
         IsExplored (state_after m) (AreOfSet m) found depth is_whole →
         AreRestsListed m found depth is_whole }
+{}
+
+/// It goes on from the opening, and with each state by all choices of a persistent set.
+pub fn law_looked_at()
+    ensures { (m : Machine) (found : List Seen) (depth : ℕ) (is_whole : Bool) → IsMachine m →
+        IsExplored (state_after m) (AreOfSet m) found depth is_whole →
+        AreLookedAt m found depth is_whole }
+{}
+
+/// The states at rest among them are all endings of such core runs, each by a shortest one.
+pub fn law_endings()
+    ensures { (m : Machine) (endings : List (List Entry)) (states asked most depth : ℕ)
+        (is_whole : Bool) → AreEndings m endings states asked most depth is_whole →
+        AreAllEndings m endings depth is_whole }
+{}
+
+/// A search is cut off in one of two cases. Some state that it has found takes as many events as it
+/// may go deep. Or it has found as many states as it may, and there is one more.
+pub fn law_cut_off()
+    ensures { (m : Machine) (found : List Seen) (asked most depth : ℕ) (is_whole : Bool) →
+        IsMachine m → IsExplored (state_after m) (AreOfSet m) found depth is_whole →
+        IsCut (state_after m) (AreOfSet m) found asked most depth →
+        IsCutOff m found asked most depth }
 {}

@@ -9,3 +9,4 @@ pub mod Sharing
 mod Statuses
 mod StuckThreads
 mod Writing
+mod Walks

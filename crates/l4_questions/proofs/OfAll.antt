@@ -15,7 +15,8 @@ use Rattle.l4_common_lines.proofs.AsGood.{in_common as as_good_in_common}
 use Rattle.l4_common_lines.proofs.Sends.{common_back}
 use Rattle.l4_bisimilar.proofs.InCommon.{in_common}
 use Rattle.l4_refines.proofs.Law.{run_facts}
-use Rattle.l4_states.specs.Endings.{AreAllEndings, IsAmong, IsEnding, ending_at}
+use Rattle.l4_states.specs.Endings.{IsAmong, ending_at}
+use Rattle.l4_persistent.specs.Endings.{AreAllEndings, IsEnding}
 use Rattle.l4_futures.specs.Endings.{AreAllEndings as AreAllWorldEndings, IsEnding as IsWorldEnding}
 use Rattle.l4_futures.proofs.Stuck.{stuck_same}
 use Rattle.l4_quiet.proofs.Replays.{replay_run}
@@ -59,13 +60,17 @@ pub stands_with : (m : Machine) (endings : List (List Entry)) (depth : ℕ) → 
 stands_with m endings depth machine all r run =
     let among = all.whole refl r.system (length run.actions)
     (record {
-      actions = run.actions;
-      run = r;
-      is = run.is;
-      ticks = run.ticks;
-      system = refl;
-      count = refl;
-    }) run.rest in
+      run = record {
+        actions = run.actions;
+        run = r;
+        is = run.is;
+        ticks = run.ticks;
+        system = refl;
+        count = refl;
+      };
+      rest = run.rest;
+      soon = run.soon;
+    }) in
     let s = replay_entries m (ending_at endings among.place) in
     let ending = at_place (IsEnding m) endings among.place among.inside all.sound in
     let own = replay_run m (ending_at endings among.place) in

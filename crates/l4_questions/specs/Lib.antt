@@ -1,3 +1,4 @@
+pub mod Always
 pub mod Answers
 pub mod Asked
 pub mod Beside
@@ -10,3 +11,4 @@ pub mod Printed
 pub mod Quiet
 pub mod Runs
 pub mod Stuck
+pub mod Walked

@@ -4,8 +4,7 @@ use Rattle.std.specs.List.{list_any}
 use Rattle.l4_model.specs.Machine.{Declaration, Machine}
 use Rattle.l4_core_model.specs.Runs.{Run, told}
 use Rattle.l4_core_model.specs.Schedules.{Entry, replay_entries}
-use Rattle.l4_states.specs.Endings.{AreAllEndings, AreEndings}
-use Rattle.l4_endings.specs.Deepest.{IsDeepest}
+use Rattle.l4_persistent.specs.Endings.{AreAllEndings, AreEndings}
 use Rattle.l4_expect.specs.Expected.{Expected}
 use Rattle.l4_schedules.specs.Written.{schedule_text}
 use Rattle.l4_words.specs.Lines.{line_of_words}
@@ -63,7 +62,8 @@ abbrev pub end_words : Machine → (is_whole : Bool) → List ℕ
 end_words m true = whole_words (share_processor m.threads)
 end_words m false = codes "cut"
 
--- The number of states, the depth to which all were found, and whether there are no more.
+-- The number of states that were looked at, the depth to which all endings were found, and whether
+-- there are no more.
 abbrev pub states_line : Machine → (states depth : ℕ) → (is_whole : Bool) → List ℕ
 states_line m states depth is_whole =
     line_of_words
@@ -76,7 +76,7 @@ pub record ArePlaced (m : Machine) (q : Question) (endings : List (List Entry)) 
   pub all : AreAllEndings m endings depth is_whole
   pub found : AreEndings m endings states q.depth q.states depth is_whole
   pub few : states ≤ q.states
-  pub whole : is_whole ≡ true → (depth < q.depth) × IsDeepest m depth
+  pub whole : is_whole ≡ true → depth < q.depth
 
 -- These lines and this status are the answer: those of all endings that the question asks for. It
 -- may also ask for charts and who waits for whom, and expect something of each ending.

@@ -7,17 +7,20 @@ use Rattle.l4_core_model.specs.Schedules.{Entry}
 use Rattle.l4_bisimilar.specs.Shifted.{IsShifted}
 use Rattle.l4_states.specs.Choices.{AreLeastTicks}
 use Rattle.l4_states.specs.Endings.{ending_at, led}
+use Rattle.l4_persistent.specs.Rests.{clock_at, horizon}
 use Rattle.l4_lines.specs.Lines.{line_fault}
 use Rattle.l4_questions.specs.Asked.{is_asked}
 use Rattle.l4_questions.specs.Placed.{is_asked_after, placed_ending}
 use Rattle.l4_questions.specs.declared.question.Question.{Question}
 
--- A core run that comes to rest, and whose ticks go to least deadlines.
+-- A core run that comes to rest, and whose ticks go to least deadlines. Its clocks are below 2^61:
+-- 73,000 years.
 pub record ComesToRest (m : Machine) (r : Run) : Type 0 where
   pub actions : List Action
   pub is : core_run m (opening_run m) actions ≡ Some r
   pub ticks : AreLeastTicks m (opening_run m) actions
   pub rest : at_rest m r.system ≡ true
+  pub soon : (cpu : ℕ) → clock_at r.system cpu < horizon
 
 -- The lines that a question asks for, if any, are lines that may be asked for.
 

@@ -156,7 +156,8 @@ pub(crate) fn written_endings<E: Listed>(
     Ok(written)
 }
 
-fn status_of_search(is_whole: bool) -> u8
+/// The exit status where it is not asked how many endings there are.
+pub(crate) fn status_of_search(is_whole: bool) -> u8
     ensures { result ≡ status_of_search is_whole }
 {
     if is_whole { 0 } else { 3 }

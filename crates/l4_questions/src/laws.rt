@@ -12,8 +12,12 @@ ghost use Rattle.l4_core_model.specs.Runs.{IsMachine, Run};
 ghost use Rattle.l4_core_model.specs.Schedules.{Entry, replay_entries};
 ghost use Rattle.l4_model.specs.Steps.{Step};
 ghost use Rattle.l4_expect.specs.Expected.{Expected};
-ghost use Rattle.l4_states.specs.Endings.{AreAllEndings};
-ghost use Rattle.l4_questions.specs.Answers.{IsAnswer, NoneIsReached, OneIsReached};
+ghost use Rattle.l4_persistent.specs.Endings.{AreAllEndings};
+ghost use Rattle.l4_invariants.specs.Invariants.{IsNeverMet};
+ghost use Rattle.l4_condition_lines.specs.Conditions.{meets};
+ghost use Rattle.l4_questions.specs.Always.{IsAlwaysAnswer};
+ghost use Rattle.l4_questions.specs.Answers.{NoneIsReached, OneIsReached};
+ghost use Rattle.l4_questions.specs.Walked.{IsAnyAnswer};
 ghost use Rattle.l4_proc.specs.declared.processor.Processor.{Processor};
 ghost use Rattle.l4_machine.specs.Gathered.{IsGathered};
 ghost use Rattle.l4_machine.specs.Outcomes.{Findings, IsFoundFor, IsOutcomeOf};
@@ -33,7 +37,7 @@ ghost use Rattle.l4_questions.specs.Beside.{Shown};
 pub fn law_none_is_reached()
     ensures { (m : Machine) (q : AskedQuestion) (shown : Shown)
         (expected : Option (List Expected)) (lines unmet : List ℕ) → AsksForLines q →
-        q.wanted ≡ NoEnding → IsAnswer m q shown expected lines unmet 0 → NoneIsReached m q }
+        q.wanted ≡ NoEnding → IsAnyAnswer m q shown expected lines unmet 0 → NoneIsReached m q }
 {}
 
 /// Status 0, where a question asks that nothing be stuck, says that no history makes a thread stuck
@@ -42,7 +46,7 @@ pub fn law_nobody_is_stuck()
     ensures { (m : Machine) (q : AskedQuestion) (shown : Shown)
         (expected : Option (List Expected)) (lines unmet : List ℕ) →
         asks_who_is_stuck q ≡ true → q.wanted ≡ NoEnding →
-        IsAnswer m q shown expected lines unmet 0 → (thread : ℕ) → thread < length m.threads →
+        IsAnyAnswer m q shown expected lines unmet 0 → (thread : ℕ) → thread < length m.threads →
         IsNeverStuck m thread }
 {}
 
@@ -51,7 +55,14 @@ pub fn law_nobody_is_stuck()
 pub fn law_one_is_reached()
     ensures { (m : Machine) (q : AskedQuestion) (shown : Shown)
         (expected : Option (List Expected)) (lines unmet : List ℕ) →
-        q.wanted ≡ AnEnding → IsAnswer m q shown expected lines unmet 0 → OneIsReached m q }
+        q.wanted ≡ AnEnding → IsAnyAnswer m q shown expected lines unmet 0 → OneIsReached m q }
+{}
+
+/// Status 0 of `always_answer` says that no history of the machine meets the condition in any world on
+/// its way, whatever the scheduler does and whatever time passes.
+pub fn law_never_met()
+    ensures { (m : Machine) (q : AskedQuestion) (asked : List (List ℕ)) (lines unmet : List ℕ) →
+        IsAlwaysAnswer m q asked lines unmet 0 → IsNeverMet m (meets m asked) }
 {}
 
 /// Where a search is whole, what a run comes to at rest is a listed ending: of each run, replay or

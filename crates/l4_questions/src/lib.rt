@@ -8,7 +8,8 @@
 //! Contracts see the bytes: they are those of all endings that the question asks for, and of no
 //! others. What is asked of an ending, and what is told of it, is the same for both searches. `laws`
 //! says of all histories, and of all core runs, what an answer says of the endings that were found,
-//! and `met` says of them what is expected of these.
+//! and `met` says of them what is expected of these. `always_answer` asks no endings, but whether any
+//! world on the way meets a condition, and `always_trace` is the trace of a history that comes there.
 //!
 //! ```rust
 //! let question = Question { stuck: true, wanted: Wanted::NoEnding, ..Question::new(1_000, 100_000) };
@@ -17,6 +18,7 @@
 //! ```
 #![tactic(auto)]
 
+mod always;
 mod answering;
 mod asked;
 pub mod beside;
@@ -30,7 +32,9 @@ mod printed;
 pub mod question;
 mod stuck;
 mod traces;
+mod walked;
 
+pub use always::{always_answer, always_trace};
 pub use answering::answer;
 pub use judged::Answer;
 pub use placed_answering::placed_answer;

@@ -25,6 +25,7 @@ ghost use Rattle.l4_questions.specs.Runs.{AsksForLines};
 ghost use Rattle.l4_questions.specs.declared.question.Question.{Question as AskedQuestion};
 ghost use Rattle.l4_questions.specs.declared.question.Wanted.TheVariants.{Whatever};
 ghost use Rattle.l4_questions.specs.Beside.{Shown};
+ghost use Rattle.l4_questions.specs.Walked.{IsAnyAnswer};
 
 /// Where a search is whole, and each of its endings that is asked for meets what is expected, each
 /// that any history of the machine comes to meets it, whatever the scheduler does and whatever time
@@ -33,7 +34,7 @@ pub fn law_each_is_met()
     ensures by_status { (m : Machine) (q : AskedQuestion) (shown : Shown)
         (expected : List Expected) (lines unmet : List ℕ) → AsksForLines q →
         may_be_asked expected ≡ true → q.wanted ≡ Whatever →
-        IsAnswer m q shown (Some expected) lines unmet 0 → EachIsMet m q expected }
+        IsAnyAnswer m q shown (Some expected) lines unmet 0 → EachIsMet m q expected }
     ensures whole { (m : Machine) (q : AskedQuestion) (shown : Shown)
         (expected : List Expected) (lines : List ℕ) (status : ℕ) → AsksForLines q →
         may_be_asked expected ≡ true →

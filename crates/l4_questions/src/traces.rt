@@ -1,8 +1,12 @@
 //! The trace of one ending.
-ghost use Rattle.std.specs.Prelude.{◌≡◌, ◌⊎◌, ◌++◌, IfErr, IfOk, Some, option_map, true};
+ghost use Rattle.std.specs.Prelude.{◌≡◌, ◌⊎◌, ◌++◌, ◌<◌, min, IfErr, IfOk, None, Some};
+ghost use Rattle.std.specs.Prelude.{option_map, true};
 ghost use Rattle.std.specs.List.{list_all, AllByRecursion};
 ghost use Rattle.l4_questions.specs.Answers.{asked_traces, numbered, traces_along, IsTraceAnswer};
+ghost use Rattle.l4_explore.specs.Tries.{deepest};
 ghost use Rattle.l4_questions.specs.Inner.Found.{IsLed};
+ghost use Rattle.l4_questions.specs.Walked.{IsAnyTrace, IsFirstTrace};
+ghost use Rattle.l4_futures.specs.Traces.{trace_along};
 ghost use Rattle.l4_questions.specs.Limits.{question_fault};
 ghost use Rattle.l4_questions.specs.declared.question.QuestionFault.TheVariants.{NoMemory as OutOfMemory};
 ghost use Rattle.l4_questions.specs.Stuck.{stuck_traces, AreAllStuck};
@@ -13,6 +17,7 @@ use crate::asked::is_asked;
 use crate::listed::Listed;
 use crate::question::{Question, QuestionFault};
 use crate::stuck::asked_stuck;
+use crate::walked::walked_ending;
 use l4_all_endings::{all_endings, trace_of};
 use l4_explore::progress::Progress;
 use l4_history::history::History;
@@ -57,14 +62,67 @@ fn numbered(
     Ok(Some(trace_of(alloc, machine, &thread.entries)?))
 }
 
-// A line for each step of a trace.
-fn lines_of(alloc: Global, trace: &History) -> Result<Vec<u8>, NoMemory>
+/// A line for each step of a trace.
+///
+/// `NoMemory`: memory was refused.
+pub(crate) fn lines_of(alloc: Global, trace: &History) -> Result<Vec<u8>, NoMemory>
     ensures lines { IfOk result (λ lines. lines.items ≡ trace_of trace.now.steps) }
     ensures spelled { IfOk result (λ lines. list_all has_line trace.now.steps ≡ true) }
 {
     let mut writer = TraceWriter::new(alloc);
     writer.write(trace.steps())?;
     Ok(writer.into_lines())
+}
+
+// The trace of this number, by a search for all endings.
+fn searched_trace<P: Progress>(
+    alloc: Global,
+    machine: &Machine,
+    question: &Question<'_>,
+    number: u64,
+    depth: u32,
+    most: u32,
+    progress: &mut P,
+) -> Result<Option<Vec<u8>>, NoMemory>
+    requires lawful { question_fault question.now ≡ None }
+    requires depth { min depth deepest ≡ question.now.depth }
+    requires most { most ≡ question.now.states }
+    requires some { 0 < most }
+    ensures { IfOk result (λ lines. IsTraceAnswer machine.now question.now number
+        (option_map (λ l. l.items) lines)) }
+{
+    let found = all_endings(alloc, machine, depth, most, progress)?;
+    let stuck = asked_stuck(alloc, machine, question, depth, most, progress)?;
+    let trace = numbered(
+        alloc,
+        machine,
+        question,
+        number,
+        &found.endings,
+        &stuck.threads,
+    )?;
+    match trace {
+        None => Ok(None),
+        Some(trace) => Ok(Some(lines_of(alloc, &trace)?)),
+    }
+}
+
+// The trace of an ending that a walk came to. It has the number 1.
+fn walk_trace(
+    alloc: Global,
+    machine: &Machine,
+    entries: &Vec<u32>,
+    number: u64,
+) -> Result<Option<Vec<u8>>, NoMemory>
+    requires { IsLed machine.now entries.now }
+    ensures { IfOk result (λ lines. IsFirstTrace (trace_along machine.now entries.now.items) number
+        (option_map (λ l. l.items) lines)) }
+{
+    if number != 1 {
+        return Ok(None);
+    }
+    let trace = trace_of(alloc, machine, entries)?;
+    Ok(Some(lines_of(alloc, &trace)?))
 }
 
 /// The trace of the ending that the answer to a question gives this number, a line for each of its
@@ -80,24 +138,15 @@ pub fn asked_trace<P: Progress>(
     number: u64,
     progress: &mut P,
 ) -> Result<Option<Vec<u8>>, QuestionFault>
-    ensures ok { IfOk result (λ lines. IsTraceAnswer machine.now question.now number
+    ensures ok { IfOk result (λ lines. IsAnyTrace machine.now question.now number
         (option_map (λ l. l.items) lines)) }
     ensures err { IfErr result (λ fault. (fault ≡ OutOfMemory) ⊎
         (question_fault question.now ≡ Some fault)) }
 {
     let (depth, most) = question.limits()?;
-    let found = all_endings(alloc, machine, depth, most, progress)?;
-    let stuck = asked_stuck(alloc, machine, question, depth, most, progress)?;
-    let trace = numbered(
-        alloc,
-        machine,
-        question,
-        number,
-        &found.endings,
-        &stuck.threads,
-    )?;
-    match trace {
-        None => Ok(None),
-        Some(trace) => Ok(Some(lines_of(alloc, &trace)?)),
-    }
+    let lines = match walked_ending(alloc, machine, question, depth, most, progress)? {
+        Some(entries) => walk_trace(alloc, machine, &entries, number)?,
+        None => searched_trace(alloc, machine, question, number, depth, most, progress)?,
+    };
+    Ok(lines)
 }

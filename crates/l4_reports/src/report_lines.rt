@@ -44,8 +44,9 @@ fn push_views(text: &mut String, threads: &[ThreadView]) -> Result<(), AllocErro
     Ok(())
 }
 
+/// Appends the line of a thread.
 #[tactic(auto, using(crate::proofs::Joined::thread_line_joined))]
-fn push_view(text: &mut String, view: &ThreadView) -> Result<(), AllocError>
+pub fn push_view(text: &mut String, view: &ThreadView) -> Result<(), AllocError>
     ensures { OnOk result (string_bytes text.new ≡
         string_bytes text.old ++ thread_line (report_of_view view.now)) }
 {

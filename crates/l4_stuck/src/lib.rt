@@ -25,3 +25,4 @@ mod search;
 mod walks;
 
 pub use search::{FoundThreads, StuckThread, stuck_threads};
+pub use walks::{choices_by, is_later};

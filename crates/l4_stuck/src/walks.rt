@@ -103,8 +103,10 @@ impl<'m> Tries for Walks<'m> {
     }
 }
 
-// The states that each of these entries leads to.
-fn choices_by(
+/// The states that each of these entries leads to.
+///
+/// `NoMemory`: memory was refused.
+pub fn choices_by(
     alloc: Global,
     outlook: &Outlook<'_>,
     entries: &[u32],
@@ -138,8 +140,8 @@ fn are_later(found: &Found, place: usize, choices: &[Choice]) -> bool
     true
 }
 
-// Whether the state of this code stands behind a place, if it was found at all.
-fn is_later(found: &Found, place: usize, code: &[u8]) -> bool
+/// Whether the state of this code stands behind a place, if it was found at all.
+pub fn is_later(found: &Found, place: usize, code: &[u8]) -> bool
     requires inside { place < length found.now }
     requires once { AreApart found.now }
     ensures { result ≡ true →

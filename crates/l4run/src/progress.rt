@@ -1,20 +1,22 @@
 //! A line on a terminal that says how far a search has come.
 
+ghost use Rattle.std.specs.Prelude.{◌<◌};
+
 use arrayvec::ArrayString;
 use l4_explore::progress::Progress;
 use l4_jobs::streams::Sink;
 use std::fmt::Write;
 use std::time::{Clock, Instant};
 
-// A line has at most three numbers of 20 digits, and 29 other bytes.
-const MOST_BYTES: usize = 89;
+// A line has at most four numbers of 20 digits, and 41 other bytes.
+const MOST_BYTES: usize = 121;
 
 // What wipes the line.
 const WIPED: &[u8] = b"\r\x1b[K";
 
-/// A line on a terminal that says how far a search has come: `looked at 12000 states, depth 31,
-/// 4 s`. From the first second on it is written once in each, over what was there, and it is wiped
-/// where the search ends. It takes no memory. A write that fails is no fault.
+/// A line on a terminal that says how far a search has come: `looked at 120000 states, depth 31,
+/// 4 s, 30000 a second`. From the first second on it is written once in each, over what was there,
+/// and it is wiped where the search ends. It takes no memory. A write that fails is no fault.
 #[derive(Drop)]
 pub struct ProgressLine<'a, R, W> {
     clock: &'a R,
@@ -49,11 +51,14 @@ impl<'a, R: Clock, W: Sink> ProgressLine<'a, R, W> {
         }
     }
 
-    fn write(&mut self, states: usize, depth: usize, seconds: u64) {
+    fn write(&mut self, states: usize, depth: usize, seconds: u64)
+        requires { 0 < seconds }
+    {
+        let rate = states as u64 / seconds;
         let mut line = ArrayString::<MOST_BYTES>::new();
         if write!(
             line,
-            "\rlooked at {states} states, depth {depth}, {seconds} s"
+            "\rlooked at {states} states, depth {depth}, {seconds} s, {rate} a second"
         )
         .is_ok()
         {
@@ -78,5 +83,7 @@ impl<R: Clock, W: Sink> Progress for ProgressLine<'_, R, W> {
         if self.written > 0 {
             let _ = self.out.put(WIPED);
         }
+        self.began = None;
+        self.written = 0;
     }
 }

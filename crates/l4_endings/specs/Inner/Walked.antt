@@ -6,6 +6,7 @@ use Rattle.l4_model.specs.Machine.{Machine}
 use Rattle.l4_core_model.specs.Runs.{Run, opening_system}
 use Rattle.l4_states.specs.Choices.{after_choices}
 use Rattle.l4_machine.specs.UnderWay.{UnderWay, IsRun}
+use Rattle.l4_persistent.proofs.Slow.{AreSlow}
 
 -- Choices lead to a state.
 abbrev pub AreChoices : Machine → List ℕ → Type 0
@@ -17,5 +18,6 @@ pub record IsWalked (m : Machine) (numbers : List ℕ) (w : UnderWay) : Type 0 w
   pub is : IsRun m run w
   pub leads : after_choices m (opening_system m) numbers ≡ Some run.system
   pub events : length run.events ≡ length numbers
-  -- each event brings a clock on by less than the longest period
+  -- each event brings a clock on by less than the longest period, and by half of that on the whole
   pub clocks : AllByRecursion (λ l. l.clock ≤ length numbers * period_limit) run.system.locals
+  pub slow : AreSlow (length numbers) run.system.locals

@@ -1,16 +1,40 @@
-//! What a search for threads that are stuck for ever sees of a world.
+//! What a search for threads that are stuck for ever, or for a world that meets a condition, sees of
+//! a world.
 ghost use Rattle.std.specs.Prelude.{◌≡◌, ◌<◌, IfOk, length, map};
+ghost use Rattle.l4_model.specs.Conditions.{found, found_at};
 ghost use Rattle.l4_futures.specs.Choices.{possible};
 ghost use Rattle.l4_futures.specs.Stuck.{names_one};
 ghost use Rattle.l4_forever.specs.Waits.{receive_wait, wait_at, waits_in};
 
 use crate::outlook::Outlook;
+use l4_audit::found::Found;
 use l4_forever::Wait;
 use l4_types::errors::NoMemory;
-use l4_types::ids::{Kind, ThreadId};
+use l4_types::ids::{GlobalId, Kind, ThreadId};
 use std::alloc::Global;
 
 impl Outlook<'_> {
+    /// The thread at a place of the order of declaration, as it is here.
+    pub fn found_at(&self, place: usize) -> Option<Found<'_>>
+        ensures { result ≡ found_at self.now.machine self.now.world place }
+    {
+        self.world.found_at(place)
+    }
+
+    /// The thread of an id, as it is here, if one is declared.
+    pub fn found(&self, id: GlobalId) -> Option<Found<'_>>
+        ensures { result ≡ found self.now.machine self.now.world id }
+    {
+        self.world.found(id)
+    }
+
+    /// Each declared thread is one of the world.
+    pub fn facts(&self)
+        ensures { length self.now.world.threads ≡ length self.now.machine.threads }
+    {
+        self.world.facts();
+    }
+
     /// All entries that are possible here, in rising order.
     ///
     /// `NoMemory`: memory was refused.

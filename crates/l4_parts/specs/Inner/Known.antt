@@ -4,9 +4,11 @@ use Rattle.std.specs.List.{list_any, AllByRecursion}
 use Rattle.l4_model.specs.Machine.{Machine}
 use Rattle.l4_core_model.specs.Runs.{System, opening_system}
 use Rattle.l4_states.specs.Choices.{after_choices, after_entry, choice, IsEarly, IsNear, IsReached}
-use Rattle.l4_states.specs.Inner.Remembered.{cpu_of, pair_place, part_code, place_count, poster_of, rests_at, AreSame}
+use Rattle.l4_states.specs.Inner.Remembered.{cpu_of, local_at, pair_place, part_code, place_count, poster_of, rests_at, AreSame}
 use Rattle.l4_states.proofs.Early.{AreLow}
+use Rattle.l4_persistent.proofs.Slow.{AreSlow}
 use Rattle.l4_codes.specs.Inner.Written.{unwritten, Writes}
+use Rattle.l4_sets.specs.Inner.Contacts.{AreContacts}
 use Rattle.l4_parts.specs.declared.parts.Part.{Part}
 use Rattle.l4_parts.specs.declared.events.Event.{Event}
 use Rattle.l4_parts.specs.declared.events.Write.{Write}
@@ -23,11 +25,13 @@ pub record HasAt (m : Machine) (g : System) (parts : List Part) (place number : 
   pub at : IsAt m g place (part_at parts number)
 
 -- Wherever a part stands, that is so of the state that is told of the part: whether nothing is to be
--- done there, and how near the least deadline is.
+-- done there, how near the least deadline is, and whom the processor waits for and may post to.
 pub record IsTrue (m : Machine) (p : Part) : Type 0 where
   pub rests : (g : System) → IsReached m g → IsAt m g p.place p → rests_at m g p.place ≡ p.rests
   pub near : (g : System) → IsReached m g → p.place < m.cpus → IsAt m g p.place p →
       IsNear g p.place
+  pub contacts : (g : System) → IsReached m g → p.place < m.cpus → IsAt m g p.place p →
+      AreContacts m p.place (local_at m g p.place) p.contacts
 
 abbrev pub AreTrue : Machine → List Part → Type 0
 AreTrue m parts = (number : ℕ) → number < length parts → IsTrue m (part_at parts number)
@@ -46,6 +50,7 @@ pub record IsRowBehind (m : Machine) (numbers : List ℕ) (parts : List Part) (r
   pub system : System
   pub leads : after_choices m (opening_system m) numbers ≡ Some system
   pub low : AreLow (length numbers) system.locals
+  pub slow : AreSlow (length numbers) system.locals
   pub row_is : IsRow m system parts row
 
 -- What a row becomes.

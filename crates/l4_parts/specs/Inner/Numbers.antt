@@ -5,7 +5,13 @@ use Rattle.l4_parts.specs.declared.parts.Part.{Part}
 
 -- What `part_at` gives past the end.
 abbrev pub no_part : Part
-no_part = record { place = 0; code = unwritten; rests = false }
+no_part = record {
+  place = 0;
+  code = unwritten;
+  rests = false;
+  contacts = record { waits = 0; posts = 0 };
+  moves = 0;
+}
 
 abbrev pub part_at : List Part → (number : ℕ) → Part
 part_at parts number = slice_index_or parts number no_part

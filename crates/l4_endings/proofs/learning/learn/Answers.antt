@@ -6,25 +6,25 @@ use Rattle.l4_endings.proofs.learning.learn.Goals as goal
 
 pub returns-in_err-new-clause-known : goal.returns-in_err-new-clause-known
 returns-in_err-new-clause-known c =
-    known_longer c.args.machine.now c.args.parts.now.parts.items c.row_after.new.parts.parts.items
+    known_longer c.args.aims.now c.args.parts.now.parts.items c.row_after.new.parts.parts.items
     c.args.events.now.events.items c.row_after.ensures.longer
     (c.row_after.ensures.are c.requires.known.parts_are) c.requires.known
 
 pub returns-in_err-event-clause-known : goal.returns-in_err-event-clause-known
 returns-in_err-event-clause-known c =
-    known_longer c.args.machine.now c.args.parts.now.parts.items c.row_after.new.parts.parts.items
+    known_longer c.args.aims.now c.args.parts.now.parts.items c.row_after.new.parts.parts.items
     c.args.events.now.events.items c.row_after.ensures.longer
     (c.row_after.ensures.are c.requires.known.parts_are) c.requires.known
 
 pub returns-in_err-add-clause-known : goal.returns-in_err-add-clause-known
 returns-in_err-add-clause-known c =
-    known_more c.args.machine.now c.row_after.new.parts.parts.items c.args.events.now.events.items
+    known_more c.args.aims.now c.row_after.new.parts.parts.items c.args.events.now.events.items
     c.add.new.self.events.items c.in_ok-event.event
-    (known_longer c.args.machine.now c.args.parts.now.parts.items c.row_after.new.parts.parts.items
+    (known_longer c.args.aims.now c.args.parts.now.parts.items c.row_after.new.parts.parts.items
     c.args.events.now.events.items c.row_after.ensures.longer
     (c.row_after.ensures.are c.requires.known.parts_are) c.requires.known)
-    (event_true c.args.machine.now c.cpus.ensures.lawful c.args.schedule.now c.row_after.new.parts.parts.items
-    c.args.row.now (behind_longer c.args.machine.now c.args.schedule.now c.args.parts.now.parts.items
+    (event_true c.args.aims.now c.cpus.ensures.lawful c.args.schedule.now c.row_after.new.parts.parts.items
+    c.args.row.now (behind_longer c.args.aims.now c.args.schedule.now c.args.parts.now.parts.items
     c.row_after.new.parts.parts.items c.args.row.now c.row_after.ensures.longer c.requires.row) c.args.number c.requires.number c.parts_read-read.result c.in_ok-new.new
     c.in_ok-event.event (c.row_after.ensures.are c.requires.known.parts_are) c.requires.short
     (subst (λ n. Reads c.args.row.now n c.args.number c.parts_read-read.result) c.cpus.ensures.value c.parts_read-read.ensures)
@@ -33,13 +33,13 @@ returns-in_err-add-clause-known c =
 
 pub returns-clause-known : goal.returns-clause-known
 returns-clause-known c =
-    known_more c.args.machine.now c.row_after.new.parts.parts.items c.args.events.now.events.items
+    known_more c.args.aims.now c.row_after.new.parts.parts.items c.args.events.now.events.items
     c.add.new.self.events.items c.in_ok-event.event
-    (known_longer c.args.machine.now c.args.parts.now.parts.items c.row_after.new.parts.parts.items
+    (known_longer c.args.aims.now c.args.parts.now.parts.items c.row_after.new.parts.parts.items
     c.args.events.now.events.items c.row_after.ensures.longer
     (c.row_after.ensures.are c.requires.known.parts_are) c.requires.known)
-    (event_true c.args.machine.now c.cpus.ensures.lawful c.args.schedule.now c.row_after.new.parts.parts.items
-    c.args.row.now (behind_longer c.args.machine.now c.args.schedule.now c.args.parts.now.parts.items
+    (event_true c.args.aims.now c.cpus.ensures.lawful c.args.schedule.now c.row_after.new.parts.parts.items
+    c.args.row.now (behind_longer c.args.aims.now c.args.schedule.now c.args.parts.now.parts.items
     c.row_after.new.parts.parts.items c.args.row.now c.row_after.ensures.longer c.requires.row) c.args.number c.requires.number c.parts_read-read.result c.in_ok-new.new
     c.in_ok-event.event (c.row_after.ensures.are c.requires.known.parts_are) c.requires.short
     (subst (λ n. Reads c.args.row.now n c.args.number c.parts_read-read.result) c.cpus.ensures.value c.parts_read-read.ensures)
@@ -50,9 +50,9 @@ pub returns-clause-event : goal.returns-clause-event
 returns-clause-event c = record {
   event = c.in_ok-event.event;
   at = c.in_ok-add.ensures.number;
-  of = event_of_it c.args.machine.now c.cpus.ensures.lawful c.args.schedule.now
+  of = event_of_it c.args.aims.now c.cpus.ensures.lawful c.args.schedule.now
       c.row_after.new.parts.parts.items c.args.row.now
-      (behind_longer c.args.machine.now c.args.schedule.now c.args.parts.now.parts.items
+      (behind_longer c.args.aims.now c.args.schedule.now c.args.parts.now.parts.items
       c.row_after.new.parts.parts.items c.args.row.now c.row_after.ensures.longer c.requires.row) c.args.number c.requires.number c.parts_read-read.result c.in_ok-new.new
       c.in_ok-event.event
       (subst (λ n. Reads c.args.row.now n c.args.number c.parts_read-read.result) c.cpus.ensures.value c.parts_read-read.ensures)

@@ -12,27 +12,27 @@ pub loop-place-init : goal.loop-place-init
 loop-place-init c = record {
   longer = as_long c.args.parts.now.parts.items;
   known = c.requires.known;
-  behind = opening_behind c.args.machine.now c.args.parts.now.parts.items c.extend_from_slice.new.self.items
-      (subst (IsRow c.args.machine.now (opening_system c.args.machine.now) c.args.parts.now.parts.items)
+  behind = opening_behind c.args.aims.now c.args.parts.now.parts.items c.extend_from_slice.new.self.items
+      (subst (IsRow c.args.aims.now (opening_system c.args.aims.now) c.args.parts.now.parts.items)
       (sym (c.in_ok-extend_from_slice.ensures.items
       ∙ ap (λ xs. xs ++ c.args.opening.now) c.in_ok-row.ensures.items)) c.requires.opening);
 }
 
 pub event_of-requires-clause-number : goal.event_of-requires-clause-number
 event_of-requires-clause-number c =
-    number_at c.args.machine.now c.args.schedule.now c.loop-place.place
+    number_at c.args.aims.now c.args.schedule.now c.loop-place.place
     (get_or c.args.schedule.now c.loop-place.place 0) c.facts.ensures.lawful c.requires.leads
     (omega (arith, c.loop-place-test.true)) refl
 
 pub go_on-requires-clause-inside : goal.go_on-requires-clause-inside
 go_on-requires-clause-inside c =
-    event_inside c.args.machine.now c.event_of.new.events.events.items c.deref.result.now
+    event_inside c.args.aims.now c.event_of.new.events.events.items c.deref.result.now
     (get_or c.args.schedule.now c.loop-place.place 0) c.in_ok-event.event
     c.in_ok-event.ensures.event
 
 pub loop-place-preserved : goal.loop-place-preserved
 loop-place-preserved c =
-    let m = c.args.machine.now in
+    let m = c.args.aims.now in
     let i = c.loop-place.place in
     let s = c.args.schedule.now in
     let number = get_or s i 0 in

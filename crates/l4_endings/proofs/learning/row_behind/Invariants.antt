@@ -7,6 +7,6 @@ use Rattle.l4_endings.proofs.learning.row_behind.Given as goal
 abbrev pub invariant-loop-place : goal.invariant-loop-place
 invariant-loop-place l = record {
   longer : AreLonger l.fn.parts.parts.items l.parts.parts.items;
-  known : AreKnown l.machine l.parts.parts.items l.events.events.items;
-  behind : IsRowBehind l.machine (take l.place l.schedule) l.parts.parts.items l.row.items;
+  known : AreKnown l.aims l.parts.parts.items l.events.events.items;
+  behind : IsRowBehind l.aims (take l.place l.schedule) l.parts.parts.items l.row.items;
 }

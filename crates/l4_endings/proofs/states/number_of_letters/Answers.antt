@@ -17,7 +17,8 @@ returns-clause-are c = λ m r is.
     (ap (λ n. (c.args.place - n) / n) (c.from-count.ensures ∙ same))
     (c.letters-2.ensures m r is) (c.letters.ensures m r is) c.new-code.ensures
     c.in_ok-put_letters.ensures
-    (no_number c.letters.result c.is_empty-rests.result c.is_empty-rests.ensures) c.number_of.ensures.kept
+    (no_number c.letters.result c.is_empty-rests.result c.is_empty-rests.ensures) c.none.result _
+    c.number_of.ensures.kept
 
 pub returns-clause-number : goal.returns-clause-number
 returns-clause-number c = λ m r is.

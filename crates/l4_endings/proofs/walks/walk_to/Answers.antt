@@ -1,16 +1,19 @@
 use Rattle.std.proofs.Common.{◌+◌, ◌*◌, ◌<◌, get_or, length, take, ap, refl, sym, subst, ◌∙◌, arith}
 use Rattle.std.proofs.lemmas.List.{length-take-le, take_all}
 use Rattle.l4_model.specs.Machine.{Machine}
+use Rattle.l4_core_model.specs.Runs.{opening_run}
+use Rattle.l4_machine.specs.UnderWay.{IsRun}
 use Rattle.l4_endings.specs.Inner.Walked.{IsWalked}
 use Rattle.l4_endings.proofs.Walking.{has_run, number_at, order_length, walked_more, walked_start}
 use Rattle.l4_endings.proofs.walks.walk_to.Goals as goal
 
 pub loop-number-init : goal.loop-number-init
-loop-number-init c = walked_start c.args.machine.now _ c.in_ok-walk.ensures
+loop-number-init c = walked_start c.args.aims.now c.in_ok-walk.walk
+    (subst (λ (m : Machine). IsRun m (opening_run m) c.in_ok-walk.walk) c.machine.ensures c.in_ok-walk.ensures)
 
 pub make-requires-clause-run : goal.make-requires-clause-run
 make-requires-clause-run c =
-    has_run c.args.machine.now (take c.loop-number.number-index c.args.numbers.now)
+    has_run c.args.aims.now (take c.loop-number.number-index c.args.numbers.now)
     c.loop-number.walk c.loop-number.invariant
 
 pub make-requires-clause-few : goal.make-requires-clause-few
@@ -23,7 +26,7 @@ make-requires-clause-few c =
       arith,
       c.requires.few,
       inside,
-      order_length c.args.machine.now (take c.loop-number.number-index c.args.numbers.now)
+      order_length c.args.aims.now (take c.loop-number.number-index c.args.numbers.now)
           c.loop-number.walk c.loop-number.invariant,
       length-take-le c.loop-number.number-index c.args.numbers.now (omega (arith, inside)),
     )
@@ -37,13 +40,13 @@ pub make-requires-clause-number : goal.make-requires-clause-number
 make-requires-clause-number c =
     subst (λ n. get_or c.args.numbers.now c.loop-number.number-index 0 < n * (n + 2))
     (sym c.cpus-cpus.ensures.value)
-    (number_at c.args.machine.now c.args.numbers.now c.loop-number.number-index
+    (number_at c.args.aims.now c.args.numbers.now c.loop-number.number-index
     (get_or c.args.numbers.now c.loop-number.number-index 0) c.cpus-cpus.ensures.lawful
     c.requires.choices (omega (arith, c.loop-number-test.true)) refl)
 
 pub loop-number-preserved : goal.loop-number-preserved
 loop-number-preserved c =
-    walked_more c.args.machine.now c.args.numbers.now c.loop-number.walk c.make.new.walk
+    walked_more c.args.aims.now c.args.numbers.now c.loop-number.walk c.make.new.walk
     c.loop-number.number-index (get_or c.args.numbers.now c.loop-number.number-index 0)
     c.cpus-cpus.result c.loop-number.invariant c.requires.choices
     (omega (arith, c.loop-number-test.true)) refl c.cpus-cpus.ensures.value
@@ -51,6 +54,6 @@ loop-number-preserved c =
 
 pub returns : goal.returns
 returns c =
-    subst (λ s. IsWalked c.args.machine.now s c.loop-number.walk)
+    subst (λ s. IsWalked c.args.aims.now s c.loop-number.walk)
     (take_all c.loop-number.number-index c.args.numbers.now (omega (arith, c.loop-number-test.false)))
     c.loop-number.invariant

@@ -5,6 +5,7 @@ use Rattle.l4_stuck.specs.Stuck.{Stuck}
 use Rattle.l4_questions.specs.Stuck.{is_any, stuck_status, AreAsked}
 use Rattle.l4_questions.specs.declared.question.Wanted.{Wanted}
 use Rattle.l4_questions.proofs.Statuses.{nobody}
+use Rattle.l4_questions.proofs.Walks.{by_search}
 use Rattle.l4_questions.proofs.laws.law_nobody_is_stuck.Goals as goal
 
 none_of : (m : Machine) (stuck : List Stuck) (is_whole : Bool) → is_any stuck ≡ false →
@@ -14,7 +15,8 @@ none_of m [] is_whole none whole are thread inside = are.complete whole thread i
 none_of m (s ∷ stuck) is_whole none whole are thread inside = cc
 
 pub returns : goal.returns
-returns c = λ m q shown expected lines unmet asks none a.
+returns c = λ m q shown expected lines unmet asks none any.
+    let a = by_search any in
     let is = nobody (is_any a.stuck) a.is_stuck_whole a.told_status
     (subst (λ (w : Wanted). 0 ≡ stuck_status w (is_any a.stuck) a.is_stuck_whole a.told_status) none
     a.status_is) in

@@ -1,5 +1,5 @@
 use Rattle.std.proofs.Common.{subst}
-use Rattle.l4_states.specs.Endings.{AreAllEndings}
+use Rattle.l4_persistent.specs.Endings.{AreAllEndings}
 use Rattle.l4_questions.specs.Placed.{ending_of_run, placed_endings}
 use Rattle.l4_questions.proofs.Asking.{none_asked}
 use Rattle.l4_questions.proofs.OfAll.{placed_found}

@@ -1,6 +1,6 @@
 use Rattle.std.proofs.Common.{ℕ, List, [], map, ap, subst, ◌∙◌, arith}
 use Rattle.std.specs.Option.{option_copied}
-use Rattle.l4_states.specs.Endings.{AreEndings}
+use Rattle.l4_persistent.specs.Endings.{AreEndings}
 use Rattle.l4_endings.specs.Inner.Tried.{told}
 use Rattle.l4_questions.specs.Beside.{shown_as}
 use Rattle.l4_questions.specs.Inner.Found.{placed_by}
@@ -40,9 +40,7 @@ returns-clause-ok g c =
             (subst (λ (n : ℕ). AreEndings m endings found.states n c.in_ok-depth.most found.depth
             found.is_whole) limits.4 c.in_ok-found.ensures.found);
         few = omega (arith, c.in_ok-found.ensures.few, limits.2);
-        whole = λ is.
-            let far = c.in_ok-found.ensures.whole is in
-            (omega (arith, far.0, limits.1), far.1);
+        whole = λ is. omega (arith, c.in_ok-found.ensures.whole is, limits.1);
       };
       told =
           subst (λ (last : List ℕ). IsTold q shown expected (placed_endings m endings) last

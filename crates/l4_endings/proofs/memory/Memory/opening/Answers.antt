@@ -9,7 +9,7 @@ use Rattle.l4_endings.proofs.memory.Memory.opening.Goals as goal
 pub state_of-requires : goal.state_of-requires
 state_of-requires c =
     let i = c.self.invariant in
-    let m = c.self.inside.machine.now in
+    let m = c.self.inside.aims in
     subst (λ ps. AreNumbers ps c.deref-2.result.now c.cpus.result) (sym c.deref.ensures.value)
     (subst (λ row. AreNumbers c.self.inside.parts.parts.items row c.cpus.result) (sym c.deref-2.ensures.value)
     (row_numbers m (opening_system m) c.self.inside.parts.parts.items c.self.inside.opening.items
@@ -18,7 +18,7 @@ state_of-requires c =
 pub returns : goal.returns
 returns c =
     let i = c.self.invariant in
-    let m = c.self.inside.machine.now in
+    let m = c.self.inside.aims in
     all_ok _ _ (λ r is. ap (λ (s : State). Some s) (ap (λ n. state_in n (opening_system n)) (sym c.self.view_is) ∙ sym is))
     c.state_of.result
     (c.state_of.ensures m (opening_system m)

@@ -1,0 +1,2 @@
+pub mod Always
+pub mod Inner

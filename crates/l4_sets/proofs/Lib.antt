@@ -1,0 +1,4 @@
+pub mod Aiming
+pub mod Alike
+pub mod Bits
+pub mod Gathering

@@ -1,0 +1,11 @@
+use Rattle.std.proofs.Common.{◌≡◌, drop, map}
+use Rattle.std.specs.List.{list_any}
+use Rattle.l4_script.specs.Inner.Scripts.{instr_of}
+use Rattle.l4_first.specs.First.{may_ask}
+use Rattle.l4_sets.proofs.aims.script_asks.Given as goal
+
+-- The instructions that are left decide.
+abbrev pub invariant-loop-instr : goal.invariant-loop-instr
+invariant-loop-instr l =
+    list_any may_ask (map instr_of (drop l.instr-index l.script))
+    ≡ list_any may_ask (map instr_of l.script)

@@ -1,0 +1,3 @@
+pub mod Aimed
+pub mod Contacts
+pub mod Sets

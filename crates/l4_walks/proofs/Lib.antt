@@ -1,0 +1,2 @@
+mod Comings
+mod Picks

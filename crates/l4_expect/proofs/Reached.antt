@@ -5,9 +5,9 @@ use Rattle.std.specs.List.{cons_option, list_all}
 use Rattle.std.specs.Option.{option_map}
 use Rattle.std.proofs.lemmas.Bool.{and_parts, and_from, ltb-true, lt-ltb, eq-eqb, eqb-true, false_from_ne_true, not_from_false}
 use Rattle.l4_model.specs.Words.{Format, W64, W32, GlobalId, Id, NilThread, AnyThread, AnyLocalThread, LocalThread, GlobalThread, Period, has_typed_words, has_word_in, is_global, is_word_in, last_register}
-use Rattle.l4_model.specs.Machine.{Declaration, Assign, Instr, Run, Tag, Vs, Ipc, Ask, Jump, OnErr, End, Machine, OrderKind, CancelSend, CancelReceive, CancelBoth, Delete, To, ToId, ToLast, instruction_at, same_space}
+use Rattle.l4_model.specs.Machine.{Declaration, Assign, Instr, Run, Tag, Vs, Ipc, Ask, Jump, OnErr, End, Machine, OrderKind, CancelSend, CancelReceive, CancelBoth, Delete, IdFrom, Fixed, Last, instruction_at, same_space}
 use Rattle.l4_model.specs.World.{Context, Message, Name, Owed, Phase, Ready, Sending, Receiving, Ordering, Ended, Deleted, Receive, Send, Thread, World, is_alive, opening}
-use Rattle.l4_model.specs.Rules.{RunsAlone, Orders, act, ask_act, bit, destination, failed, ipc_act, is_admitted, message_of, originator, permitted, ran, receive_phase, received, received_tag, register}
+use Rattle.l4_model.specs.Rules.{RunsAlone, Orders, act, ask_act, bit, id_from, failed, ipc_act, is_admitted, message_of, originator, permitted, ran, receive_phase, received, received_tag, register}
 use Rattle.l4_model.specs.Conditions.{◌>>=◌, Pending, undecided}
 use Rattle.l4_model.specs.Effects.{asked, decided, fails, goes_on, turned_send, turns, turns_in}
 use Rattle.l4_model.specs.Steps.{Step, Begin, next, send_of}
@@ -25,9 +25,9 @@ use Rattle.l4_expect.proofs.Told.{Every, IsUndecided}
 
 -- What a machine text writes
 
-abbrev to_suits : To → Bool
-to_suits (ToId id) = has_word_in W64 id
-to_suits ToLast = true
+abbrev to_suits : IdFrom → Bool
+to_suits (Fixed id) = has_word_in W64 id
+to_suits Last = true
 
 -- No instruction but `tag` writes MR0, and that no typed items; each id has a word.
 abbrev suits : Instr → Bool
@@ -52,9 +52,9 @@ has_word_too W32 (LocalThread word) h =
     and_from _ _ (and_from _ _ (and_from _ _ (lt-ltb word (2 ^ 64) (omega (arith, small))) some.1) other) parts.1
 has_word_too W32 (GlobalThread t) h = is_global_too W32 t h
 
-destination_too : (f : Format) (to : To) → has_destination f to ≡ true → to_suits to ≡ true
-destination_too f (ToId id) h = has_word_too f id h
-destination_too f ToLast h = refl
+destination_too : (f : Format) (to : IdFrom) → has_destination f to ≡ true → to_suits to ≡ true
+destination_too f (Fixed id) h = has_word_too f id h
+destination_too f Last h = refl
 
 register_suits : (a : ℕ) → is_register a ≡ true → nat_le 1 a ≡ true
 register_suits a h = (and_parts (nat_le 1 a) (nat_le a last_register) h).0
@@ -189,13 +189,13 @@ sender_word AnyThread h = cc
 sender_word AnyLocalThread h = cc
 sender_word (LocalThread word) h = cc
 
-destination_word : (c : Context) (to : To) → to_suits to ≡ true → IsPlain c → has_word_in W64 (destination c to) ≡ true
-destination_word c (ToId id) h plain = h
-destination_word c ToLast h plain = sender_word c.from plain.from
+destination_word : (c : Context) (to : IdFrom) → to_suits to ≡ true → IsPlain c → has_word_in W64 (id_from c to) ≡ true
+destination_word c (Fixed id) h plain = h
+destination_word c Last h plain = sender_word c.from plain.from
 
 act_to : (m : Machine) (id : GlobalId) (now : ℕ) (c : Context) (i : Instr) (send : Send) → suits i ≡ true → IsPlain c → send_of (act m id now c i) ≡ Some send → IsTo send
 act_to m id now c (Ipc to from send_period receive_period) send i h e =
-    ipc_to m id now c (destination c to) send_period (receive_phase from receive_period) send (destination_word c to i h) e
+    ipc_to m id now c (id_from c to) send_period (receive_phase (id_from c from) receive_period) send (destination_word c to i h) e
 act_to m id now c (Ask target what) send i h e = absurd (ask_sends m id target what send e)
 act_to m id now c (Run own) send i h e = cc
 act_to m id now c End send i h e = cc

@@ -2,7 +2,7 @@
 use Rattle.std.specs.Prelude.{ℕ, ◌==◌, ◌/◌, ◌%◌, ◌^◌, ◌≡◌, ◌⊎◌, ◌&&◌, not, Bool, true, false, Option, Some, None, List, [], ◌∷◌, ◌++◌, length, find, slice_get, is_some}
 use Rattle.std.specs.List.{list_any}
 use Rattle.l4_model.specs.Words.{GlobalId, is_id_of, same_id}
-use Rattle.l4_model.specs.Machine.{OrderKind, Delete, To, ToId, ToLast, Instr, Tag, Ask, Ipc, Machine}
+use Rattle.l4_model.specs.Machine.{OrderKind, Delete, IdFrom, Fixed, Last, Instr, Tag, Ask, Ipc, Machine}
 use Rattle.l4_model.specs.World.{PendingOrder, World, Owed, owed_of, is_in, list_at}
 use Rattle.l4_model.specs.Rules.{assigned_by}
 use Rattle.l4_model.specs.Conditions.{◌>>=◌, Found, found, Pending, undecided, is_zero}
@@ -38,9 +38,9 @@ is_orderable m id = is_among_others m id (instruction_concerns id)
 
 -- It sends to the thread with time zero. `last` may be anybody.
 
-abbrev pub may_name : GlobalId → To → Bool
-may_name id (ToId to) = is_id_of to id
-may_name id ToLast = true
+abbrev pub may_name : GlobalId → IdFrom → Bool
+may_name id (Fixed to) = is_id_of to id
+may_name id Last = true
 
 abbrev pub instruction_tries : GlobalId → Instr → Bool
 instruction_tries id (Ipc to from send_period receive_period) =

@@ -6,7 +6,7 @@ use Rattle.std.specs.Option.{option_map}
 use Rattle.l4_model.specs.Words.{GlobalId, Id, NilThread, AnyThread, AnyLocalThread, LocalThread, GlobalThread, Period}
 use Rattle.l4_model.specs.Machine.{Machine, Declaration, Assign, Instr, Run, Tag, Vs, Ipc, Ask, Jump, OnErr, End, OrderKind, CancelSend, CancelReceive, CancelBoth, Delete, instruction_at}
 use Rattle.l4_model.specs.World.{Context, Thread, Message, Send, Receive, Owed, Phase, Ready, Sending, Receiving, Ordering, Ended, Deleted, opening, is_alive, receive_now}
-use Rattle.l4_model.specs.Rules.{act, ipc_act, ask_act, is_admitted, destination, receive_phase, ran, register, message_of}
+use Rattle.l4_model.specs.Rules.{act, ipc_act, ask_act, is_admitted, id_from, receive_phase, ran, register, message_of}
 use Rattle.l4_model.specs.Steps.{send_of, receive_of}
 use Rattle.l4_model.specs.Effects.{phase_after, fails, decided, goes_on, asked, turned_send, turned_receive, turns_in, turns}
 use Rattle.l4_model.proofs.Chains.{some_is, cond_keeps}
@@ -102,8 +102,8 @@ not_both o x e f = cc
 act_calls_nobody : (m : Machine) (id : GlobalId) (now : ℕ) (c : Context) (C : ℕ → Id → Type 0) (i : Instr) (send : Send) → Allows C i →
     send_of (act m id now c i) ≡ Some send → send.receive ≡ None
 act_calls_nobody m id now c C (Ipc to from send_period receive_period) send i h =
-    ipc_calls_nobody m id now c (destination c to) send_period send
-    (subst (λ (x : Id). send_of (ipc_act m id now c (destination c to) send_period (receive_phase x receive_period)) ≡ Some send) i h)
+    ipc_calls_nobody m id now c (id_from c to) send_period send
+    (subst (λ (x : Id). send_of (ipc_act m id now c (id_from c to) send_period (receive_phase x receive_period)) ≡ Some send) i h)
 act_calls_nobody m id now c C (Ask target what) send i h = absurd (not_both _ send (ask_sends_nothing m id target what).0 h)
 act_calls_nobody m id now c C (Run own) send i h = cc
 act_calls_nobody m id now c C End send i h = cc
@@ -111,8 +111,8 @@ act_calls_nobody m id now c C End send i h = cc
 act_waits_not : (m : Machine) (id : GlobalId) (now : ℕ) (c : Context) (C : ℕ → Id → Type 0) (i : Instr) (receive : Receive) → Allows C i →
     receive_of (act m id now c i) ≡ Some receive → ⊥
 act_waits_not m id now c C (Ipc to from send_period receive_period) receive i h =
-    not_both _ receive (ipc_waits_not m id now c (destination c to) send_period)
-    (subst (λ (x : Id). receive_of (ipc_act m id now c (destination c to) send_period (receive_phase x receive_period)) ≡ Some receive) i h)
+    not_both _ receive (ipc_waits_not m id now c (id_from c to) send_period)
+    (subst (λ (x : Id). receive_of (ipc_act m id now c (id_from c to) send_period (receive_phase x receive_period)) ≡ Some receive) i h)
 act_waits_not m id now c C (Ask target what) receive i h = not_both _ receive (ask_sends_nothing m id target what).1 h
 act_waits_not m id now c C (Run own) receive i h = cc
 act_waits_not m id now c C End receive i h = cc

@@ -3,9 +3,9 @@ use Rattle.std.proofs.Common.{subst, ◌≡◌, ℕ, ◌+◌, ◌<◌, Bool, tru
 use Rattle.std.specs.Prelude.{◌==◌, ◌||◌, is_some, IfSome}
 use Rattle.std.specs.Option.{option_map}
 use Rattle.l4_model.specs.Words.{GlobalId, Id, NilThread, AnyThread, AnyLocalThread, LocalThread, GlobalThread, Period}
-use Rattle.l4_model.specs.Machine.{Machine, To, ToId, ToLast, Assign, AssignTag, AssignVs, GoTo, GoToOnErr, Instr, Run, Ipc, Ask, End, OrderKind, CancelSend, CancelReceive, CancelBoth, Delete, place_of}
+use Rattle.l4_model.specs.Machine.{Machine, IdFrom, Fixed, Last, Assign, AssignTag, AssignVs, GoTo, GoToOnErr, Instr, Run, Ipc, Ask, End, OrderKind, CancelSend, CancelReceive, CancelBoth, Delete, place_of}
 use Rattle.l4_model.specs.World.{Context, Thread, Send, Receive, PendingOrder, Owed, Phase, Ready, Sending, Receiving, Ordering, Ended, Deleted, is_in, is_alive, is_ready}
-use Rattle.l4_model.specs.Rules.{ran, Orders, RunsAlone, act, ipc_act, ask_act, is_admitted, destination, receive_phase}
+use Rattle.l4_model.specs.Rules.{ran, Orders, RunsAlone, act, ipc_act, ask_act, is_admitted, id_from, receive_phase}
 use Rattle.l4_model.specs.Effects.{runs, begins, waits, fails, goes_on, asked, orders, obeyed, turned_send, turns_in, turns}
 use Rattle.l4_model.specs.Steps.{send_of, receive_of, order_of}
 use Rattle.l4_model.proofs.Chains.{some_is, cond_keeps}
@@ -84,7 +84,7 @@ pub record IsCall (instr : Instr) (c : Context) (goal : Id) : Type 0 where
   pub send_period : Period
   pub receive_period : Period
   pub is : instr ≡ Ipc to from send_period receive_period
-  pub goal_is : goal ≡ destination c to
+  pub goal_is : goal ≡ id_from c to
 
 ipc_goal : (m : Machine) (id : GlobalId) (now : ℕ) (c : Context) (to : Id) (period : Period) (receive : Option Receive)
     (send : Send) →
@@ -123,7 +123,7 @@ call_of m id now c (Ipc to from send_period receive_period) send h = record {
   send_period = send_period;
   receive_period = receive_period;
   is = refl;
-  goal_is = ipc_goal m id now c (destination c to) send_period (receive_phase from receive_period) send h;
+  goal_is = ipc_goal m id now c (id_from c to) send_period (receive_phase (id_from c from) receive_period) send h;
 }
 call_of m id now c (Ask target what) send h = ask_alone m id target what
     (λ o is none. none_some o send none (sym is ∙ h))
@@ -169,15 +169,15 @@ asking : (m : Machine) (cpu : ℕ) (id : GlobalId) (now : ℕ) (c : Context) (i 
     IsAsking m cpu i k order
 asking m cpu id now c (Run own) k order h = cc
 asking m cpu id now c (Ipc to from send_period receive_period) k order h =
-    none_some _ order (ipc_orders m id now c (destination c to) send_period (receive_phase from receive_period)) h
-asking m cpu id now c (Ask NilThread what) k order h = cc
-asking m cpu id now c (Ask AnyThread what) k order h = cc
-asking m cpu id now c (Ask AnyLocalThread what) k order h = cc
-asking m cpu id now c (Ask (LocalThread word) what) k order h = cc
-asking m cpu id now c (Ask (GlobalThread t) what) k order h = by (is_admitted m id t what) h
+    none_some _ order (ipc_orders m id now c (id_from c to) send_period (receive_phase (id_from c from) receive_period)) h
+asking m cpu id now c (Ask (Fixed NilThread) what) k order h = cc
+asking m cpu id now c (Ask (Fixed AnyThread) what) k order h = cc
+asking m cpu id now c (Ask (Fixed AnyLocalThread) what) k order h = cc
+asking m cpu id now c (Ask (Fixed (LocalThread word)) what) k order h = cc
+asking m cpu id now c (Ask (Fixed (GlobalThread t)) what) k order h = by (is_admitted m id t what) h
   where
     by : (b : Bool) → order_of (cond b (Orders (record { target = t; what = what })) RunsAlone) ≡ Some order →
-        IsAsking m cpu (Ask (GlobalThread t) what) k order
+        IsAsking m cpu (Ask (Fixed (GlobalThread t)) what) k order
     by true h = record {
       aimed = ap (λ (o : PendingOrder). orders_to m cpu (Some o)) (some_is _ order h);
       behind = rw (same_nat (k + 1)) refl;
@@ -244,13 +244,13 @@ module _ (m : Machine) (aims : Aims) (from to : ℕ) (right : AreAims m aims) wh
       ∙ goal call.to call.from call.send_period call.receive_period call.is (c.to refl) (c.last refl)) c.order
       (c.to refl) (c.last refl))
     where
-      goal : (x : To) (f : Id) (a b : Period) → at_hand m i t ≡ Ipc x f a b → aims i t.context.place (At to) ≡ false →
+      goal : (x : IdFrom) (f : Id) (a b : Period) → at_hand m i t ≡ Ipc x f a b → aims i t.context.place (At to) ≡ false →
           (aims i t.context.place AtLast ≡ true → names m to t.context.from ≡ false) →
-          names m to (destination t.context x) ≡ false
-      goal (ToId id) f a b is lacks last =
+          names m to (id_from t.context x) ≡ false
+      goal (Fixed id) f a b is lacks last =
           not_so (names m to id) (aims i t.context.place (At to))
           (λ yes. right.here i t.context.place (At to) (ap (λ (x : Instr). has_aim m x (At to)) is ∙ yes)) lacks
-      goal ToLast f a b is lacks last = last (right.here i t.context.place AtLast
+      goal Last f a b is lacks last = last (right.here i t.context.place AtLast
           (ap (λ (x : Instr). has_aim m x AtLast) is))
 
   wait_clear : (i now : ℕ) (t : Thread) (receive : Receive) → is_ready t.phase ≡ true → t.order ≡ None →

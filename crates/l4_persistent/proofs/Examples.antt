@@ -1,7 +1,7 @@
 -- Small machines: who may post to whom.
 use Rattle.std.specs.Prelude.{ℕ, ◌≡◌, Bool, true, false, Option, Some, None, List, [], ◌∷◌, ◌++◌, slice_get, refl}
 use Rattle.l4_model.specs.Words.{NilThread}
-use Rattle.l4_model.specs.Machine.{Machine, ToLast, CancelSend, Delete, Jump, Tag, Vs, Ipc, Ask, machine_of}
+use Rattle.l4_model.specs.Machine.{Machine, Last, CancelSend, Delete, Jump, Fixed, Tag, Vs, Ipc, Ask, machine_of}
 use Rattle.l4_model.specs.Conditions.{◌>>=◌}
 use Rattle.l4_model.proofs.Rows.Writing.{id, sends, receives, declared}
 use Rattle.l4_core_model.specs.Runs.{Action, Handles, Turns, core_run, opening_run, letters, is_empty}
@@ -55,7 +55,7 @@ comes_back = refl
 abbrev pub answering : Machine
 answering = machine_of 2 (
     declared 1 0 1 (sends 2 ∷ [])
-    ∷ declared 2 1 1 (receives ∷ Ipc ToLast NilThread None None ∷ []) ∷ [])
+    ∷ declared 2 1 1 (receives ∷ Ipc Last (Fixed NilThread) None None ∷ []) ∷ [])
 
 nothing_came : tells answering [] 1 0 ≡ Some false
 nothing_came = refl
@@ -65,7 +65,7 @@ answers = refl
 
 -- An order is aimed at its target, whose processor tells that it is done.
 abbrev pub ordering : Machine
-ordering = machine_of 2 (declared 1 0 1 (Ask (id 2) CancelSend ∷ []) ∷ declared 2 1 1 (receives ∷ []) ∷ [])
+ordering = machine_of 2 (declared 1 0 1 (Ask (Fixed (id 2)) CancelSend ∷ []) ∷ declared 2 1 1 (receives ∷ []) ∷ [])
 
 may_order : tells ordering [] 0 1 ≡ Some true
 may_order = refl
@@ -81,7 +81,7 @@ abbrev pub deleting : Machine
 deleting = machine_of 3 (
     declared 1 0 1 (receives ∷ [])
     ∷ declared 2 1 1 (receives ∷ [])
-    ∷ declared 3 2 1 (Ask (id 2) Delete ∷ []) ∷ [])
+    ∷ declared 3 2 1 (Ask (Fixed (id 2)) Delete ∷ []) ∷ [])
 
 tells_of_a_deletion : tells deleting [] 1 0 ≡ Some true
 tells_of_a_deletion = refl
@@ -107,8 +107,8 @@ is_never_deleted = refl
 abbrev pub handing_on : Machine
 handing_on = machine_of 3 (
     declared 1 0 1 (receives ∷ [])
-    ∷ declared 2 1 1 (Vs (id 1) ∷ Tag 0x1000 ∷ sends 3 ∷ [])
-    ∷ declared 3 2 2 (receives ∷ Ipc ToLast NilThread None None ∷ []) ∷ [])
+    ∷ declared 2 1 1 (Vs (Fixed (id 1)) ∷ Tag 0x1000 ∷ sends 3 ∷ [])
+    ∷ declared 3 2 2 (receives ∷ Ipc Last (Fixed NilThread) None None ∷ []) ∷ [])
 
 abbrev pub handed_on : List Action
 handed_on = Turns 1 ∷ Turns 1 ∷ Turns 1 ∷ Turns 2 ∷ Handles 2 1 ∷ Turns 2 ∷ []

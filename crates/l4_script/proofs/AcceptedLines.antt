@@ -4,7 +4,7 @@ use Rattle.std.specs.Prelude.{◌==◌, nat_lt, nat_le, codes, bytes_eq}
 use Rattle.std.specs.Option.{option_map}
 use Rattle.std.proofs.lemmas.Bool.{ltb-true, le-leb, and_from}
 use Rattle.l4_model.specs.Words.{Format, word_limit, GlobalId, is_global_in, has_word_in, Id, NilThread, AnyThread, AnyLocalThread, GlobalThread, id_by, id_in}
-use Rattle.l4_model.specs.Machine.{To, ToId, ToLast, OrderKind, Delete, Value, Assign, Instr, Run, Tag, Vs, Ipc, Ask, Jump, OnErr, End, Declaration}
+use Rattle.l4_model.specs.Machine.{IdFrom, Fixed, Last, OrderKind, Delete, Value, Assign, Instr, Run, Tag, Vs, Ipc, Ask, Jump, OnErr, End, Declaration}
 use Rattle.l4_script.specs.declared.text.fault.TextFaultKind.TheVariants.{BadNumber, BadId, BadCpu, BadLine, TypedItems}
 use Rattle.l4_types.proofs.InFormats.{word_of_its_id}
 use Rattle.l4_script.specs.Judged.{Judged, ◌>>=◌, must, needs}
@@ -104,14 +104,14 @@ vs_said f operands instr e =
     let id = bind_ok (needs (id_of f word.0) BadId) _ instr word.2 in
     moved f (Vs id.0) instr (same_ok _ _ id.2) (needed_id f word.0 id.0 id.1)
 
-destination_said : (f : Format) (word : List ℕ) (to : To) → destination_of f word ≡ Ok to → has_destination f to ≡ true
+destination_said : (f : Format) (word : List ℕ) (to : IdFrom) → destination_of f word ≡ Ok to → has_destination f to ≡ true
 unfolding destination_of
 destination_said f word to e =
-    chosen (has_destination f to ≡ true) (bytes_eq word (codes "last")) (says ToLast) _ (says to) e
-    (λ t h. subst (λ (to : To). has_destination f to ≡ true) (same_ok ToLast to h) refl)
+    chosen (has_destination f to ≡ true) (bytes_eq word (codes "last")) (says Last) _ (says to) e
+    (λ t h. subst (λ (to : IdFrom). has_destination f to ≡ true) (same_ok Last to h) refl)
     (λ h.
     let id = bind_ok (needs (id_of f word) BadId) _ to h in
-    subst (λ (to : To). has_destination f to ≡ true) (same_ok (ToId id.0) to id.2) (needed_id f word id.0 id.1))
+    subst (λ (to : IdFrom). has_destination f to ≡ true) (same_ok (Fixed id.0) to id.2) (needed_id f word id.0 id.1))
 
 ipc_said : (f : Format) (operands : List (List ℕ)) (instr : Instr) → ipc_of f operands ≡ Ok instr → is_said f instr ≡ true
 unfolding ipc_of

@@ -12,7 +12,7 @@ use Rattle.std.proofs.lemmas.List.{length-append}
 use Rattle.std.proofs.lemmas.Fmt.{decimal_is_IsNumeral}
 use Rattle.l4_model.specs.Words.{Format, W64, W32, word_limit, is_word_in, GlobalId, is_global_in, has_word_in, id_by, Id, NilThread, AnyThread, AnyLocalThread, LocalThread, GlobalThread}
 use Rattle.l4_model.specs.Conditions.{◌>>=◌}
-use Rattle.l4_model.specs.Machine.{To, ToId, ToLast}
+use Rattle.l4_model.specs.Machine.{IdFrom, Fixed, Last}
 use Rattle.l4_types.proofs.InFormats.{id_of_its_word, is_global_too}
 use Rattle.l4_words.specs.Numbers.{padded_of, with_digit, number_onto}
 use Rattle.l4_words.specs.Threads.{thread_word}
@@ -153,7 +153,7 @@ id_no_last f AnyLocalThread h = refl
 id_no_last f (LocalThread word) h = refl
 id_no_last f (GlobalThread t) h = numeral_no_last (decimal t.number) (codes ".") (decimal t.version) (digits_of_number f t h)
 
-pub destination_read : (f : Format) (to : To) → has_destination f to ≡ true → destination_of f (to_word f to) ≡ Ok to
+pub destination_read : (f : Format) (to : IdFrom) → has_destination f to ≡ true → destination_of f (to_word f to) ≡ Ok to
 unfolding destination_of
-destination_read f (ToId id) h = rw (id_no_last f id h, id_read f id h) refl
-destination_read f ToLast h = refl
+destination_read f (Fixed id) h = rw (id_no_last f id h, id_read f id h) refl
+destination_read f Last h = refl

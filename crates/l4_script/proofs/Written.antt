@@ -12,7 +12,7 @@ use Rattle.std.proofs.lemmas.List.Folds.{list_all-append}
 use Rattle.std.proofs.lemmas.List.Splits.{slice_split_none, slice_split_at}
 use Rattle.std.proofs.lemmas.Fmt.{decimal_is_IsNumeral}
 use Rattle.l4_model.specs.Words.{Format, W64, W32, word_limit, is_word_in, GlobalId, is_global_in, has_word_in, Id, NilThread, AnyThread, AnyLocalThread, LocalThread, GlobalThread, Period}
-use Rattle.l4_model.specs.Machine.{To, ToId, ToLast, CancelSend, CancelReceive, CancelBoth, Delete, Value, Assign, Instr, Run, Tag, Vs, Ipc, Ask, Jump, OnErr, End, Declaration}
+use Rattle.l4_model.specs.Machine.{IdFrom, Fixed, Last, CancelSend, CancelReceive, CancelBoth, Delete, Value, Assign, Instr, Run, Tag, Vs, Ipc, Ask, Jump, OnErr, End, Declaration}
 use Rattle.l4_types.proofs.InFormats.{is_global_too}
 use Rattle.l4_words.specs.Threads.{thread_word}
 use Rattle.l4_words.specs.Words.{words_in}
@@ -164,9 +164,9 @@ register_range n h =
     let upper = leb-true n 63 parts.1 in
     (lower, upper, omega (arith, upper))
 
-destination_is_plain : (f : Format) (to : To) → has_destination f to ≡ true → is_plain (to_word f to) ≡ true
-destination_is_plain f (ToId id) h = id_is_plain f id h
-destination_is_plain f ToLast h = refl
+destination_is_plain : (f : Format) (to : IdFrom) → has_destination f to ≡ true → is_plain (to_word f to) ≡ true
+destination_is_plain f (Fixed id) h = id_is_plain f id h
+destination_is_plain f Last h = refl
 
 time_is_plain : (p : Period) → has_time p ≡ true → is_plain (time_word p) ≡ true
 time_is_plain None h = refl
@@ -180,13 +180,13 @@ time_is_plain (Some ticks) h = by_test (eqb ticks 0) refl
     by_test false t = by_number (ticks_word ticks (exponent_of ticks)) (spelled_time ticks (eqb-false ticks 0 t) h)
 
 -- The operands of an ipc.
-record AreOperands (f : Format) (to : To) (from : Id) (send receive : Period) : Type 0 where
+record AreOperands (f : Format) (to : IdFrom) (from : Id) (send receive : Period) : Type 0 where
   destination : has_destination f to ≡ true
   specifier : has_word_in f from ≡ true
   send_time : has_time send ≡ true
   receive_time : has_time receive ≡ true
 
-operands : (f : Format) (size : ℕ) (to : To) (from : Id) (send receive : Period) → can_be_written f size (Ipc to from send receive) ≡ true → AreOperands f to from send receive
+operands : (f : Format) (size : ℕ) (to : IdFrom) (from : Id) (send receive : Period) → can_be_written f size (Ipc to from send receive) ≡ true → AreOperands f to from send receive
 operands f size to from send receive h =
     let all_3 = and_parts (has_destination f to && has_word_in f from && has_time send) (has_time receive) h in
     let all_2 = and_parts (has_destination f to && has_word_in f from) (has_time send) all_3.0 in

@@ -4,7 +4,7 @@ use Rattle.std.specs.Prelude.{ℕ, zero, suc, ◌≡◌, ◌≤◌, ◌+◌, ◌
 use Rattle.std.specs.Fmt.{digit_glyph}
 use Rattle.std.specs.List.{list_all, list_any, range_with_len}
 use Rattle.l4_model.specs.Words.{Format, W64, W32, is_word_in, is_global_in, has_word_in, last_register, Id, NilThread, AnyThread, AnyLocalThread, LocalThread, GlobalThread, Period}
-use Rattle.l4_model.specs.Machine.{Value, Word, Register, Sum, Assign, Instr, Run, Tag, Vs, Ipc, To, ToId, ToLast, Ask, CancelSend, CancelReceive, CancelBoth, Delete, Jump, OnErr, End, Declaration, Machine, most_processors, most_threads, most_instructions}
+use Rattle.l4_model.specs.Machine.{Value, Word, Register, Sum, Assign, Instr, Run, Tag, Vs, Ipc, IdFrom, Fixed, Last, Ask, CancelSend, CancelReceive, CancelBoth, Delete, Jump, OnErr, End, Declaration, Machine, most_processors, most_threads, most_instructions}
 use Rattle.l4_model.specs.Formats.{gives_words, is_of_format}
 use Rattle.l4_core_model.specs.Runs.{IsMachine}
 use Rattle.l4_words.specs.Lines.{line_of_words}
@@ -28,9 +28,9 @@ id_word f AnyLocalThread = codes "anylocal"
 id_word f (LocalThread word) = codes "#" ++ low_digits (id_digits f) word
 id_word f (GlobalThread t) = thread_word t
 
-abbrev pub to_word : Format → To → List ℕ
-to_word f (ToId id) = id_word f id
-to_word f ToLast = codes "last"
+abbrev pub to_word : Format → IdFrom → List ℕ
+to_word f (Fixed id) = id_word f id
+to_word f Last = codes "last"
 
 -- These ticks are a mantissa of 10 bits times two to the power of the exponent.
 abbrev pub is_exponent : (ticks exponent : ℕ) → Bool
@@ -111,9 +111,9 @@ canonical_text f m = flat_map line_of_words (lines_of f m)
 abbrev pub is_register : ℕ → Bool
 is_register n = nat_le 1 n && nat_le n last_register
 
-abbrev pub has_destination : Format → To → Bool
-has_destination f (ToId id) = has_word_in f id
-has_destination f ToLast = true
+abbrev pub has_destination : Format → IdFrom → Bool
+has_destination f (Fixed id) = has_word_in f id
+has_destination f Last = true
 
 -- A period that some time means.
 abbrev pub has_time : Period → Bool

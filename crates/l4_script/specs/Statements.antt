@@ -4,7 +4,7 @@ use Rattle.std.specs.Prelude.{ℕ, ◌/◌, ◌%◌, ◌^◌, ◌-◌, Bool, tru
 use Rattle.std.specs.Option.{option_map}
 use Rattle.std.specs.Str.{bytes_eq}
 use Rattle.l4_model.specs.Words.{Format, W64, W32, last_register}
-use Rattle.l4_model.specs.Machine.{Value, Word, Register, Sum, Assign, Instr, Run, Tag, Vs, Ipc, To, ToId, ToLast, Ask, OrderKind, CancelSend, CancelReceive, CancelBoth, Delete, Jump, OnErr, End, Declaration, Machine, most_processors, most_threads, most_instructions}
+use Rattle.l4_model.specs.Machine.{Value, Word, Register, Sum, Assign, Instr, Run, Tag, Vs, Ipc, IdFrom, Fixed, Last, Ask, OrderKind, CancelSend, CancelReceive, CancelBoth, Delete, Jump, OnErr, End, Declaration, Machine, most_processors, most_threads, most_instructions}
 use Rattle.l4_script.specs.declared.text.fault.TextFaultKind.TheVariants.{BadLine, BadNumber, BadId, BadCpu, TypedItems, DoubleId, TooManyThreads, TooManyInstructions}
 use Rattle.l4_script.specs.Judged.{Judged, ◌>>=◌, ◌>>◌, must, needs}
 use Rattle.l4_script.specs.Numbers.{number_of, number_from, word_from, time_from}
@@ -124,8 +124,8 @@ vs_of format operands = do
 
 -- Where an ipc sends to: an id, or `last`.
 unfoldable pub destination_of : Format → List ℕ → Judged To
-destination_of format word = if bytes_eq word (codes "last") then Ok ToLast
-    else (needs (id_of format word) BadId >>= λ id. Ok (ToId id))
+destination_of format word = if bytes_eq word (codes "last") then Ok Last
+    else (needs (id_of format word) BadId >>= λ id. Ok (Fixed id))
 
 -- `ipc TO FROM STO RTO`, behind its first word.
 unfoldable pub ipc_of : Format → List (List ℕ) → Judged Instr

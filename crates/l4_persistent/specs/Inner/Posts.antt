@@ -3,7 +3,7 @@
 use Rattle.std.specs.Prelude.{ℕ, zero, suc, ◌+◌, ◌≡◌, ◌&&◌, ◌||◌, not, nat_lt, Bool, true, false, Option, Some, None, is_some, if◌then◌else◌, List, [], ◌∷◌, length, map, slice_get, slice_index_or}
 use Rattle.std.specs.List.{list_any}
 use Rattle.l4_model.specs.Words.{GlobalId, Id}
-use Rattle.l4_model.specs.Machine.{Machine, ToId, ToLast, Instr, Ipc, Ask, End, Run, GoTo, GoToOnErr, instruction_at, place_of}
+use Rattle.l4_model.specs.Machine.{Machine, Fixed, Last, Instr, Ipc, Ask, End, Run, GoTo, GoToOnErr, instruction_at, place_of}
 use Rattle.l4_model.specs.World.{Send, PendingOrder, Thread, is_in, is_alive}
 use Rattle.l4_core_model.specs.Local.{Local, declared, destination_place, is_own, own_places, thread}
 use Rattle.l4_core_model.specs.Runs.{System, letters}
@@ -25,8 +25,8 @@ pub data Aim : Type 0 where
   AtLast : Aim
 
 abbrev pub has_aim : Machine → Instr → Aim → Bool
-has_aim m (Ipc (ToId to) from send_period receive_period) (At cpu) = names m cpu to
-has_aim m (Ipc ToLast from send_period receive_period) AtLast = true
+has_aim m (Ipc (Fixed to) from send_period receive_period) (At cpu) = names m cpu to
+has_aim m (Ipc Last from send_period receive_period) AtLast = true
 has_aim m (Ask target what) (At cpu) = names m cpu target
 has_aim m i aim = false
 

@@ -10,8 +10,8 @@ use Rattle.l4_script.specs.declared.instructions.Instr.{Instr}
 use Rattle.l4_script.specs.declared.instructions.Instr.TheVariants as instrs
 
 abbrev pub to_of : To → model.To
-to_of (tos.Id id) = model.ToId id
-to_of tos.Last = model.ToLast
+to_of (tos.Id id) = model.Fixed id
+to_of tos.Last = model.Last
 
 abbrev pub ipc_of : Call → model.Instr
 ipc_of call = model.Ipc (to_of call.to) call.from (period_of call.send_period)

@@ -54,7 +54,7 @@ goes_to_partner m t now c (Ipc to from send_period receive_period) send e = by (
     by AnyLocalThread receive e = let same : request m t now c AnyLocalThread send_period receive ≡ send = cc in ap (λ (s : Send). destination_place m s.to) same
     by (LocalThread word) receive e = let same : request m t now c (LocalThread word) send_period receive ≡ send = cc in ap (λ (s : Send). destination_place m s.to) same
     by (GlobalThread id) receive e = let same : request m t now c (GlobalThread id) send_period receive ≡ send = cc in ap (λ (s : Send). destination_place m s.to) same
-goes_to_partner m t now c (Ask target what) send e = by target e
+goes_to_partner m t now c (Ask target what) send e = by (id_from c target) e
   where
     asks : (target : GlobalId) (admitted : Bool) → cond admitted (Orders (record { target = target; what = what })) RunsAlone ≡ Sends send → None ≡ destination_place m send.to
     asks target true e = cc

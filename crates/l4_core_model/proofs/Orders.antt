@@ -65,7 +65,7 @@ ipc_orders_none m id now c (LocalThread word) period receive order h = cc
 ipc_orders_none m id now c (GlobalThread t) period receive order h = cc
 
 pub target_declared : (m : Machine) (id : GlobalId) (now : ℕ) (c : Context) (i : Instr) (order : PendingOrder) → act m id now c i ≡ Orders order → place_of m order.target ≡ None → ⊥
-target_declared m id now c (Ask target what) order h none = ask_declared m id target what order h none
+target_declared m id now c (Ask target what) order h none = ask_declared m id (id_from c target) what order h none
 target_declared m id now c (Ipc to from send_period receive_period) order h none = ipc_orders_none m id now c (id_from c to) send_period (receive_phase (id_from c from) receive_period) order h
 target_declared m id now c (Run own) order h none = cc
 target_declared m id now c End order h none = cc

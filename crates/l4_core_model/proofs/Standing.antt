@@ -71,6 +71,6 @@ ask_sends_none m id (GlobalThread t) what send h = by (is_admitted m id t what) 
 
 pub act_sends : (m : Machine) (id : GlobalId) (now : ℕ) (c : Context) (i : Instr) (send : Send) → act m id now c i ≡ Sends send → BeginsNow now send
 act_sends m id now c (Ipc to from send_period receive_period) send h = ipc_sends m id now c (id_from c to) send_period (receive_phase (id_from c from) receive_period) send h
-act_sends m id now c (Ask target what) send h = absurd (ask_sends_none m id target what send h)
+act_sends m id now c (Ask target what) send h = absurd (ask_sends_none m id (id_from c target) what send h)
 act_sends m id now c (Run own) send h = cc
 act_sends m id now c End send h = cc

@@ -196,7 +196,7 @@ destination_word c Last h plain = sender_word c.from plain.from
 act_to : (m : Machine) (id : GlobalId) (now : ℕ) (c : Context) (i : Instr) (send : Send) → suits i ≡ true → IsPlain c → send_of (act m id now c i) ≡ Some send → IsTo send
 act_to m id now c (Ipc to from send_period receive_period) send i h e =
     ipc_to m id now c (id_from c to) send_period (receive_phase (id_from c from) receive_period) send (destination_word c to i h) e
-act_to m id now c (Ask target what) send i h e = absurd (ask_sends m id target what send e)
+act_to m id now c (Ask target what) send i h e = absurd (ask_sends m id (id_from c target) what send e)
 act_to m id now c (Run own) send i h e = cc
 act_to m id now c End send i h e = cc
 

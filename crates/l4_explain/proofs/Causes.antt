@@ -45,7 +45,7 @@ no_order o x e f = cc
 
 act_admitted : (m : Machine) (id : GlobalId) (now : ℕ) (c : Context) (i : Instr) (order : PendingOrder) → order_of (act m id now c i) ≡ Some order →
     is_admitted m id order.target order.what ≡ true
-act_admitted m id now c (Ask target what) order h = ask_admitted m id target what order h
+act_admitted m id now c (Ask target what) order h = ask_admitted m id (id_from c target) what order h
 act_admitted m id now c (Ipc to from send_period receive_period) order h =
     absurd (no_order (order_of (act m id now c (Ipc to from send_period receive_period))) order
     (ipc_orders_nothing m id now c (id_from c to) send_period (receive_phase (id_from c from) receive_period)) h)

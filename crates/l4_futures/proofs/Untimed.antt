@@ -147,7 +147,7 @@ ask_goes m id (GlobalThread t) what = by (is_admitted m id t what)
 
 act_goes : (m : Machine) (id : GlobalId) (now : ℕ) (c : Context) (i : Instr) → ActGoes (act m id now c i)
 act_goes m id now c (Ipc to from send_period receive_period) = ipc_goes m id now c (id_from c to) send_period (receive_phase (id_from c from) receive_period)
-act_goes m id now c (Ask target what) = ask_goes m id target what
+act_goes m id now c (Ask target what) = ask_goes m id (id_from c target) what
 act_goes m id now c (Run own) = tt
 act_goes m id now c End = tt
 

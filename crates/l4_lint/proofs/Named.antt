@@ -83,7 +83,7 @@ ipc_orders_nothing m id now c (GlobalThread t) period receive = refl
 
 act_declared : (m : Machine) (id : GlobalId) (now : ℕ) (c : Context) (i : Instr) (order : PendingOrder) → order_of (act m id now c i) ≡ Some order →
     is_declared m order.target ≡ true
-act_declared m id now c (Ask target what) order h = ask_declared m id target what order h
+act_declared m id now c (Ask target what) order h = ask_declared m id (id_from c target) what order h
 act_declared m id now c (Ipc to from send_period receive_period) order h =
     absurd (no_order (order_of (act m id now c (Ipc to from send_period receive_period))) order
     (ipc_orders_nothing m id now c (id_from c to) send_period (receive_phase (id_from c from) receive_period)) h)

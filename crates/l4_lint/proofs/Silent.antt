@@ -104,7 +104,7 @@ act_calls_nobody : (m : Machine) (id : GlobalId) (now : ℕ) (c : Context) (C : 
 act_calls_nobody m id now c C (Ipc to from send_period receive_period) send i h =
     ipc_calls_nobody m id now c (id_from c to) send_period send
     (subst (λ (x : Id). send_of (ipc_act m id now c (id_from c to) send_period (receive_phase x receive_period)) ≡ Some send) i h)
-act_calls_nobody m id now c C (Ask target what) send i h = absurd (not_both _ send (ask_sends_nothing m id target what).0 h)
+act_calls_nobody m id now c C (Ask target what) send i h = absurd (not_both _ send (ask_sends_nothing m id (id_from c target) what).0 h)
 act_calls_nobody m id now c C (Run own) send i h = cc
 act_calls_nobody m id now c C End send i h = cc
 
@@ -113,7 +113,7 @@ act_waits_not : (m : Machine) (id : GlobalId) (now : ℕ) (c : Context) (C : ℕ
 act_waits_not m id now c C (Ipc to from send_period receive_period) receive i h =
     not_both _ receive (ipc_waits_not m id now c (id_from c to) send_period)
     (subst (λ (x : Id). receive_of (ipc_act m id now c (id_from c to) send_period (receive_phase x receive_period)) ≡ Some receive) i h)
-act_waits_not m id now c C (Ask target what) receive i h = not_both _ receive (ask_sends_nothing m id target what).1 h
+act_waits_not m id now c C (Ask target what) receive i h = not_both _ receive (ask_sends_nothing m id (id_from c target) what).1 h
 act_waits_not m id now c C (Run own) receive i h = cc
 act_waits_not m id now c C End receive i h = cc
 

@@ -119,13 +119,13 @@ from_fits W32 W32 id h = by (has_word_in W32 id) refl
 from_fits W64 W32 id h = cc
 from_fits W32 W64 id h = cc
 
-assigned_fits : (f : Format) (value : Value) (a : ℕ) (c : Context) → gives_words f value ≡ true → list_all (is_word_in f) c.words ≡ true → is_word_in f (assigned value a c) ≡ true
+assigned_fits : (f : Format) (value : Value) (a : ℕ) (c : Context) → gives_words f value ≡ true → list_all (is_word_in f) c.words ≡ true → is_word_in f (assigned c a value) ≡ true
 assigned_fits f (Word word) a c i h = i
 assigned_fits f (Register b) a c i h = all_at f c.words b h
 assigned_fits f (Sum format word) a c i h = sum_fits f format (slice_index c.words a + word) i
 assigned_fits f (FromWord format) a c i h = from_fits f format c.from i
 
-own_fits : (f : Format) (own : Own) (c : Context) → writes_words f (Run own) ≡ true → list_all (is_word_in f) c.words ≡ true → list_all (is_word_in f) (words_after own c) ≡ true
+own_fits : (f : Format) (own : Own) (c : Context) → writes_words f (Run own) ≡ true → list_all (is_word_in f) c.words ≡ true → list_all (is_word_in f) (words_after c own) ≡ true
 own_fits f (Assign a value) c i h = all_set f c.words a _ h (assigned_fits f value a c i h)
 own_fits f (AssignTag word) c i h = all_set f c.words 0 word h i
 own_fits f (AssignVs from) c i h = h

@@ -6,8 +6,8 @@ use Rattle.l4_model.specs.World.{Context}
 use Rattle.l4_model.specs.Rules.{assigned, words_after}
 
 -- It writes one of them at most.
-pub own_sets : (P : List ℕ → Type 0) (own : Own) (c : Context) → P c.words → ((a word : ℕ) → P (slice_set c.words a word)) → P (words_after own c)
-own_sets P (Assign a value) c stays set = set a (assigned value a c)
+pub own_sets : (P : List ℕ → Type 0) (own : Own) (c : Context) → P c.words → ((a word : ℕ) → P (slice_set c.words a word)) → P (words_after c own)
+own_sets P (Assign a value) c stays set = set a (assigned c a value)
 own_sets P (AssignTag word) c stays set = set 0 word
 own_sets P (AssignVs from) c stays set = stays
 own_sets P (GoTo place) c stays set = stays

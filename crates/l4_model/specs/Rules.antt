@@ -110,33 +110,33 @@ id_from c (InRegister format a) = id_by format (register c a)
 
 -- What is assigned to MR a. In 32 bits an id that has no word there counts as nilthread (own); no
 -- text of 32 bits has one.
-abbrev pub assigned : Value → (a : ℕ) → Context → ℕ
-assigned (Word word) a c = word
-assigned (Register b) a c = register c b
-assigned (Sum format word) a c = (register c a + word) % word_limit format
-assigned (FromWord format) a c = unwrap_or (word_in format c.from) 0
+abbrev pub assigned : Context → (a : ℕ) → Value → ℕ
+assigned c a (Word word) = word
+assigned c a (Register b) = register c b
+assigned c a (Sum format word) = (register c a + word) % word_limit format
+assigned c a (FromWord format) = unwrap_or (word_in format c.from) 0
 
-abbrev pub words_after : Own → Context → List ℕ
-words_after (Assign a value) c = slice_set c.words a (assigned value a c)
-words_after (AssignTag word) c = slice_set c.words 0 word
-words_after _ c = c.words
+abbrev pub words_after : Context → Own → List ℕ
+words_after c (Assign a value) = slice_set c.words a (assigned c a value)
+words_after c (AssignTag word) = slice_set c.words 0 word
+words_after c _ = c.words
 
-abbrev pub actual_after : Own → Context → Id
-actual_after (AssignVs from) c = id_from c from
-actual_after _ c = c.actual
+abbrev pub actual_after : Context → Own → Id
+actual_after c (AssignVs from) = id_from c from
+actual_after c _ = c.actual
 
 -- The script goes on at a target where a test holds, else with the next instruction.
-abbrev pub place_if : Bool → (target : ℕ) → Context → ℕ
-place_if b target c = if b then target else c.place + 1
+abbrev pub place_if : Context → (target : ℕ) → Bool → ℕ
+place_if c target b = if b then target else c.place + 1
 
-abbrev pub place_after : Own → Context → ℕ
-place_after (GoTo target) c = target
-place_after (GoToOnErr target) c = if c.error == 0 then c.place + 1 else target
-place_after (GoToOnLabel label target) c =
-    place_if ((tag_of_word (register c 0)).label == label) target c
-place_after (GoToOnWord a word target) c = place_if (register c a == word) target c
-place_after (GoToOnFrom id target) c = place_if (is_same c.from id) target c
-place_after _ c = c.place + 1
+abbrev pub place_after : Context → Own → ℕ
+place_after c (GoTo target) = target
+place_after c (GoToOnErr target) = if c.error == 0 then c.place + 1 else target
+place_after c (GoToOnLabel label target) =
+    place_if c target ((tag_of_word (register c 0)).label == label)
+place_after c (GoToOnWord a word target) = place_if c target (register c a == word)
+place_after c (GoToOnFrom id target) = place_if c target (is_same c.from id)
+place_after c _ = c.place + 1
 
 -- The register that an instruction assigns a value.
 abbrev pub assigned_by : Instr → Option ℕ
@@ -147,9 +147,9 @@ assigned_by _ = None
 -- is refused.
 abbrev pub ran : Instr → Context → Context
 ran (Run own) c = record c {
-  words = words_after own c;
-  actual = actual_after own c;
-  place = place_after own c;
+  words = words_after c own;
+  actual = actual_after c own;
+  place = place_after c own;
 }
 ran (Ipc to from send_period receive_period) c = advanced (sent c)
 ran (Ask target what) c = ordered order_refused_code c

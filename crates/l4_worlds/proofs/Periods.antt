@@ -73,8 +73,8 @@ ask_short m id (GlobalThread t) what = by (is_admitted m id t what)
 
 act_short : (m : Machine) (id : GlobalId) (now : ℕ) (c : Context) (i : Instr) → IsShortIn i → ActShort (act m id now c i)
 act_short m id now c (Run own) h = tt
-act_short m id now c (Ipc to from send_period receive_period) h = ipc_short m id now c (id_from c to) send_period (receive_phase (id_from c from) receive_period) h.0 (phase_short from receive_period h.1)
-act_short m id now c (Ask target what) h = ask_short m id target what
+act_short m id now c (Ipc to from send_period receive_period) h = ipc_short m id now c (id_from c to) send_period (receive_phase (id_from c from) receive_period) h.0 (phase_short (id_from c from) receive_period h.1)
+act_short m id now c (Ask target what) h = ask_short m id (id_from c target) what
 act_short m id now c End h = tt
 
 declared_short : (ds : List Declaration) (i : ℕ) (d : Declaration) → AllByRecursion (λ (x : Declaration). AllByRecursion IsShortIn x.script) ds → slice_get ds i ≡ Some d → AllByRecursion IsShortIn d.script

@@ -1,7 +1,7 @@
 -- Small machines: what each premise leaves out, and what needs none.
 use Rattle.std.specs.Prelude.{◌≡◌, true, false, Option, Some, None, List, [], ◌∷◌, ◌++◌, option_map, map, refl}
-use Rattle.l4_model.specs.Words.{NilThread}
-use Rattle.l4_model.specs.Machine.{Machine, Fixed, CancelSend, CancelReceive, CancelBoth, Delete, Set, Tag, Vs, Ipc, Ask, machine_of, retargeting_machine_of}
+use Rattle.l4_model.specs.Words.{W64, NilThread}
+use Rattle.l4_model.specs.Machine.{Machine, Fixed, Last, InRegister, CancelSend, CancelReceive, CancelBoth, Delete, Set, Tag, Vs, Ipc, Ask, machine_of, retargeting_machine_of}
 use Rattle.l4_model.specs.World.{Receive, receive_now}
 use Rattle.l4_model.specs.Steps.{Step, Local, Begin, Queue, Deliver, Wait, SendTimeout, ReceiveCancel, Order, Obey, Retarget}
 use Rattle.l4_model.specs.History.{reached, refused_place}
@@ -17,6 +17,22 @@ deletion_first = refl
 
 deletion_told : is_deletable deletes (thread 1) ≡ true
 deletion_told = refl
+
+-- Who deletes by `last` or by a register may delete anybody.
+abbrev pub deletes_unnamed : Machine
+deletes_unnamed = machine_of 1 (declared 1 0 1 (Set 1 5 ∷ []) ∷ declared 2 0 1 (Set 4 0x100000001 ∷ Ask (InRegister W64 4) Delete ∷ []) ∷ [])
+
+unnamed_deletion_first : refused_place deletes_unnamed (Local (thread 2) ∷ Order (thread 2) (thread 1) Delete ∷ Obey (thread 2) ∷ Local (thread 1) ∷ []) ≡ Some 4
+unnamed_deletion_first = refl
+
+unnamed_deletion_told : (is_deletable deletes_unnamed (thread 1) ≡ true) × (is_orderable deletes_unnamed (thread 1) ≡ true)
+unnamed_deletion_told = (refl, refl)
+
+abbrev pub deletes_last : Machine
+deletes_last = machine_of 1 (declared 1 0 1 (sends 2 ∷ Set 1 5 ∷ []) ∷ declared 2 0 1 (receives ∷ Ask Last Delete ∷ []) ∷ [])
+
+last_deletion_told : (is_deletable deletes_last (thread 1) ≡ true) × (is_orderable deletes_last (thread 1) ≡ true)
+last_deletion_told = (refl, refl)
 
 -- A cancellation does not: both orders meet, for both wishes at once.
 abbrev pub cancels : Machine
@@ -64,6 +80,12 @@ not_by_one_that_waits = refl
 
 trial_told : is_tried tries_it (thread 1) ≡ true
 trial_told = refl
+
+abbrev pub tries_unnamed : Machine
+tries_unnamed = machine_of 1 (declared 1 0 1 (receives ∷ []) ∷ declared 2 0 1 (Set 4 0x100000001 ∷ Ipc (InRegister W64 4) (Fixed NilThread) (Some 0) None ∷ []) ∷ [])
+
+unnamed_trial_told : is_tried tries_unnamed (thread 1) ≡ true
+unnamed_trial_told = refl
 
 -- In profile 2 a retarget turns an originator only where it is in a phase.
 abbrev pub hands_on : Machine

@@ -159,12 +159,12 @@ closed_for_last_ending : ends closed_for_last closed_for_last_trace ≡ quiet ((
 closed_for_last_ending = refl
 
 -- `last` and a register for VirtualSender and for an order. `last` is whom the message shows, not
--- who sent it.
+-- who sent it, and so is the word of `from`.
 abbrev pub named_by_last : Machine
 named_by_last = machine_of 1 (
     declared 1 0 1 (receives ∷ [])
     ∷ declared 2 0 1 (Vs (Fixed (id 1)) ∷ Tag 0x1000 ∷ sends 3 ∷ [])
-    ∷ declared 3 0 2 (receives ∷ Vs Last ∷ Ask Last CancelReceive ∷ Ask Last Delete ∷ []) ∷ [])
+    ∷ declared 3 0 2 (receives ∷ From W64 1 ∷ Vs Last ∷ Ask Last CancelReceive ∷ Ask Last Delete ∷ []) ∷ [])
 
 abbrev pub named_by_last_trace : List Step
 named_by_last_trace =
@@ -174,6 +174,7 @@ named_by_last_trace =
     ∷ Begin (send 2 1)
     ∷ Queue (send 2 1)
     ∷ Deliver (send 2 1) (thread 3) (thread 1) (thread 2) 0x1000 []
+    ∷ Local (thread 3)
     ∷ Local (thread 3)
     ∷ Local (thread 3)
     ∷ Order (thread 3) (thread 1) Delete
@@ -187,7 +188,7 @@ named_by_last_ending = refl
 named_by_last_view : reports named_by_last named_by_last_trace ≡ Some (
     report 1 IsDeleted 0 NilThread NilThread []
     ∷ report 2 IsEnded 0 NilThread (id 1) []
-    ∷ report 3 IsEnded 0 (id 1) (id 1) (0x1000 ∷ []) ∷ [])
+    ∷ report 3 IsEnded 0 (id 1) (id 1) (0x1000 ∷ 0x100000001 ∷ []) ∷ [])
 named_by_last_view = refl
 
 abbrev pub named_by_word : Machine
@@ -212,28 +213,33 @@ named_by_word_view : reports named_by_word named_by_word_trace ≡ Some (
     ∷ report 2 IsDeleted 0 NilThread NilThread [] ∷ [])
 named_by_word_view = refl
 
--- A branch by `from`: nilthread before the first message, then the sender.
+-- A branch by `from`: nilthread before the first message, then whom it shows, not who sent it.
 abbrev pub by_sender : Machine
 by_sender = machine_of 1 (
-    declared 1 0 1 (OnFrom NilThread 2 ∷ Set 1 1 ∷ receives ∷ OnFrom (id 3) 7 ∷ OnFrom (id 2) 6 ∷ Set 2 1 ∷ Set 3 1 ∷ [])
-    ∷ declared 2 0 1 (sends 1 ∷ []) ∷ [])
+    declared 1 0 1 (OnFrom NilThread 2 ∷ Set 1 1 ∷ receives ∷ OnFrom (id 2) 7 ∷ OnFrom (id 3) 6 ∷ Set 2 1 ∷ Set 3 1 ∷ [])
+    ∷ declared 2 0 2 (Vs (Fixed (id 3)) ∷ Tag 0x1000 ∷ sends 1 ∷ [])
+    ∷ declared 3 0 2 [] ∷ [])
 
 abbrev pub by_sender_trace : List Step
 by_sender_trace =
     Local (thread 1)
     ∷ Wait (thread 1)
+    ∷ Local (thread 2)
+    ∷ Local (thread 2)
     ∷ Begin (send 2 1)
     ∷ Queue (send 2 1)
-    ∷ Deliver (send 2 1) (thread 1) (thread 2) (thread 2) 0 []
+    ∷ Deliver (send 2 1) (thread 1) (thread 3) (thread 2) 0x1000 []
     ∷ Local (thread 1)
     ∷ Local (thread 1)
     ∷ Local (thread 1)
     ∷ Local (thread 1)
-    ∷ Local (thread 2) ∷ []
+    ∷ Local (thread 2)
+    ∷ Local (thread 3) ∷ []
 
 by_sender_view : reports by_sender by_sender_trace ≡ Some (
-    report 1 IsEnded 0 (id 2) (id 2) (0 ∷ 0 ∷ 0 ∷ 1 ∷ [])
-    ∷ report 2 IsEnded 0 NilThread NilThread [] ∷ [])
+    report 1 IsEnded 0 (id 3) (id 2) (0x1000 ∷ 0 ∷ 0 ∷ 1 ∷ [])
+    ∷ report 2 IsEnded 0 NilThread (id 3) []
+    ∷ report 3 IsEnded 0 NilThread NilThread [] ∷ [])
 by_sender_view = refl
 
 same : (is_same NilThread NilThread ≡ true) × (is_same NilThread AnyThread ≡ false) × (is_same AnyThread AnyThread ≡ true) × (is_same AnyThread AnyLocalThread ≡ false) × (is_same AnyLocalThread AnyLocalThread ≡ true)

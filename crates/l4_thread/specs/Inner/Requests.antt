@@ -32,7 +32,7 @@ message_if permitted sender c =
       actual = sender;
     }
 
--- The phases of an ipc: the send's id_from, message and period, and the receive phase.
+-- The phases of an ipc: the send's destination, message and period, and the receive phase.
 pub record Phases : Type 0 where
   pub send : Option (Id × Message × Period)
   pub receive : Option Receive
@@ -46,7 +46,7 @@ abbrev pub phases_of : (permitted : Bool) → (sender : GlobalId) → Context �
 phases_of permitted sender c (Ipc to from send_period receive_period) =
     record {
       send = send_phase (id_from c to) (message_if permitted sender c) send_period;
-      receive = receive_phase from receive_period;
+      receive = receive_phase (id_from c from) receive_period;
     }
 phases_of permitted sender c _ = record { send = None; receive = None }
 

@@ -1,5 +1,6 @@
 use Rattle.std.proofs.Common.{false, refl, ap, subst, ◌∙◌}
 use Rattle.l4_model.specs.Words.{Id, word_of_tag}
+use Rattle.l4_model.specs.Machine.{Fixed}
 use Rattle.l4_model.specs.World.{Message}
 use Rattle.l4_model.specs.Rules.{id_from}
 use Rattle.l4_types.specs.Inner.PeriodView.{period_of}
@@ -49,7 +50,7 @@ returns g c =
     let ipc = c.args.ipc.now in
     fast_does c.args.self.now c.receive_from.new.self c.pass.new.self c.args.receiver c.args.sender c.args.buffer.now c.emit_sent.new.self
     (record { name = c.next_name.result; receiver = c.id.result; message = c.outgoing.result; cross = false }) (word_of_tag c.tag-tag.result)
-    (to_of ipc.to) ipc.from (period_of ipc.send_period) (period_of ipc.receive_period)
+    (to_of ipc.to) (Fixed ipc.from) (period_of ipc.send_period) (period_of ipc.receive_period)
     (subst AreCore v c.facts.ensures.core) c.requires.receiver c.requires.hand c.requires.instr c.requires.fast
     (c.next_name.ensures ∙ ap (λ (p : Processor). next_name p.machine p.local c.args.sender) v)
     (c.id.ensures ∙ ap (λ (p : Processor). (declared p.machine c.args.receiver).id) v)

@@ -1,0 +1,5 @@
+pub mod Names
+pub mod Lines
+pub mod Operands
+pub mod Statements
+pub mod Texts

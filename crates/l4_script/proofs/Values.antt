@@ -1,7 +1,7 @@
 -- Values in lines: what a line says can be assigned, and what can be assigned is read.
-use Rattle.std.proofs.Common.{◌≡◌, ℕ, ◌^◌, ◌<◌, true, false, false≢true, not, List, get_or, Some, None, Ok, refl, ap, sym, subst, arith}
+use Rattle.std.proofs.Common.{◌≡◌, ℕ, ◌^◌, ◌<◌, true, false, not, List, get_or, Some, None, Ok, refl, ap, sym, subst, arith}
 use Rattle.std.specs.Prelude.{◌==◌, codes, decimal, bytes_eq}
-use Rattle.std.proofs.lemmas.Bool.{and_parts, and_from, ltb-true, leb-true, le-leb}
+use Rattle.std.proofs.lemmas.Bool.{false≢true, and_parts, and_from, ltb-true, leb-true, le-leb}
 use Rattle.l4_model.specs.Words.{Format, W64, W32, word_limit, is_word_in, same_format}
 use Rattle.l4_model.specs.Machine.{Value, Word, Register, Sum, FromWord}
 use Rattle.l4_words.proofs.Found.{some_same}

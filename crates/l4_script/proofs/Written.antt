@@ -1,11 +1,11 @@
 -- Lines that are written are read: their words, and what these say.
-use Rattle.std.proofs.Common.{◌≡◌, ℕ, zero, suc, ◌/◌, ◌%◌, ◌^◌, ◌-◌, ◌<◌, ◌≤◌, Bool, true, false, false≢true, not, ◌&&◌, eqb, List, [], ◌∷◌, ◌++◌, length, get_or, cond, Some, None, Ok, refl, ap, ◌∙◌, arith}
+use Rattle.std.proofs.Common.{◌≡◌, ℕ, zero, suc, ◌/◌, ◌%◌, ◌^◌, ◌-◌, ◌<◌, ◌≤◌, Bool, true, false, not, ◌&&◌, eqb, List, [], ◌∷◌, ◌++◌, length, get_or, cond, Some, None, Ok, refl, ap, ◌∙◌, arith}
 use Rattle.std.specs.Prelude.{◌==◌, nat_lt, nat_le, codes, decimal}
 use Rattle.std.specs.Char.{digit_value}
 use Rattle.std.specs.Fmt.{digit_glyph}
 use Rattle.std.specs.Str.Parse.{AllDigits}
 use Rattle.std.specs.List.{All, list_all, list_any, join_with_byte}
-use Rattle.std.proofs.lemmas.Bool.{agree_below_at, and_parts, and_from, or_from, ltb-true, leb-true, lt-ltb, ne_eqb, not-true, eqb-false}
+use Rattle.std.proofs.lemmas.Bool.{false≢true, agree_below_at, and_parts, and_from, or_from, ltb-true, leb-true, lt-ltb, ne_eqb, not-true, eqb-false}
 use Rattle.std.proofs.lemmas.Bool.Decides.{nat_tests}
 use Rattle.std.proofs.lemmas.List.Elements.{All-nil, All-cons}
 use Rattle.std.proofs.lemmas.List.Folds.{list_all-append}

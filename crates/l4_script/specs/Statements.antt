@@ -123,7 +123,7 @@ vs_of format operands = do
   Ok (Vs (Fixed id))
 
 -- Where an ipc sends to: an id, or `last`.
-unfoldable pub destination_of : Format → List ℕ → Judged To
+unfoldable pub destination_of : Format → List ℕ → Judged IdFrom
 destination_of format word = if bytes_eq word (codes "last") then Ok Last
     else (needs (id_of format word) BadId >>= λ id. Ok (Fixed id))
 

@@ -9,7 +9,7 @@ use Rattle.l4_script.specs.declared.instructions.To.TheVariants as tos
 use Rattle.l4_script.specs.declared.instructions.Instr.{Instr}
 use Rattle.l4_script.specs.declared.instructions.Instr.TheVariants as instrs
 
-abbrev pub to_of : To → model.To
+abbrev pub to_of : To → model.IdFrom
 to_of (tos.Id id) = model.Fixed id
 to_of tos.Last = model.Last
 

@@ -1,6 +1,7 @@
 -- Texts with scripts of version 2, their machines and faults, computed.
-use Rattle.std.specs.Prelude.{◌≡◌, ℕ, List, [], ◌∷◌, ◌++◌, map, Some, None, Result, Ok, Err, codes, refl}
-use Rattle.std.specs.List.{flat_map}
+use Rattle.std.specs.Prelude.{◌≡◌, ℕ, true, false, List, [], ◌∷◌, ◌++◌, map, Some, None, Result, Ok, Err, codes, refl}
+use Rattle.std.specs.List.{flat_map, list_all}
+use Rattle.std.specs.Fmt.{digits}
 use Rattle.l4_model.specs.Words.{W64, W32, global_id, Id, GlobalThread, LocalThread, NilThread, AnyThread, Period}
 use Rattle.l4_model.specs.Machine.{Instr, Set, From, Tag, Vs, Ipc, Fixed, Last, InRegister, Ask, CancelSend, CancelBoth, Delete, Jump, OnErr, OnLabel, OnWord, OnFrom, End, Declaration, Machine, machine_of}
 use Rattle.l4_script.specs.declared.text.fault.TextFault.{TextFault}
@@ -10,7 +11,7 @@ use Rattle.l4_script.specs.Faults.{fault_at}
 use Rattle.l4_script.specs.Judged.{Judged}
 use Rattle.l4_script.specs.Numbers.{number_of, number_from, word_from, period_number, time_from}
 use Rattle.l4_words.specs.Threads.{thread_of}
-use Rattle.l4_script.specs.Canonical.{exponent_of}
+use Rattle.l4_script.specs.Canonical.{exponent_of, low_digits}
 use Rattle.l4_script.specs.Ids.{thread_in, spelled_id_of, id_of}
 use Rattle.l4_script.specs.Lines.{line_of}
 use Rattle.l4_script.specs.Statements.{format_line, processors_line, processor_of, declaration_of, value_of, assign_of, tag_of, vs_of, destination_of, ipc_of, bits_of, exregs_of, delete_of, target_of, other_of, instruction_of, declare, extend}
@@ -20,6 +21,7 @@ use Rattle.l4_script.specs.Second.Names.{is_name, id_named, thread_named}
 use Rattle.l4_script.specs.Second.Lines.{second_line_of}
 use Rattle.l4_script.specs.Second.Operands.{id_from_of, second_time_from}
 use Rattle.l4_script.specs.Second.Statements.{second_format_line, name_of, second_declaration_of, from_of, second_vs_of, second_ipc_of, second_exregs_of, second_delete_of, on_label_of, on_word_of, on_from_of, second_other_of, second_instruction_of}
+use Rattle.l4_script.specs.Second.Canonical.{second_canonical_text, second_can_be_written}
 use Rattle.l4_script.specs.Second.Texts.{second_thread_line, after_words, after_line, machine_of_any_text}
 
 abbrev text : List (List ℕ) → List ℕ
@@ -98,7 +100,8 @@ instructions =
     ∷ (codes "vs mr0", Vs (InRegister W64 0))
     ∷ (codes "ipc last last never never", Ipc Last Last None None)
     ∷ (codes "ipc lock mr63 never never", Ipc (Fixed t_9_1) (InRegister W64 63) None None)
-    ∷ (codes "ipc nil any 5us 2s", Ipc (Fixed NilThread) (Fixed AnyThread) (Some 5) (Some 2000000))
+    ∷ (codes "ipc nil any 5us 5ms", Ipc (Fixed NilThread) (Fixed AnyThread) (Some 5) (Some 5000))
+    ∷ (codes "ipc nil any 1024ms 0s", Ipc (Fixed NilThread) (Fixed AnyThread) (Some 1024000) (Some 0))
     ∷ (codes "ipc nil any 0us 0x400", Ipc (Fixed NilThread) (Fixed AnyThread) (Some 0) (Some 0))
     ∷ (codes "exregs last S", Ask Last CancelSend)
     ∷ (codes "exregs mr5 SR", Ask (InRegister W64 5) CancelBoth)
@@ -146,6 +149,8 @@ no_instructions =
     ∷ (codes "jump last", BadNumber)
     ∷ (codes "ipc nil any 5us 1025us", BadNumber)
     ∷ (codes "ipc nil any us never", BadNumber)
+    ∷ (codes "ipc nil any 9ms never", BadNumber)
+    ∷ (codes "ipc nil any 2s never", BadNumber)
     ∷ (codes "ipc nil any 0x5us never", BadNumber)
     ∷ (codes "ipc nil any 2200000s never", BadNumber)
     ∷ (codes "vs mr64", BadId)
@@ -221,3 +226,23 @@ named_read : machine_of_any_text (behind_headers named_text)
     ≡ Ok (machine_of 1 (thread 1 1 (Jump 2 ∷ Jump 1 ∷ []) ∷ thread 2 1 (Jump 0 ∷ []) ∷ []))
 unfolding number_of number_from word_from period_number time_from thread_of thread_in spelled_id_of id_of exponent_of processors_line processor_of value_of assign_of tag_of bits_of declare extend is_name id_named thread_named second_line_of id_from_of second_time_from second_format_line name_of second_declaration_of from_of second_vs_of second_ipc_of second_exregs_of second_delete_of on_label_of on_word_of on_from_of second_other_of second_instruction_of second_thread_line after_words after_line
 named_read = refl
+
+-- What these texts mean is written without names, and read back.
+abbrev lock_machine : Machine
+lock_machine = machine_of 1 (thread 9 1 lock_script ∷ thread 1 2 (Jump 0 ∷ []) ∷ [])
+
+canonical_read : machine_of_any_text (second_canonical_text W64 lock_machine) ≡ Ok lock_machine
+unfolding number_of number_from word_from period_number time_from thread_of thread_in spelled_id_of id_of exponent_of processors_line processor_of value_of assign_of tag_of bits_of declare extend is_name id_named thread_named second_line_of id_from_of second_time_from second_format_line name_of second_declaration_of from_of second_vs_of second_ipc_of second_exregs_of second_delete_of on_label_of on_word_of on_from_of second_other_of second_instruction_of second_thread_line after_words after_line low_digits digits
+canonical_read = refl
+
+canonical_of_instructions : map (λ row. machine_of_any_text (second_canonical_text W64 (machine_of 1 (thread 1 1 (row.1 ∷ []) ∷ [])))) instructions ≡ map (λ row. Ok (machine_of 1 (thread 1 1 (row.1 ∷ []) ∷ []))) instructions
+unfolding number_of number_from word_from period_number time_from thread_of thread_in spelled_id_of id_of exponent_of processors_line processor_of value_of assign_of tag_of bits_of declare extend is_name id_named thread_named second_line_of id_from_of second_time_from second_format_line name_of second_declaration_of from_of second_vs_of second_ipc_of second_exregs_of second_delete_of on_label_of on_word_of on_from_of second_other_of second_instruction_of second_thread_line after_words after_line low_digits digits
+canonical_of_instructions = refl
+
+can_be_written_so : list_all (λ row. second_can_be_written W64 1 row.1) instructions ≡ true
+unfolding number_of number_from word_from period_number time_from thread_of thread_in spelled_id_of id_of exponent_of processors_line processor_of value_of assign_of tag_of bits_of declare extend is_name id_named thread_named second_line_of id_from_of second_time_from second_format_line name_of second_declaration_of from_of second_vs_of second_ipc_of second_exregs_of second_delete_of on_label_of on_word_of on_from_of second_other_of second_instruction_of second_thread_line after_words after_line
+can_be_written_so = refl
+
+-- `add` and ids of registers have a text in their format alone.
+of_their_format : map (second_can_be_written W32 1) (From W64 1 ∷ From W32 1 ∷ Vs (InRegister W64 1) ∷ Vs (InRegister W32 1) ∷ Ask Last Delete ∷ []) ≡ false ∷ true ∷ false ∷ true ∷ false ∷ []
+of_their_format = refl

@@ -3,3 +3,4 @@ pub mod Lines
 pub mod Operands
 pub mod Statements
 pub mod Texts
+pub mod Canonical

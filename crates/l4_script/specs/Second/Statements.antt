@@ -66,7 +66,7 @@ second_declaration_of format names cpus operands = do
   space ← number_from 0 (2 ^ 32 - 1) words.4
   Ok (record {
     declaration = record { id = id; cpu = cpu; space = space; script = [] };
-    source = option_map (λ as. as.1) words.5;
+    source = option_map (λ both. both.1) words.5;
   })
 
 -- An instruction, and the instruction of its script that it names, if it names one: then its own

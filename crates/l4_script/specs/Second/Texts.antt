@@ -210,13 +210,14 @@ missed m labels t = by t.place
         else None
     by (Labelled name) = if is_none (label_of labels t.thread name) then Some BadName else None
 
+abbrev pub fault_or : (line : ℕ) → Option TextFaultKind → (later : Option TextFault) →
+    Option TextFault
+fault_or line None later = later
+fault_or line (Some kind) later = Some (fault_at line kind)
+
 abbrev pub first_missed : Machine → List Label → List Target → Option TextFault
 first_missed m labels [] = None
-first_missed m labels (t ∷ ts) = by (missed m labels t)
-  where
-    by : Option TextFaultKind → Option TextFault
-    by None = first_missed m labels ts
-    by (Some kind) = Some (fault_at t.line kind)
+first_missed m labels (t ∷ ts) = fault_or t.line (missed m labels t) (first_missed m labels ts)
 
 abbrev pub unless_faulty : Machine → Option TextFault → Result Machine TextFault
 unless_faulty m None = Ok m
@@ -240,14 +241,14 @@ read (part ∷ next ∷ parts) stage line = judged_at line (after_line line stag
     read (next ∷ parts) after (line + 1))
 
 -- The first line that says something is `l4 P B 2`.
+abbrev pub says_second : Judged (Option Said) → (later : Bool) → Bool
+says_second (Ok None) later = later
+says_second (Ok (Some said)) later = is_none said.label && is_second_heading said.words
+says_second (Err kind) later = false
+
 abbrev pub begins_second : (parts : List (List ℕ)) → Bool
 begins_second [] = false
-begins_second (part ∷ parts) = by (second_line_of part)
-  where
-    by : Judged (Option Said) → Bool
-    by (Ok None) = begins_second parts
-    by (Ok (Some said)) = is_none said.label && is_second_heading said.words
-    by (Err kind) = false
+begins_second (part ∷ parts) = says_second (second_line_of part) (begins_second parts)
 
 -- The machine that a text declares, whatever the version of its scripts. A text whose first line
 -- does not say version 2 is read as ever.

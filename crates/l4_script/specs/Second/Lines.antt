@@ -61,5 +61,5 @@ second_line_of line = do
   must (is_clean (without_return line)) BadLine
   (if length (said_in (without_return line)) == 0 then Ok None
       else (if is_printable (said_in (without_return line)) &&
-          not (has_empty_word (said_in (without_return line)))
+      not (has_empty_word (said_in (without_return line)))
       then Ok (Some (said_by (words_in (said_in (without_return line))))) else Err BadLine))

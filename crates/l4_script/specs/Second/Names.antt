@@ -72,6 +72,6 @@ global_of id = None
 
 unfoldable pub thread_named : Format → List Named → (word : List ℕ) → Judged GlobalId
 thread_named format names word = if is_name word then (do
-      id ← needs (id_under names word) BadName
-      needs (global_of id) BadId)
+  id ← needs (id_under names word) BadName
+  needs (global_of id) BadId)
     else needs (thread_in format word) BadId

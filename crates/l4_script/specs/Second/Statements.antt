@@ -168,9 +168,9 @@ second_other_of format names name operands =
     else (if bytes_eq name (codes "vs") then without_target (second_vs_of format names operands)
     else (if bytes_eq name (codes "ipc") then without_target (second_ipc_of format names operands)
     else (if bytes_eq name (codes "exregs")
-        then without_target (second_exregs_of format names operands)
+    then without_target (second_exregs_of format names operands)
     else (if bytes_eq name (codes "delete")
-        then without_target (second_delete_of format names operands)
+    then without_target (second_delete_of format names operands)
     else (if bytes_eq name (codes "jump") then goes_to (Jump 0) operands
     else (if bytes_eq name (codes "onerr") then goes_to (OnErr 0) operands
     else (if bytes_eq name (codes "onlabel") then on_label_of format operands

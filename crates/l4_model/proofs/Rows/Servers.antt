@@ -1,10 +1,10 @@
 -- Worked rows: what servers need, ids in registers and branches.
 use Rattle.std.specs.Prelude.{◌≡◌, true, false, Some, None, List, [], ◌∷◌, map, refl}
 use Rattle.l4_model.specs.Words.{W64, W32, NilThread, AnyThread, AnyLocalThread, LocalThread, GlobalThread, global_id, is_same}
-use Rattle.l4_model.specs.Machine.{Machine, Fixed, Last, InRegister, CancelReceive, Delete, Set, From, Tag, Vs, Ipc, Ask, OnLabel, OnWord, OnFrom, End, machine_of, retargeting_machine_of}
+use Rattle.l4_model.specs.Machine.{Machine, Instr, Fixed, Last, InRegister, CancelReceive, Delete, Set, From, Tag, Vs, Ipc, Ask, OnLabel, OnWord, OnFrom, Jump, End, machine_of, retargeting_machine_of}
 use Rattle.l4_model.specs.Rules.{assigned_by}
 use Rattle.l4_model.specs.Steps.{Step, Local, Begin, Queue, Deliver, Wait, Order, Obey, Retarget, SendNobody}
-use Rattle.l4_model.specs.History.{IsEnded, IsDeleted}
+use Rattle.l4_model.specs.History.{IsEnded, IsDeleted, IsReceiving}
 use Rattle.l4_model.proofs.Rows.Writing.{thread, id, send, sends, receives, declared, ends, quiet, reports, report}
 
 -- A branch by the label tests the MR0 that the message wrote, and so does one by a word.
@@ -282,3 +282,58 @@ turned_trace =
 
 turned_ending : ends turned turned_trace ≡ quiet []
 turned_ending = refl
+
+-- A lock server of one thread: label 1 takes the lock, label 2 gives it back. Who asks for it
+-- meanwhile is kept in a register, and answered when it is given back.
+abbrev pub lock : Machine
+lock = machine_of 1 (
+    declared 1 0 2 takes_the_lock
+    ∷ declared 2 0 2 takes_the_lock
+    ∷ declared 3 0 1 (receives ∷ OnLabel 1 3 ∷ Jump 0 ∷ Ipc Last (Fixed AnyThread) (Some 0) None ∷ OnLabel 2 0 ∷ From W64 4 ∷ receives ∷ Ipc (InRegister W64 4) (Fixed AnyThread) None None ∷ Jump 4 ∷ []) ∷ [])
+  where
+    takes_the_lock : List Instr
+    takes_the_lock = Tag 0x10000 ∷ Ipc (Fixed (id 3)) (Fixed (id 3)) None None ∷ Tag 0x20000 ∷ sends 3 ∷ []
+
+abbrev pub lock_trace : List Step
+lock_trace =
+    Wait (thread 3)
+    ∷ Local (thread 1)
+    ∷ Begin (send 1 1)
+    ∷ Queue (send 1 1)
+    ∷ Deliver (send 1 1) (thread 3) (thread 1) (thread 1) 0x10000 []
+    ∷ Local (thread 3)
+    ∷ Begin (send 3 1)
+    ∷ Queue (send 3 1)
+    ∷ Deliver (send 3 1) (thread 1) (thread 3) (thread 3) 0x10000 []
+    ∷ Local (thread 2)
+    ∷ Begin (send 2 1)
+    ∷ Queue (send 2 1)
+    ∷ Deliver (send 2 1) (thread 3) (thread 2) (thread 2) 0x10000 []
+    ∷ Local (thread 3)
+    ∷ Local (thread 3)
+    ∷ Wait (thread 3)
+    ∷ Local (thread 1)
+    ∷ Begin (send 1 2)
+    ∷ Queue (send 1 2)
+    ∷ Deliver (send 1 2) (thread 3) (thread 1) (thread 1) 0x20000 []
+    ∷ Begin (send 3 2)
+    ∷ Queue (send 3 2)
+    ∷ Deliver (send 3 2) (thread 2) (thread 3) (thread 3) 0x20000 []
+    ∷ Local (thread 2)
+    ∷ Begin (send 2 2)
+    ∷ Queue (send 2 2)
+    ∷ Deliver (send 2 2) (thread 3) (thread 2) (thread 2) 0x20000 []
+    ∷ Local (thread 3)
+    ∷ Local (thread 3)
+    ∷ Wait (thread 3)
+    ∷ Local (thread 1)
+    ∷ Local (thread 2) ∷ []
+
+lock_ending : ends lock lock_trace ≡ quiet []
+lock_ending = refl
+
+lock_view : reports lock lock_trace ≡ Some (
+    report 1 IsEnded 0 NilThread (id 3) []
+    ∷ report 2 IsEnded 0 NilThread (id 3) []
+    ∷ report 3 IsReceiving 0 (id 2) (id 2) (0x20000 ∷ 0 ∷ 0 ∷ 0 ∷ 0x200000001 ∷ []) ∷ [])
+lock_view = refl

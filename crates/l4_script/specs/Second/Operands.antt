@@ -50,7 +50,8 @@ counted_in unit suffix word = do
   count ← needs (words.number_of 10 (take (length word - length suffix) word)) BadNumber
   exact_period (count * unit)
 
--- A time as in version 1, or `5us`, `5ms`, `2s`: so many microseconds, thousands or millions of them.
+-- A time as in version 1, or `5us`, `5ms`, `2s`: so many microseconds, thousands or millions of
+-- them.
 unfoldable pub second_time_from : (word : List ℕ) → Judged Period
 second_time_from word =
     if ends_with (codes "us") word then counted_in 1 (codes "us") word

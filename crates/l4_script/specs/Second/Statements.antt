@@ -52,15 +52,18 @@ seven (a ∷ b ∷ c ∷ d ∷ e ∷ []) = Some (a, b, c, d, e, None)
 seven (a ∷ b ∷ c ∷ d ∷ e ∷ f ∷ g ∷ []) = Some (a, b, c, d, e, Some (f, g))
 seven words = None
 
+abbrev pub has_keywords : (cpu space : List ℕ) → Bool
+has_keywords cpu space = bytes_eq cpu (codes "cpu") && bytes_eq space (codes "space")
+
 abbrev pub says_as : Option (List ℕ × List ℕ) → Bool
 says_as None = true
 says_as (Some words) = bytes_eq words.0 (codes "as")
 
-unfoldable pub second_declaration_of : Format → List Named → (cpus : ℕ) → (operands : List (List ℕ)) →
-    Judged Heir
+unfoldable pub second_declaration_of : Format → List Named → (cpus : ℕ) →
+    (operands : List (List ℕ)) → Judged Heir
 second_declaration_of format names cpus operands = do
   words ← needs (seven operands) BadLine
-  must (bytes_eq words.1 (codes "cpu") && bytes_eq words.3 (codes "space") && says_as words.5) BadLine
+  must (has_keywords words.1 words.3 && says_as words.5) BadLine
   id ← thread_named format names words.0
   cpu ← processor_of cpus words.2
   space ← number_from 0 (2 ^ 32 - 1) words.4

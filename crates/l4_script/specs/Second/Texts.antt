@@ -1,7 +1,6 @@
 -- The machine that a text with scripts of version 2 declares, or its first fault.
-use Rattle.std.specs.Prelude.{ℕ, ◌+◌, ◌-◌, Bool, true, false, not, ◌&&◌, ◌||◌, ◌==◌, nat_lt, if◌then◌else◌, Option, Some, None, is_none, Result, Ok, Err, List, [], ◌∷◌, ◌++◌, length, find, map, zip, slice_set, codes}
+use Rattle.std.specs.Prelude.{ℕ, ◌+◌, ◌-◌, Bool, true, false, not, ◌&&◌, ◌||◌, ◌==◌, nat_lt, if◌then◌else◌, Option, Some, None, is_none, Result, Ok, Err, List, [], ◌∷◌, ◌++◌, length, find, slice_set, codes}
 use Rattle.std.specs.Option.{option_map}
-use Rattle.std.specs.List.{list_any, range_with_len}
 use Rattle.std.specs.Str.{bytes_eq}
 use Rattle.l4_model.specs.Words.{Format, GlobalId}
 use Rattle.l4_model.specs.Machine.{Instr, Declaration, Machine, declaration_of}
@@ -97,12 +96,15 @@ named_from labels targets thread at (instr ∷ script) =
     named_at labels targets thread at instr ∷ named_from labels targets thread (at + 1) script
 
 -- The script of the last thread ends: each of its instructions has the place that it names.
+abbrev pub settled_script : Reading → List Instr
+settled_script r =
+    named_from r.labels r.targets (last_place r.machine) 0 (last_thread r.machine).script
+
 abbrev pub settled : Reading → Machine
 settled r = if has_script r
     then record r.machine {
-      threads = slice_set r.machine.threads (last_place r.machine) (record (last_thread r.machine) {
-        script = named_from r.labels r.targets (last_place r.machine) 0 (last_thread r.machine).script;
-      });
+      threads = slice_set r.machine.threads (last_place r.machine)
+          (record (last_thread r.machine) { script = settled_script r });
     }
     else r.machine
 
@@ -168,16 +170,20 @@ instruction_line line r name operands = do
         (length (last_thread r.machine).script) said.target;
   })
 
--- A line with words behind `cpus`: only instructions have names.
+-- A line behind `cpus`. Only instructions have names.
+
+abbrev pub unlabelled : Said → Judged Reading → Judged Reading
+unlabelled said reading = must (is_none said.label) BadLine >> reading
+
+abbrev pub words_line : (line : ℕ) → Reading → Said → (words : List (List ℕ)) → Judged Reading
+words_line line r said [] = labelled said.label r
+words_line line r said (name ∷ operands) =
+    if bytes_eq name (codes "thread") then unlabelled said (second_declared r operands)
+    else (if bytes_eq name (codes "name") then unlabelled said (name_line r operands)
+    else (labelled said.label r >>= λ named. instruction_line line named name operands))
+
 unfoldable pub second_thread_line : (line : ℕ) → Reading → Said → Judged Reading
-second_thread_line line r said = by said.words
-  where
-    by : List (List ℕ) → Judged Reading
-    by [] = labelled said.label r
-    by (name ∷ operands) =
-        if bytes_eq name (codes "thread") then (must (is_none said.label) BadLine >> second_declared r operands)
-        else (if bytes_eq name (codes "name") then (must (is_none said.label) BadLine >> name_line r operands)
-        else (labelled said.label r >>= λ named. instruction_line line named name operands))
+second_thread_line line r said = words_line line r said said.words
 
 unfoldable pub after_words : (line : ℕ) → Stage → Said → Judged Stage
 after_words line Start said = do

@@ -7,6 +7,7 @@ use Rattle.l4_commands.specs.Files.{expected_of, file_of, second_file_of}
 use Rattle.l4_commands.specs.declared.job.Job.{Job}
 use Rattle.l4_jobs.specs.Inputs.{Names, gives_nothing}
 use Rattle.l4_jobs.specs.declared.fault.Fault.{Fault}
+use Rattle.l4_jobs.specs.declared.fault.Reason.TheVariants.{NoSuchFile}
 use Rattle.l4_c.specs.declared.files.Files.{Files}
 
 -- A file is its name and what it has. One without a name is not there.
@@ -57,4 +58,4 @@ first_missing (name ∷ names) files =
 -- The fault that the file of this name is not there.
 abbrev pub IsNotThere : (name : Option (List ℕ)) → Fault → Type 0
 IsNotThere None f = ⊥
-IsNotThere (Some name) f = Names name f
+IsNotThere (Some name) f = Names name NoSuchFile f

@@ -6,7 +6,7 @@ ghost use Rattle.l4_commands.specs.Files.{expected_of, file_of, second_file_of};
 ghost use Rattle.l4_c.specs.Files.{IsNotThere, files_in, first_missing, found, found_where};
 ghost use Rattle.l4_c.specs.Files.{gives_in, is_missing, is_named, names_of};
 
-use l4_jobs::fault::Fault;
+use l4_jobs::fault::{Fault, Reason};
 use l4_jobs::job::Job;
 use l4_jobs::streams::Source;
 use std::alloc::Global;
@@ -72,7 +72,7 @@ impl<'a> Files<'a> {
         };
         match self.find(name) {
             Some(text) => Ok(Text { bytes: Some(text) }),
-            None => Err(Fault::Read(name)),
+            None => Err(Fault::Read(name, Reason::NoSuchFile)),
         }
     }
 

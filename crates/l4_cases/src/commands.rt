@@ -42,9 +42,10 @@ fn do_job<R: Files + AllocGlobal + Threads + Sync>(
     rt: &R,
     case: &Case<'_>,
     job: &Job<'_>,
-    trace: &[u8],
+    said: &Said,
     done: &mut Outcome,
 ) -> u8 {
+    let trace = said.trace.as_slice();
     let output = &mut done.output;
     let faults = &mut done.faults;
     if !case.is_apart {
@@ -53,7 +54,16 @@ fn do_job<R: Files + AllocGlobal + Threads + Sync>(
             input: trace,
             input_name: STANDARD_INPUT,
         };
-        return perform_on_files(rt, rt.alloc(), &folder, job, output, faults, &mut Unheard);
+        return perform_on_files(
+            rt,
+            rt.alloc(),
+            &folder,
+            said.on_terminal,
+            job,
+            output,
+            faults,
+            &mut Unheard,
+        );
     }
     let mut text = case.text;
     let mut trace = trace;
@@ -73,7 +83,7 @@ pub fn do_command<R: Files + AllocGlobal + Threads + Sync>(
     match job_of(rt.alloc(), words.as_slice()) {
         Ok(job) => {
             let job = job.on_output(said.on_terminal, 0);
-            done.status = do_job(rt, case, &job, said.trace.as_slice(), &mut done);
+            done.status = do_job(rt, case, &job, said, &mut done);
             audit(rt, case, &job, &mut done)?;
         }
         Err(fault) => {

@@ -2,7 +2,7 @@
 //! displays are written by a derive, and have no contract.
 
 use l4_expect::judging::Wrong;
-use l4_jobs::fault::{Fault, report};
+use l4_jobs::fault::{Fault, Reason, report};
 use l4_script::text::TextFaultKind;
 use std::alloc::{AllocError, Global};
 use std::io;
@@ -41,7 +41,7 @@ fn faults(alloc: Global) -> Result<Vec<Fault<'static>>, AllocError> {
         Fault::Trace(34),
         Fault::Refused(567),
         Fault::NoMemory,
-        Fault::Read("a.l4"),
+        Fault::Read("a.l4", Reason::NoSuchFile),
         Fault::Unwritten("a list"),
         Fault::Write,
     ]?;

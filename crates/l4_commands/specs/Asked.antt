@@ -199,6 +199,7 @@ pub record IsSearchOf (rows : List Row) (search : EndingsJob) : Type 0 where
 pub record IsLintOf (rows : List Row) (lint : LintJob) : Type 0 where
   pub file : Some lint.file.now ≡ first_of (codes "file") rows
   pub schedule : option_copied lint.schedule ≡ first_of (codes "schedule") rows
+  pub unnamed : lint.is_named ≡ false
   pub json : lint.json ≡ has_flag (codes "json") rows
 
 -- The job that the matches ask for, by the name of the subcommand.

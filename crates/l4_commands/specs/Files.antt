@@ -1,11 +1,12 @@
 -- The files that a job reads, and the job as an output of a given kind needs it.
-use Rattle.std.specs.Prelude.{◌==◌, ℕ, Bool, true, false, if◌then◌else◌, Option, Some, None, List, [], ◌∷◌, codes}
+use Rattle.std.specs.Prelude.{◌==◌, ◌&&◌, ℕ, Bool, true, false, not, if◌then◌else◌, Option, Some, None, List, [], ◌∷◌, codes}
 use Rattle.std.specs.Borrow.{Bor}
 use Rattle.std.specs.Option.{option_copied}
 use Rattle.std.specs.Str.{bytes_eq}
 use Rattle.l4_commands.specs.declared.job.ChartForm.{ChartForm}
 use Rattle.l4_commands.specs.declared.job.ChartForm.TheVariants.{Lines, Ascii}
 use Rattle.l4_commands.specs.declared.job.Job.{Job}
+use Rattle.l4_commands.specs.declared.job.LintJob.{LintJob}
 use Rattle.l4_commands.specs.declared.job.Printed.{Printed}
 use Rattle.l4_commands.specs.declared.job.TextChart.{TextChart}
 use Rattle.l4_commands.specs.declared.job.Job.TheVariants.{Run, Replay, Next, Audit, Chart, Endings, Lint}
@@ -50,6 +51,10 @@ expected_of (Replay replay) = option_copied replay.expected
 expected_of (Endings search) = option_copied search.expected
 expected_of _ = None
 
+-- The name that the line of a fault or a doubt of a lint begins with, if any.
+abbrev pub shown_name : LintJob → Option (List ℕ)
+shown_name lint = if lint.is_named then Some lint.file.now else None
+
 -- The job without a record, and of which nothing is expected.
 abbrev pub alone : Job → Job
 alone (Run run) = Run (record run { record_to = None; expected = None })
@@ -87,4 +92,6 @@ on_output shows_lines columns (Chart c) = Chart (record c {
 on_output shows_lines columns (Endings search) = Endings (record search {
   chart = chart_on shows_lines columns search.chart;
 })
+on_output shows_lines columns (Lint lint) =
+    Lint (record lint { is_named = shows_lines && not lint.json })
 on_output shows_lines columns job = job

@@ -275,6 +275,7 @@ fn lint_job<'a>(matches: &ArgMatches<'a>) -> Option<LintJob<'a>>
     Some(LintJob {
         file: text(matches, "file")?,
         schedule: text(matches, "schedule"),
+        is_named: false,
         json: has_flag(matches, "json"),
     })
 }

@@ -2,7 +2,7 @@
 ghost use Rattle.std.specs.Prelude.{◌≡◌, ◌||◌};
 ghost use Rattle.std.specs.Option.{option_copied};
 ghost use Rattle.l4_commands.specs.Files.{alone, chart_on, expected_of, file_of, list_name};
-ghost use Rattle.l4_commands.specs.Files.{on_output, printed_on, second_file_of};
+ghost use Rattle.l4_commands.specs.Files.{on_output, printed_on, second_file_of, shown_name};
 
 /// The name that stands for the standard input. A file of that name is `./-`.
 pub const INPUT: &str = "-";
@@ -231,8 +231,19 @@ pub struct LintJob<'a> {
     pub file: &'a str,
     /// The schedule, as of `ReplayJob`, where one is given.
     pub schedule: Option<&'a str>,
+    /// Whether the line of a fault or a doubt begins with the name of the file.
+    pub is_named: bool,
     /// Whether each line is told as an object of JSON.
     pub json: bool,
+}
+
+impl<'a> LintJob<'a> {
+    /// The name that the line of a fault or a doubt begins with, if any.
+    pub fn shown_name(&self) -> Option<&'a str>
+        ensures { option_copied result ≡ shown_name self.now }
+    {
+        if self.is_named { Some(self.file) } else { None }
+    }
 }
 
 /// What the words of a command line ask for.
@@ -321,7 +332,8 @@ impl<'a> Job<'a> {
     }
 
     /// The same job for an output that may show lines, and is `columns` wide, or 0 if unknown.
-    /// Where it shows no lines, a chart is drawn in ASCII.
+    /// Where it shows no lines, a chart is drawn in ASCII. Where it does, a lint names its file,
+    /// unless it tells objects of JSON.
     pub fn on_output(&self, shows_lines: bool, columns: u64) -> Job<'a>
         ensures { result ≡ on_output shows_lines columns self.now }
     {
@@ -350,6 +362,10 @@ impl<'a> Job<'a> {
             Job::Endings(search) => Job::Endings(EndingsJob {
                 chart: chart_on(shows_lines, columns, search.chart),
                 ..search
+            }),
+            Job::Lint(lint) => Job::Lint(LintJob {
+                is_named: shows_lines && !lint.json,
+                ..lint
             }),
             other => other,
         }

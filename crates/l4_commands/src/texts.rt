@@ -49,7 +49,8 @@ one of these:
   l4run: expectation line 1: Unknown   also BadLine, BadWord, Deleted, Number
   l4run: cannot read NAME              also cannot write, cannot write NAME, no memory
 
-docs/FORMATS.md tells each line that is printed, and each fault.";
+On a terminal further lines explain it. docs/FORMATS.md tells each line that is printed, and each \
+fault.";
 
 pub const REPLAY_EXAMPLE: &str =
     "Example: `l4run replay ping.l4 --schedule 0,0,0`, with the machine text that `l4run help run` \
@@ -166,13 +167,13 @@ pub const LINT_EXAMPLE: &str =
 `set 64 10`,
 prints `line 4 column 5: BadNumber: `64`: wanted: a register, 1 to 63`. Each fault has such a \
 line: where
-it is, its kind, what stands there, and what may. The status is 1 then, and 0 where nothing is \
-wrong. Then each
-doubt has a line. In the place of the kind stands `always` where what it says holds in every \
-run, else `perhaps`;
-it may be as it is meant. Behind that, `--schedule LIST` tells each faulty item of a list for this \
-machine, with
-status 1.
+it is, its kind, what stands there, and what may. On a terminal it begins with `ping.l4:4:5: `, as \
+editors look for
+it. The status is 1 then, and 0 where nothing is wrong. Then each doubt has a line. In the place \
+of the kind stands
+`always` where what it says holds in every run, else `perhaps`; it may be as it is meant. Behind \
+that, `--schedule
+LIST` tells each faulty item of a list for this machine, with status 1.
 
 Kinds: BadLine, BadNumber, BadId, BadCpu, TypedItems, DoubleId, TooManyThreads, \
 TooManyInstructions, BadTarget,

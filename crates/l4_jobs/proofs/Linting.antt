@@ -25,12 +25,12 @@ pub none_faulty : (text : List ℕ) (m : Machine) → machine_of_text text ≡ O
 none_faulty text m declares = none_found (faults_of text) (first_fault text ∙ ap fault_in declares)
 
 -- The lint of what was read is the lint of the text.
-same_text : (read all : List ℕ) → IsReadAs read all → lint_text read ≡ lint_text all
-same_text read all same = ap₂ (λ f d. texts_of_faults f ++ doubts_text d) same.faults same.doubts
+same_text : (file : Option (List ℕ)) (read all : List ℕ) → IsReadAs read all → lint_text file read ≡ lint_text file all
+same_text file read all same = ap₂ (λ f d. texts_of_faults file f ++ doubts_text file d) same.faults same.doubts
 
-pub linted_as : (read all : List ℕ) (o : Output) → IsReadAs read all → IsLinted read o → IsLinted all o
-linted_as read all o same is = record {
-  lines_are = is.lines_are ∙ same_text read all same;
+pub linted_as : (file : Option (List ℕ)) (read all : List ℕ) (o : Output) → IsReadAs read all → IsLinted file read o → IsLinted file all o
+linted_as file read all o same is = record {
+  lines_are = is.lines_are ∙ same_text file read all same;
   status_is = is.status_is ∙ ap status_of same.faults;
   said = is.said;
   unrecorded = is.unrecorded;
@@ -55,14 +55,14 @@ named_told m list name gives old new none is =
 
 -- A text without a fault, and a list behind it
 
-pub alone : (text : List ℕ) (m : Machine) (schedule : Option (Bor (List ℕ))) (gives : Gives) (o : Output) → schedule ≡ None → faults_of text ≡ [] → IsLinted text o →
-    (read : List ℕ) × IsRead (list_name_in schedule) gives read × IsListLinted text m schedule read o
-alone text m schedule gives o none right is =
-    subst (λ (s : Option (Bor (List ℕ))). (read : List ℕ) × IsRead (list_name_in s) gives read × IsListLinted text m s read o) (sym none) (
+pub alone : (file : Option (List ℕ)) (text : List ℕ) (m : Machine) (schedule : Option (Bor (List ℕ))) (gives : Gives) (o : Output) → schedule ≡ None →
+    faults_of text ≡ [] → IsLinted file text o → (read : List ℕ) × IsRead (list_name_in schedule) gives read × IsListLinted file text m schedule read o
+alone file text m schedule gives o none right is =
+    subst (λ (s : Option (Bor (List ℕ))). (read : List ℕ) × IsRead (list_name_in s) gives read × IsListLinted file text m s read o) (sym none) (
       [],
       tt,
       record {
-        lines_are = is.lines_are ∙ sym (append-nil (lint_text text));
+        lines_are = is.lines_are ∙ sym (append-nil (lint_text file text));
         status_is = is.status_is ∙ ap status_of right;
         said = is.said;
         unrecorded = is.unrecorded;

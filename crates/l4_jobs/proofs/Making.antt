@@ -7,7 +7,7 @@ use Rattle.l4_script.specs.declared.text.fault.TextFault.{TextFault}
 use Rattle.l4_script.specs.declared.text.fault.TextFaultKind.TheVariants.{NoMemory as NoMemoryKind}
 use Rattle.l4_commands.specs.declared.job.Job.{Job}
 use Rattle.l4_jobs.specs.Inputs.{Gives}
-use Rattle.l4_jobs.specs.Jobs.{IsDone, IsDoneFor, IsFaultyDone, IsInLinesFor}
+use Rattle.l4_jobs.specs.Jobs.{IsDone, IsDoneFor, IsFaultyDone, IsInLinesFor, name_shown}
 use Rattle.l4_jobs.specs.Objects.{is_retold, told}
 use Rattle.l4_jobs.specs.Outputs.{Output}
 use Rattle.l4_jobs.specs.Inner.Reading.{IsReadAs}
@@ -19,7 +19,7 @@ use Rattle.l4_jobs.proofs.Linting.{linted_as}
 for_as : (job : Job) (read all : List ℕ) (d : Result Machine TextFault) (second expects : Gives) (o : Output) → machine_of_text all ≡ d → IsReadAs read all →
     IsInLinesFor job read d second expects o → IsInLinesFor job all d second expects o
 for_as job read all (Ok m) second expects o declares same is = subst (λ t. IsInLinesFor job t (Ok m) second expects o) (same.whole m declares) is
-for_as job read all (Err t) second expects o declares same is = (is.0, linted_as read all o same is.1)
+for_as job read all (Err t) second expects o declares same is = (is.0, linted_as (name_shown job) read all o same is.1)
 
 pub done_given : (job : Job) (machine second expects : Gives) (read slice : List ℕ) (o : Output) → (all : List ℕ) × machine (Ok all) × IsReadAs read all → slice ≡ read →
     IsDoneFor job slice (machine_of_text slice) second expects o → IsDone job machine second expects o

@@ -10,6 +10,7 @@ use Rattle.l4_script.specs.Faults.{fault_at}
 use Rattle.l4_script.specs.Texts.{machine_of_text}
 use Rattle.l4_script.specs.declared.text.fault.TextFaultKind.TheVariants.{TooLong}
 use Rattle.l4_lint.specs.Doubts.{doubts_of}
+use Rattle.l4_lint.specs.Excerpts.{fault_shown}
 use Rattle.l4_lint.specs.Faults.{faults_of}
 use Rattle.l4_jobs.specs.Inner.Reading.{IsReadAs}
 
@@ -17,7 +18,13 @@ not_below : (a b : ℕ) → nat_lt a b ≡ false → b ≤ a
 not_below a b h = grind (arith, nat_tests)
 
 as_all : (read all : List ℕ) → read ≡ all → IsReadAs read all
-as_all read all is = record { machine = ap machine_of_text is; faults = ap faults_of is; doubts = ap doubts_of is; whole = λ m declares. is }
+as_all read all is = record {
+  machine = ap machine_of_text is;
+  faults = ap faults_of is;
+  doubts = ap doubts_of is;
+  shown = λ file. ap (fault_shown file) is;
+  whole = λ m declares. is;
+}
 
 too_long : (bytes : List ℕ) → nat_lt 0x100000 (length bytes) ≡ true → machine_of_text bytes ≡ Err (fault_at 0 TooLong)
 too_long bytes long = rw long refl
@@ -34,6 +41,7 @@ as_beginning bytes = by (nat_lt 0x100000 (length bytes)) refl
           machine = rw (long, too) refl;
           faults = rw (long, too) refl;
           doubts = rw (long, too) refl;
+          shown = λ file. rw (long, too) refl;
           whole = λ m declares. absurd (let bad : Err (fault_at 0 TooLong) ≡ Ok m = sym (too_long bytes long) ∙ declares in cc);
         }
     by false short = as_all _ _ (take_all 0x100001 bytes (let least = not_below _ _ short in omega (arith, least)))
@@ -48,5 +56,6 @@ read_as gives read (all, given, inr is) = (all, given, by (as_beginning all))
       machine = ap machine_of_text is ∙ same.machine;
       faults = ap faults_of is ∙ same.faults;
       doubts = ap doubts_of is ∙ same.doubts;
+      shown = λ file. ap (fault_shown file) is ∙ same.shown file;
       whole = λ m declares. is ∙ same.whole m declares;
     }

@@ -41,7 +41,7 @@ fault_words (fault.Refused step) = codes "refused at step " ++ decimal step
 fault_words (fault.Expectation line wrong) =
     codes "expectation line " ++ decimal line ++ codes ": " ++ wrong_word wrong
 fault_words fault.NoMemory = codes "no memory"
-fault_words (fault.Read name) = codes "cannot read " ++ name.now
+fault_words (fault.Read name reason) = codes "cannot read " ++ name.now
 fault_words (fault.Unwritten name) = codes "cannot write " ++ name.now
 fault_words fault.Write = codes "cannot write"
 

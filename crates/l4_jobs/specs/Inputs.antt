@@ -1,9 +1,11 @@
 -- What is read of the files of a job.
 use Rattle.std.specs.Prelude.{◌≡◌, ℕ, Option, Some, None, Result, Ok, Err, List}
 use Rattle.std.specs.declared.io.ErrorKind.{ErrorKind}
-use Rattle.std.specs.declared.io.ErrorKind.TheVariants.{NotFound, OutOfMemory}
+use Rattle.std.specs.declared.io.ErrorKind.TheVariants.{IsADirectory, NotFound, OutOfMemory, PermissionDenied}
 use Rattle.l4_jobs.specs.declared.fault.Fault.{Fault}
 use Rattle.l4_jobs.specs.declared.fault.Fault.TheVariants as fault
+use Rattle.l4_jobs.specs.declared.fault.Reason.{Reason}
+use Rattle.l4_jobs.specs.declared.fault.Reason.TheVariants as reason
 
 -- What reading a source may come to: its bytes, or the kind of an error.
 abbrev pub Gives : Type 1
@@ -15,14 +17,21 @@ abbrev pub IsRead : (name : Option (List ℕ)) → Gives → (text : List ℕ) �
 IsRead None gives text = Unit {0}
 IsRead (Some name) gives text = gives (Ok text)
 
+-- Why a file can't be opened or read, by the kind of the error.
+abbrev pub reason_of : ErrorKind → Reason
+reason_of NotFound = reason.NoSuchFile
+reason_of IsADirectory = reason.IsDirectory
+reason_of PermissionDenied = reason.NotAllowed
+reason_of _ = reason.Untold
+
 -- The fault of this file that can't be read, by the kind of the error.
-abbrev pub Names : (file : List ℕ) → Fault → Type 0
-Names file (fault.Read name) = name.now ≡ file
-Names file _ = ⊥
+abbrev pub Names : (file : List ℕ) → Reason → Fault → Type 0
+Names file why (fault.Read name told) = (name.now ≡ file) × (told ≡ why)
+Names file why _ = ⊥
 
 abbrev pub IsUnread : (file : List ℕ) → ErrorKind → Fault → Type 0
 IsUnread file OutOfMemory f = f ≡ fault.NoMemory
-IsUnread file _ f = Names file f
+IsUnread file kind f = Names file (reason_of kind) f
 
 -- This file was read, and reading it failed with this fault.
 abbrev pub FailsWith : (file : List ℕ) → Gives → Fault → Type 0

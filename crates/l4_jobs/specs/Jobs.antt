@@ -8,7 +8,7 @@ use Rattle.l4_script.specs.Texts.{machine_of_text}
 use Rattle.l4_script.specs.declared.text.fault.TextFault.{TextFault}
 use Rattle.l4_script.specs.declared.text.fault.TextFaultKind.{TextFaultKind}
 use Rattle.l4_script.specs.declared.text.fault.TextFaultKind.TheVariants.{NoMemory as NoMemoryKind}
-use Rattle.l4_commands.specs.Files.{expected_of, file_of, list_name, list_name_in}
+use Rattle.l4_commands.specs.Files.{expected_of, file_of, list_name, list_name_in, shown_name}
 use Rattle.l4_commands.specs.declared.job.Job.{Job}
 use Rattle.l4_commands.specs.declared.job.Job.TheVariants.{Run, Replay, Next, Audit, Chart, Endings, Lint}
 use Rattle.l4_commands.specs.declared.job.Printed.{Printed}
@@ -45,15 +45,19 @@ IsDoneOn (Chart chart) text m second expected o =
 IsDoneOn (Endings search) text m second expected o = IsSearchDone search text m expected o
 IsDoneOn (Lint lint) text m second expected o =
     (list : List ℕ) × IsRead (list_name_in lint.schedule) second list
-    × IsListLinted text m lint.schedule list o
+    × IsListLinted (shown_name lint) text m lint.schedule list o
 
 -- Only a lint comes to anything for a text with a fault.
 abbrev pub is_lint : Job → Bool
 is_lint (Lint lint) = true
 is_lint _ = false
 
+abbrev pub name_shown : Job → Option (List ℕ)
+name_shown (Lint lint) = shown_name lint
+name_shown _ = None
+
 abbrev pub IsFaultyDone : Job → (text : List ℕ) → Output → Type 0
-IsFaultyDone job text o = (is_lint job ≡ true) × IsLinted text o
+IsFaultyDone job text o = (is_lint job ≡ true) × IsLinted (name_shown job) text o
 
 -- What a job comes to in lines for a text, with what its file expects.
 abbrev pub IsInLinesFor : Job → (text : List ℕ) → Result Machine TextFault →

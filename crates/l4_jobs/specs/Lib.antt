@@ -1,6 +1,7 @@
 pub mod Audits
 pub mod ChartJobs
 pub mod Expectations
+pub mod Explanations
 pub mod Extras
 pub mod FaultLines
 pub mod Inner

@@ -9,10 +9,10 @@ use Rattle.l4_schedules.specs.Faulty.{Fault as ListFault, faults_text, file_faul
 use Rattle.l4_commands.specs.Files.{list_name}
 use Rattle.l4_jobs.specs.Outputs.{Output}
 
--- A line for each fault, or where there is none, for each doubt. The status tells whether there is
--- a fault.
-pub record IsLinted (text : List ℕ) (o : Output) : Type 0 where
-  pub lines_are : o.lines ≡ lint_text text
+-- A line for each fault, or where there is none, for each doubt, with the name of the file where
+-- that is shown. The status tells whether there is a fault.
+pub record IsLinted (file : Option (List ℕ)) (text : List ℕ) (o : Output) : Type 0 where
+  pub lines_are : o.lines ≡ lint_text file text
   pub status_is : o.status ≡ status_of (faults_of text)
   pub said : o.said ≡ []
   pub unrecorded : o.list ≡ None
@@ -33,9 +33,9 @@ status_of_list found = if length found == 0 then 0 else 1
 
 -- Of a text that declares a machine, the doubts are printed, and behind them the faults of the
 -- list, where one is given. The status tells whether the list has a fault.
-pub record IsListLinted (text : List ℕ) (m : Machine) (schedule : Option (Bor (List ℕ)))
-    (list : List ℕ) (o : Output) : Type 0 where
-  pub lines_are : o.lines ≡ lint_text text ++ faults_text (asked_faults m schedule list)
+pub record IsListLinted (file : Option (List ℕ)) (text : List ℕ) (m : Machine)
+    (schedule : Option (Bor (List ℕ))) (list : List ℕ) (o : Output) : Type 0 where
+  pub lines_are : o.lines ≡ lint_text file text ++ faults_text (asked_faults m schedule list)
   pub status_is : o.status ≡ status_of_list (asked_faults m schedule list)
   pub said : o.said ≡ []
   pub unrecorded : o.list ≡ None

@@ -1,11 +1,13 @@
 -- What is written of a job.
 use Rattle.std.specs.Prelude.{◌≡◌, ◌⊎◌, ℕ, Bool, true, false, Option, Some, None, Result, Ok, Err, List, [], ◌∷◌}
 use Rattle.std.specs.declared.io.ErrorKind.{ErrorKind}
+use Rattle.l4_script.specs.Texts.{machine_of_text}
 use Rattle.l4_commands.specs.Files.{expected_of, file_of, second_file_of}
 use Rattle.l4_commands.specs.declared.job.Job.{Job}
 use Rattle.l4_jobs.specs.FaultLines.{IsReported}
-use Rattle.l4_jobs.specs.Inputs.{Gives, IsUnread}
-use Rattle.l4_jobs.specs.Jobs.{IsDone, IsFault, IsTrueFor}
+use Rattle.l4_jobs.specs.Explanations.{IsExplained}
+use Rattle.l4_jobs.specs.Inputs.{FailsWith, Gives, IsUnread}
+use Rattle.l4_jobs.specs.Jobs.{IsDone, IsFaultFor, IsTrueFor}
 use Rattle.l4_jobs.specs.Outputs.{Output}
 use Rattle.l4_jobs.specs.Streams.{GivenGives}
 use Rattle.l4_jobs.specs.declared.fault.Fault.{Fault}
@@ -41,10 +43,11 @@ sinks list keeps_list out keeps_out faults keeps_faults = record {
 abbrev pub keeps_none : List ℕ → Takes
 keeps_none name bytes all = all ≡ false
 
--- A fault was reported with status 1, and nothing else was written.
-abbrev pub IsFaultTold : Fault → Sinks → (status : ℕ) → Type 0
-IsFaultTold f s status =
-    s.keeps_list × s.keeps_out × IsReported s.faults f × (status ≡ 1)
+-- A fault of a job on the text in this file was told with status 1, and nothing else was written.
+abbrev pub IsFaultTold : (explains : Bool) → (file text : List ℕ) → Fault → Sinks →
+    (status : ℕ) → Type 0
+IsFaultTold explains file text f s status =
+    s.keeps_list × s.keeps_out × IsExplained explains file text s.faults f × (status ≡ 1)
 
 -- The fault of a file of this name that can't be written.
 abbrev pub IsUnwritten : (name : List ℕ) → Fault → Type 0
@@ -77,10 +80,20 @@ IsKeptOut o (Some p) s status =
 abbrev pub IsWrittenOut : Output → Sinks → (status : ℕ) → Type 0
 IsWrittenOut o s status = IsKeptOut o o.list s status
 
--- A job was done for what its sources give: its output was written, or its fault was reported.
-abbrev pub IsPerformed : Job → (machine second expects : Gives) → Sinks → (status : ℕ) → Type 0
-IsPerformed job machine second expects s status =
-    ((f : Fault) × IsFault job machine second expects f × IsFaultTold f s status)
+-- The fault of a job whose machine text was read as this one, or could not be read.
+abbrev pub IsFaultIn : Job → (machine second expects : Gives) → (text : List ℕ) → Fault → Type 0
+IsFaultIn job machine second expects text f =
+    (f ≡ fault.NoMemory)
+    ⊎ FailsWith (file_of job) machine f
+    ⊎ (machine (Ok text) × IsFaultFor job (machine_of_text text) second expects f)
+
+-- A job was done for what its sources give: its output was written, or its fault was told, with
+-- what explains it where that is asked for.
+abbrev pub IsPerformed : (explains : Bool) → Job → (machine second expects : Gives) → Sinks →
+    (status : ℕ) → Type 0
+IsPerformed explains job machine second expects s status =
+    ((text : List ℕ) × (f : Fault) × IsFaultIn job machine second expects text f
+    × IsFaultTold explains (file_of job) text f s status)
     ⊎ ((o : Output) × IsDone job machine second expects o × IsWrittenOut o s status)
 
 -- What was written to the output of a run or a replay is true of the machine that its text declares.
@@ -127,13 +140,15 @@ AreUnopened {File} opens job f =
     ⊎ ((second : Given File) × IsOpened opens (second_file_of job) second
     × IsUnopened opens (expected_of job) f)))
 
--- A job was done on the files that it names, or the first of them that can't be opened was reported.
+-- A job was done on the files that it names, or the first of them that can't be opened was told. Or
+-- there was no memory to tell of it.
 abbrev pub IsPerformedOn : {File : Type 0} → (opens : List ℕ → Result File ErrorKind → Type 0) →
-    (gives : File → Gives) → Job → Sinks → (status : ℕ) → Type 0
-IsPerformedOn {File} opens gives job s status =
-    ((f : Fault) × AreUnopened opens job f × IsFaultTold f s status)
+    (gives : File → Gives) → (explains : Bool) → Job → Sinks → (status : ℕ) → Type 0
+IsPerformedOn {File} opens gives explains job s status =
+    ((f : Fault) × ((f ≡ fault.NoMemory) ⊎ AreUnopened opens job f)
+    × IsFaultTold explains (file_of job) [] f s status)
     ⊎ ((o : Opened File) × AreOpened opens job o
-    × IsPerformed job (GivenGives gives o.machine) (GivenGives gives o.second)
+    × IsPerformed explains job (GivenGives gives o.machine) (GivenGives gives o.second)
     (GivenGives gives o.expects) s status)
 
 -- What it wrote to the output of a run or a replay is true of the machine that its text declares.

@@ -5,7 +5,7 @@ ghost use Rattle.l4_jobs.specs.ChartJobs.{fault_of_list};
 ghost use Rattle.l4_jobs.specs.Expectations.{fault_of_expect};
 ghost use Rattle.l4_jobs.specs.FaultLines.{kind_word, wrong_word, fault_line, line_in_parts};
 ghost use Rattle.l4_jobs.specs.FaultLines.{IsReported};
-ghost use Rattle.l4_jobs.specs.Inputs.{IsUnread};
+ghost use Rattle.l4_jobs.specs.Inputs.{IsUnread, reason_of};
 ghost use Rattle.l4_jobs.specs.Jobs.{text_fault};
 ghost use Rattle.l4_jobs.specs.Schedules.{fault_of_run};
 ghost use Rattle.l4_jobs.specs.Searches.{fault_of_question};
@@ -71,15 +71,28 @@ pub enum Fault<'a> {
     /// Memory was refused.
     #[error("no memory")]
     NoMemory,
-    /// This file can't be read.
+    /// This file can't be opened or read, and why.
     #[error("cannot read {0}")]
-    Read(&'a str),
+    Read(&'a str, Reason),
     /// This file can't be written, or is one that the job reads.
     #[error("cannot write {0}")]
     Unwritten(&'a str),
     /// The output is closed or full.
     #[error("cannot write")]
     Write,
+}
+
+/// Why a file can't be opened or read, as far as the system tells it.
+#[derive(Clone, Copy, Debug, PartialEq, Eq)]
+pub enum Reason {
+    /// There is no file of this name.
+    NoSuchFile,
+    /// It is a directory.
+    IsDirectory,
+    /// The system does not allow it.
+    NotAllowed,
+    /// Another error.
+    Untold,
 }
 
 impl From<TextFault> for Fault<'_> {
@@ -242,7 +255,7 @@ fn put_fault<E: Sink>(faults: &mut E, fault: &Fault<'_>) -> Result<(), NotWritte
             )
         }
         Fault::NoMemory => put_line(faults, "no memory", "", "", ""),
-        Fault::Read(name) => put_line(faults, "cannot read ", "", "", name),
+        Fault::Read(name, _) => put_line(faults, "cannot read ", "", "", name),
         Fault::Unwritten(name) => put_line(faults, "cannot write ", "", "", name),
         Fault::Write => put_line(faults, "cannot write", "", "", ""),
     }
@@ -275,12 +288,24 @@ pub fn report<E: Sink>(alloc: Global, faults: &mut E, fault: &Fault<'_>) -> u8
     1
 }
 
+// Why a file can't be opened or read, by the kind of the error.
+fn reason_of(kind: ErrorKind) -> Reason
+    ensures { result ≡ reason_of kind }
+{
+    match kind {
+        ErrorKind::NotFound => Reason::NoSuchFile,
+        ErrorKind::IsADirectory => Reason::IsDirectory,
+        ErrorKind::PermissionDenied => Reason::NotAllowed,
+        _ => Reason::Untold,
+    }
+}
+
 // The fault of the file of this name that can't be opened or read.
 pub(crate) fn read_fault(name: &str, kind: ErrorKind) -> Fault<'_>
     ensures { IsUnread name.now kind result }
 {
     match kind {
         ErrorKind::OutOfMemory => Fault::NoMemory,
-        _ => Fault::Read(name),
+        _ => Fault::Read(name, reason_of(kind)),
     }
 }

@@ -66,7 +66,7 @@ fn done_on<
         Job::Audit(audit) => audit_done(alloc, machine, audit.trace, audit.judged, second),
         Job::Chart(chart) => chart_done(alloc, text, machine, &chart, second),
         Job::Endings(search) => search_done(alloc, text, machine, &search, expected, progress),
-        Job::Lint(lint) => list_lint_done(alloc, text, machine, lint.schedule, second),
+        Job::Lint(lint) => list_lint_done(alloc, text, machine, &lint, second),
     }
 }
 
@@ -178,7 +178,7 @@ fn done_without<'a>(
 {
     match (job, fault.kind) {
         (_, TextFaultKind::NoMemory) => Err(Fault::NoMemory),
-        (Job::Lint(_), _) => Ok(lint_done(alloc, text)?),
+        (Job::Lint(lint), _) => Ok(lint_done(alloc, lint.shown_name(), text)?),
         _ => Err(Fault::from(fault)),
     }
 }
@@ -270,7 +270,26 @@ pub fn done<'a, R: Threads + Sync, M: Source, S: Source, X: Source, P: Progress>
     ensures unread { second_file_of job.now ≡ None → second.new ≡ second.old }
 {
     let text = read_text(alloc, job.file(), machine)?;
-    let text = text.as_slice();
+    done_for_text(rt, alloc, job, text.as_slice(), second, expects, progress)
+}
+
+// What a job comes to for a text, in which runs start host threads.
+pub(crate) fn done_for_text<'a, R: Threads + Sync, S: Source, X: Source, P: Progress>(
+    rt: &R,
+    alloc: Global,
+    job: &Job<'a>,
+    text: &[u8],
+    second: &mut S,
+    expects: &mut X,
+    progress: &mut P,
+) -> Result<Done<'a>, Fault<'a>>
+    ensures ok { IfOk result (λ done. IsDoneFor job.now text.now (machine_of_text text.now)
+        (S.gives second.old) (X.gives expects.old) (output_of done)) }
+    ensures err { IfErr result (λ fault. (fault ≡ OutOfMemory) ⊎
+        IsFaultFor job.now (machine_of_text text.now) (S.gives second.old)
+        (X.gives expects.old) fault) }
+    ensures unread { second_file_of job.now ≡ None → second.new ≡ second.old }
+{
     let run = |machine: &Machine, run, expected: Option<&Expectations<'_>>| {
         run_done(rt, alloc, text, machine, &run, expected)
     };

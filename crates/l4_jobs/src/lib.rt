@@ -16,13 +16,14 @@
 //!
 //! ```rust
 //! let job = job_of(alloc, &["l4run", "run", "examples/first.l4"])?;
-//! let status = perform_on_files(&rt, alloc, &rt, &job, &mut out, &mut faults, &mut Unheard);
+//! let status = perform_on_files(&rt, alloc, &rt, false, &job, &mut out, &mut faults, &mut Unheard);
 //! ```
 #![tactic(auto)]
 
 pub mod audits;
 mod charts;
 pub mod done;
+mod explanations;
 mod extras;
 pub mod fault;
 pub mod jobs;

@@ -1,7 +1,8 @@
 //! What a lint comes to: the faults and doubts of a machine text, and the faults of a list for it.
 ghost use Rattle.std.specs.Prelude.{◌≡◌, ◌==◌, ◌++◌, ◌⊎◌, [], ℕ, List, IfOk, IfErr, Ok, length};
 ghost use Rattle.std.specs.Prelude.{None, if◌then◌else◌, IsSomeAnd};
-ghost use Rattle.l4_commands.specs.Files.{list_name, list_name_in};
+ghost use Rattle.std.specs.Option.{option_copied};
+ghost use Rattle.l4_commands.specs.Files.{list_name, list_name_in, shown_name};
 ghost use Rattle.l4_lint.specs.Faults.{faults_of};
 ghost use Rattle.l4_schedules.specs.Faulty.{faults_text, file_faults};
 ghost use Rattle.l4_jobs.specs.Inputs.{FailsWith, IsRead};
@@ -12,7 +13,7 @@ ghost use Rattle.l4_jobs.specs.declared.fault.Fault.TheVariants.{NoMemory as Out
 
 use crate::done::Done;
 use crate::fault::Fault;
-use crate::job::list_name;
+use crate::job::{LintJob, list_name};
 use crate::reading::read_list;
 use crate::streams::Source;
 use l4_lint::lint::lint_with_doubts;
@@ -21,11 +22,16 @@ use l4_script::machine::Machine;
 use l4_types::errors::NoMemory;
 use std::alloc::Global;
 
-/// What a lint of a text alone comes to.
-pub(crate) fn lint_done<'a>(alloc: Global, text: &[u8]) -> Result<Done<'a>, NoMemory>
-    ensures { IfOk result (λ done. IsLinted text.now (output_of done)) }
+/// What a lint of a text alone comes to. `file` is the name that its lines begin with, if any.
+pub(crate) fn lint_done<'a>(
+    alloc: Global,
+    file: Option<&str>,
+    text: &[u8],
+) -> Result<Done<'a>, NoMemory>
+    ensures { IfOk result (λ done.
+        IsLinted (option_copied file.entry) text.now (output_of done)) }
 {
-    let lint = lint_with_doubts(alloc, text)?;
+    let lint = lint_with_doubts(alloc, file, text)?;
     Ok(Done {
         lines: lint.lines,
         list: None,
@@ -89,20 +95,21 @@ pub(crate) fn list_lint_done<'a, L: Source>(
     alloc: Global,
     text: &[u8],
     machine: &Machine,
-    schedule: Option<&'a str>,
+    lint: &LintJob<'a>,
     list: &mut L,
 ) -> Result<Done<'a>, Fault<'a>>
     requires { faults_of text.now ≡ [] }
     ensures ok { IfOk result (λ done. (read : List ℕ) ×
-        IsRead (list_name_in schedule.entry) (L.gives list.old) read ×
-        IsListLinted text.now machine.now schedule.entry read (output_of done)) }
+        IsRead (list_name_in lint.now.schedule) (L.gives list.old) read ×
+        IsListLinted (shown_name lint.now) text.now machine.now lint.now.schedule read
+        (output_of done)) }
     ensures err { IfErr result (λ fault. (fault ≡ OutOfMemory) ⊎
-        IsSomeAnd (list_name_in schedule.entry)
+        IsSomeAnd (list_name_in lint.now.schedule)
         (λ name. FailsWith name (L.gives list.old) fault)) }
-    ensures unread { list_name_in schedule.entry ≡ None → list.new ≡ list.old }
+    ensures unread { list_name_in lint.now.schedule ≡ None → list.new ≡ list.old }
 {
-    let mut done = lint_done(alloc, text)?;
-    let Some(schedule) = schedule else {
+    let mut done = lint_done(alloc, lint.shown_name(), text)?;
+    let Some(schedule) = lint.schedule else {
         return Ok(done);
     };
     let none = write_asked_faults(alloc, machine, schedule, list, &mut done.lines)?;

@@ -1,5 +1,5 @@
 //! Writing what a job comes to.
-ghost use Rattle.std.specs.Prelude.{◌≡◌, ◌≢◌, IfErr, IfOk, None, Some};
+ghost use Rattle.std.specs.Prelude.{◌≡◌, ◌≢◌, IfErr, IfOk, None, Some, false};
 ghost use Rattle.std.specs.Option.{option_copied};
 ghost use Rattle.l4_commands.specs.Files.{alone, expected_of, file_of, second_file_of};
 ghost use Rattle.l4_jobs.specs.Inputs.{gives_nothing};
@@ -12,9 +12,11 @@ ghost use Rattle.l4_jobs.specs.Performing.{sinks};
 ghost use Rattle.l4_jobs.specs.Streams.{IsWrittenApart};
 
 use crate::done::Done;
+use crate::explanations::tell;
 use crate::fault::{Fault, read_fault, report};
 use crate::job::Job;
-use crate::jobs::done;
+use crate::jobs::done_for_text;
+use crate::reading::read_text;
 use crate::streams::{Folder, Given, InFolder, NoRecords, Records, Sink, Source};
 use l4_explore::progress::{Progress, Unheard};
 use std::alloc::Global;
@@ -79,6 +81,7 @@ fn perform_over<
 >(
     rt: &R,
     alloc: Global,
+    explains: bool,
     job: &Job<'_>,
     machine: &mut M,
     second: &mut S,
@@ -88,16 +91,22 @@ fn perform_over<
     faults: &mut E,
     progress: &mut P,
 ) -> u8
-    ensures performed { IsPerformed job.now (M.gives machine.old) (S.gives second.old)
+    ensures performed { IsPerformed explains job.now (M.gives machine.old) (S.gives second.old)
         (X.gives expects.old)
         (sinks (L.keeps records.old records.new) (records.new ≡ records.old)
         (W.takes out.old out.new) (out.new ≡ out.old)
         (E.takes faults.old faults.new) (faults.new ≡ faults.old)) result }
     ensures unread { second_file_of job.now ≡ None → second.new ≡ second.old }
 {
-    match done(rt, alloc, job, machine, second, expects, progress) {
+    let file = job.file();
+    let text = match read_text(alloc, file, machine) {
+        Ok(text) => text,
+        Err(fault) => return tell(alloc, explains, file, b"", faults, &fault),
+    };
+    let text = text.as_slice();
+    match done_for_text(rt, alloc, job, text, second, expects, progress) {
         Ok(done) => write_done(alloc, &done, records, out, faults),
-        Err(fault) => report(alloc, faults, &fault),
+        Err(fault) => tell(alloc, explains, file, text, faults, &fault),
     }
 }
 
@@ -124,7 +133,7 @@ pub fn perform<R: Threads + Sync, M: Source, T: Source, W: Sink, E: Sink>(
     out: &mut W,
     faults: &mut E,
 ) -> u8
-    ensures performed { IsPerformed (alone job.now) (M.gives machine.old) (T.gives trace.old)
+    ensures performed { IsPerformed false (alone job.now) (M.gives machine.old) (T.gives trace.old)
         gives_nothing
         (sinks keeps_none (Unit {0}) (W.takes out.old out.new) (out.new ≡ out.old)
         (E.takes faults.old faults.new) (faults.new ≡ faults.old)) result }
@@ -139,6 +148,7 @@ pub fn perform<R: Threads + Sync, M: Source, T: Source, W: Sink, E: Sink>(
     perform_over(
         rt,
         alloc,
+        false,
         &job.alone(),
         machine,
         trace,
@@ -192,18 +202,20 @@ fn files_of<'a, F: Folder>(folder: &F, job: &Job<'a>) -> Result<Files<F::File>, 
 ///
 /// It opens the machine text, then the trace or the list, and then what is expected, before it
 /// reads anything. Everything is made whole before anything is written: first the record, where one
-/// is asked for, then the lines, and then what of the expectations does not hold. In a search,
+/// is asked for, then the lines, and then what of the expectations does not hold. A fault is told by
+/// one line; with `explains`, as for a terminal, what explains it stands behind that. In a search,
 /// `progress` hears how far the search has come, and that it has ended.
 pub fn perform_on_files<R: Threads + Sync, F: Folder, W: Sink, E: Sink, P: Progress>(
     rt: &R,
     alloc: Global,
     folder: &F,
+    explains: bool,
     job: &Job<'_>,
     out: &mut W,
     faults: &mut E,
     progress: &mut P,
 ) -> u8
-    ensures performed { IsPerformedOn (F.opens folder.now) F.File.gives job.now
+    ensures performed { IsPerformedOn (F.opens folder.now) F.File.gives explains job.now
         (sinks (IsWrittenApart (F.tells_same folder.now) (F.writes folder.now)
         (Some (file_of job.now)) (second_file_of job.now) (expected_of job.now)) (Unit {0})
         (W.takes out.old out.new) (out.new ≡ out.old)
@@ -214,11 +226,12 @@ pub fn perform_on_files<R: Threads + Sync, F: Folder, W: Sink, E: Sink, P: Progr
 {
     let mut files = match files_of(folder, job) {
         Ok(files) => files,
-        Err(fault) => return report(alloc, faults, &fault),
+        Err(fault) => return tell(alloc, explains, job.file(), b"", faults, &fault),
     };
     perform_over(
         rt,
         alloc,
+        explains,
         job,
         &mut files.machine,
         &mut files.second,

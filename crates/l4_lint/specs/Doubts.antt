@@ -191,14 +191,16 @@ doubt_text NotSent = codes "this register is never delivered, and nothing copies
 doubt_text NotPropagated =
     codes "vs names no thread of this address space, so no message is propagated"
 
-abbrev pub doubt_line : Doubtful → List ℕ
-doubt_line d =
-    place_text d.line d.column ++ mark_word (marked d.doubt) ++ codes ": `" ++ d.word ++ codes "`: "
-    ++ doubt_text d.doubt ++ codes "\n"
+abbrev pub doubt_line : (file : Option (List ℕ)) → Doubtful → List ℕ
+doubt_line file d =
+    place_text file d.line d.column ++ mark_word (marked d.doubt) ++ codes ": `" ++ d.word
+    ++ codes "`: " ++ doubt_text d.doubt ++ codes "\n"
 
-abbrev pub doubts_text : List Doubtful → List ℕ
-doubts_text found = flat_map doubt_line found
+abbrev pub doubts_text : (file : Option (List ℕ)) → List Doubtful → List ℕ
+doubts_text file found = flat_map (doubt_line file) found
 
--- What is printed for a text: its faults, or its doubts.
-abbrev pub lint_text : (text : List ℕ) → List ℕ
-lint_text text = faults_text (faults_of text) ++ doubts_text (doubts_of text)
+-- What is printed for a text: its faults, or its doubts. Where the file is named, each line begins
+-- with its name.
+abbrev pub lint_text : (file : Option (List ℕ)) → (text : List ℕ) → List ℕ
+lint_text file text =
+    faults_text file (faults_of text) ++ doubts_text file (doubts_of text)

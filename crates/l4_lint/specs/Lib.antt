@@ -3,6 +3,7 @@ pub mod Bytes
 pub mod Commands
 pub mod Contexts
 pub mod Doubts
+pub mod Excerpts
 pub mod Faults
 pub mod Forms
 pub mod Inner

@@ -1,6 +1,6 @@
 -- The lines of faults.
-use Rattle.std.specs.Prelude.{ℕ, ◌==◌, if◌then◌else◌, List, [], ◌∷◌, ◌++◌, length, flat_map, codes}
-use Rattle.std.specs.Prelude.{decimal}
+use Rattle.std.specs.Prelude.{ℕ, ◌==◌, if◌then◌else◌, Option, Some, None, List, [], ◌∷◌, ◌++◌}
+use Rattle.std.specs.Prelude.{length, flat_map, codes, decimal}
 use Rattle.std.specs.Char.Escape.{escape_ascii}
 use Rattle.l4_script.specs.declared.text.fault.TextFaultKind.{TextFaultKind}
 use Rattle.l4_script.specs.declared.text.fault.TextFaultKind.TheVariants as kinds
@@ -77,18 +77,21 @@ abbrev pub shown_word : (word : List ℕ) → List ℕ
 shown_word word =
     if length word == 0 then [] else (codes "`" ++ flat_map escape_ascii word ++ codes "`: ")
 
-abbrev pub place_text : (line column : ℕ) → List ℕ
-place_text line column =
+-- A line begins with its place: in words, or with the name of the file, as editors look for it.
+abbrev pub place_text : (file : Option (List ℕ)) → (line column : ℕ) → List ℕ
+place_text None line column =
     codes "line " ++ decimal line ++ codes " column " ++ decimal column ++ codes ": "
+place_text (Some name) line column =
+    name ++ codes ":" ++ decimal line ++ codes ":" ++ decimal column ++ codes ": "
 
-abbrev pub fault_line : Fault → List ℕ
-fault_line f =
-    place_text f.line f.place.column ++ kind_word f.kind ++ codes ": " ++ shown_word f.place.word
-    ++ hint_text f.place.hint ++ codes "\n"
+abbrev pub fault_line : (file : Option (List ℕ)) → Fault → List ℕ
+fault_line file f =
+    place_text file f.line f.place.column ++ kind_word f.kind ++ codes ": "
+    ++ shown_word f.place.word ++ hint_text f.place.hint ++ codes "\n"
 
 -- What is printed for the faults of a text: a line for each. The status is 1 where there is one.
-abbrev pub faults_text : List Fault → List ℕ
-faults_text found = flat_map fault_line found
+abbrev pub faults_text : (file : Option (List ℕ)) → List Fault → List ℕ
+faults_text file found = flat_map (fault_line file) found
 
 abbrev pub status_of : List Fault → ℕ
 status_of [] = 0

@@ -436,10 +436,15 @@ fn mark_word(mark: Mark) -> &'static str
 }
 
 // Appends the line of a doubt.
-fn push_doubt(doubtful: &Doubtful<'_>, out: &mut Vec<u8>) -> Result<(), NoMemory>
-    ensures { OnOk result (out.new.items ≡ out.old.items ++ doubt_line (doubtful_of doubtful.now)) }
+fn push_doubt(
+    file: Option<&str>,
+    doubtful: &Doubtful<'_>,
+    out: &mut Vec<u8>,
+) -> Result<(), NoMemory>
+    ensures { OnOk result (out.new.items ≡
+        out.old.items ++ doubt_line (option_copied file.entry) (doubtful_of doubtful.now)) }
 {
-    push_place(doubtful.line, doubtful.column, out)?;
+    push_place(file, doubtful.line, doubtful.column, out)?;
     out.extend_from_slice(mark_word(doubtful.doubt.mark()).as_bytes())?;
     out.extend_from_slice(b": `")?;
     out.extend_from_slice(doubtful.word)?;
@@ -450,12 +455,16 @@ fn push_doubt(doubtful: &Doubtful<'_>, out: &mut Vec<u8>) -> Result<(), NoMemory
 }
 
 /// Appends a line for each doubt.
-pub(crate) fn push_doubts(found: &[Doubtful<'_>], out: &mut Vec<u8>) -> Result<(), NoMemory>
-    ensures { OnOk result
-        (out.new.items ≡ out.old.items ++ doubts_text (map doubtful_of found.now)) }
+pub(crate) fn push_doubts(
+    file: Option<&str>,
+    found: &[Doubtful<'_>],
+    out: &mut Vec<u8>,
+) -> Result<(), NoMemory>
+    ensures { OnOk result (out.new.items ≡
+        out.old.items ++ doubts_text (option_copied file.entry) (map doubtful_of found.now)) }
 {
     for doubtful in found {
-        push_doubt(doubtful, out)?;
+        push_doubt(file, doubtful, out)?;
     }
     Ok(())
 }

@@ -4,7 +4,8 @@
 //! `Machine::parse` returns. A faulty line is left out, and the lines behind it are judged. `Fault`
 //! has the line, the kind, the column and the word that stands there; its `Hint` says what may
 //! stand there. `lint` prints a line for each. Where a text has no fault, `lint_with_doubts` prints
-//! what is doubtful (`doubts`), and marks what always holds (`law_always`).
+//! what is doubtful (`doubts`), and marks what always holds (`law_always`). `fault_shown` is what a
+//! terminal is shown of the first fault: its line, the line of the text, and marks below the place.
 //!
 //! Memory is taken only for the list of faults and for what is printed.
 //!
@@ -20,6 +21,7 @@ mod bytes;
 mod commands;
 mod contexts;
 pub mod doubts;
+pub mod excerpts;
 pub mod faults;
 mod forms;
 pub mod hints;

@@ -14,7 +14,7 @@ use l4_types::errors::NoMemory;
 use std::alloc::Global;
 
 /// The lines of a text, and last what stands behind its last line end.
-fn parts_of<'a>(alloc: Global, text: &'a [u8]) -> Result<Vec<&'a [u8]>, NoMemory>
+pub(crate) fn parts_of<'a>(alloc: Global, text: &'a [u8]) -> Result<Vec<&'a [u8]>, NoMemory>
     requires { length text.now ≤ 0x10_0000 }
     ensures parts { IfOk result
         (λ parts. map (λ part. part.now) parts.items ≡ parts_of text.now) }
@@ -32,7 +32,7 @@ fn parts_of<'a>(alloc: Global, text: &'a [u8]) -> Result<Vec<&'a [u8]>, NoMemory
 }
 
 /// The line of this number.
-fn line_at<'a>(parts: &[&'a [u8]], number: usize) -> &'a [u8]
+pub(crate) fn line_at<'a>(parts: &[&'a [u8]], number: usize) -> &'a [u8]
     requires { All (λ part. length part.now ≤ 0x10_0000) parts.now }
     ensures value { result.now ≡ line_at (map (λ part. part.now) parts.now) number }
     ensures short { length result.now ≤ 0x10_0000 }

@@ -1,6 +1,7 @@
 //! The lines of faults.
 ghost use Rattle.std.specs.Prelude.{◌≡◌, ◌++◌, codes, decimal, flat_map, map, OnOk};
 ghost use Rattle.std.specs.Char.Escape.{escape_ascii};
+ghost use Rattle.std.specs.Option.{option_copied};
 ghost use Rattle.l4_lint.specs.Spelling.{kind_word, operand_text, lines_text, hint_text};
 ghost use Rattle.l4_lint.specs.Spelling.{shown_word, place_text, fault_line, faults_text};
 ghost use Rattle.l4_lint.specs.Inner.Views.{fault_of};
@@ -124,21 +125,35 @@ pub fn push_shown(word: &[u8], out: &mut Vec<u8>) -> Result<(), NoMemory>
     Ok(())
 }
 
-/// Appends the numbers of a line and a column.
-pub(crate) fn push_place(line: usize, column: usize, out: &mut Vec<u8>) -> Result<(), NoMemory>
-    ensures { OnOk result (out.new.items ≡ out.old.items ++ place_text line column) }
+/// Appends the numbers of a line and a column, behind the name of the file where it is named.
+pub(crate) fn push_place(
+    file: Option<&str>,
+    line: usize,
+    column: usize,
+    out: &mut Vec<u8>,
+) -> Result<(), NoMemory>
+    ensures { OnOk result
+        (out.new.items ≡ out.old.items ++ place_text (option_copied file.entry) line column) }
 {
     let mut place = String::new(*out.allocator());
-    write!(place, "line {line} column {column}: ")?;
+    match file {
+        None => write!(place, "line {line} column {column}: ")?,
+        Some(name) => write!(place, "{name}:{line}:{column}: ")?,
+    }
     out.extend_from_slice(place.as_bytes())?;
     Ok(())
 }
 
 /// Appends the line of a fault.
-fn push_fault(fault: &Fault<'_>, out: &mut Vec<u8>) -> Result<(), NoMemory>
-    ensures { OnOk result (out.new.items ≡ out.old.items ++ fault_line (fault_of fault.now)) }
+pub(crate) fn push_fault(
+    file: Option<&str>,
+    fault: &Fault<'_>,
+    out: &mut Vec<u8>,
+) -> Result<(), NoMemory>
+    ensures { OnOk result (out.new.items ≡
+        out.old.items ++ fault_line (option_copied file.entry) (fault_of fault.now)) }
 {
-    push_place(fault.line, fault.place.column, out)?;
+    push_place(file, fault.line, fault.place.column, out)?;
     out.extend_from_slice(kind_word(fault.kind).as_bytes())?;
     out.extend_from_slice(b": ")?;
     push_shown(fault.place.word, out)?;
@@ -148,12 +163,16 @@ fn push_fault(fault: &Fault<'_>, out: &mut Vec<u8>) -> Result<(), NoMemory>
 }
 
 /// Appends a line for each fault.
-pub(crate) fn push_faults(found: &[Fault<'_>], out: &mut Vec<u8>) -> Result<(), NoMemory>
-    ensures { OnOk result
-        (out.new.items ≡ out.old.items ++ faults_text (map fault_of found.now)) }
+pub(crate) fn push_faults(
+    file: Option<&str>,
+    found: &[Fault<'_>],
+    out: &mut Vec<u8>,
+) -> Result<(), NoMemory>
+    ensures { OnOk result (out.new.items ≡
+        out.old.items ++ faults_text (option_copied file.entry) (map fault_of found.now)) }
 {
     for fault in found {
-        push_fault(fault, out)?;
+        push_fault(file, fault, out)?;
     }
     Ok(())
 }

@@ -57,6 +57,7 @@ fn on_words<
     rt: &R,
     words: &[&str],
     is_terminal: bool,
+    explains: bool,
     input: I,
     out: &mut W,
     faults: &mut E,
@@ -71,7 +72,7 @@ fn on_words<
                 input_name: STANDARD_INPUT,
             };
             let alloc = rt.alloc();
-            perform_on_files(rt, alloc, &folder, &job, out, faults, progress)
+            perform_on_files(rt, alloc, &folder, explains, &job, out, faults, progress)
         }
         Err(fault) => refuse(rt.alloc(), &fault, out, faults),
     }
@@ -87,7 +88,15 @@ fn run_program<
     W: Sink,
     E: Sink,
     P: Progress,
->(rt: &R, is_terminal: bool, input: I, out: &mut W, faults: &mut E, progress: &mut P) -> u8 {
+>(
+    rt: &R,
+    is_terminal: bool,
+    explains: bool,
+    input: I,
+    out: &mut W,
+    faults: &mut E,
+    progress: &mut P,
+) -> u8 {
     let args = match env::args(rt) {
         Ok(args) => args,
         Err(error) if matches!(error.kind(), io::ErrorKind::OutOfMemory) => {
@@ -107,6 +116,7 @@ fn run_program<
             rt,
             words.as_slice(),
             is_terminal,
+            explains,
             input,
             out,
             faults,
@@ -124,6 +134,7 @@ fn main(rt: HostRuntime) -> ExitCode {
     ExitCode::from(run_program(
         &rt,
         is_terminal,
+        is_shown,
         rt.stdin(),
         &mut rt.stdout(),
         &mut rt.stderr(),

@@ -14,7 +14,7 @@ returns-clause-performed g c =
     inr (
       record { machine = files.machine; second = files.second; expects = files.expects },
       c.in-Ok.ensures.ok,
-      performed_as job (GivenGives gives files.machine) (GivenGives gives files.second) (GivenGives gives files.expects) _
+      performed_as c.args.explains job (GivenGives gives files.machine) (GivenGives gives files.second) (GivenGives gives files.expects) _
           (IsWrittenApart tells writes (Some (file_of job)) (second_file_of job) (expected_of job)) _ (Unit {0}) _ _ _ _ c.perform_over.result
           (λ name bytes all. apart_as tells writes _ _ _ _ _ _ name bytes all c.file.ensures c.second_file.ensures c.expected.ensures) (λ same. tt)
           c.perform_over.ensures.performed,
@@ -22,7 +22,7 @@ returns-clause-performed g c =
 
 pub returns-clause-headline : goal.returns-clause-headline
 returns-clause-headline g c = λ right.
-    (c.in-Ok.files.machine, c.in-Ok.ensures.ok.machine, performed_true c.args.job.now _ _ _ _ c.perform_over.result c.perform_over.ensures.performed right)
+    (c.in-Ok.files.machine, c.in-Ok.ensures.ok.machine, performed_true c.args.explains c.args.job.now _ _ _ _ c.perform_over.result c.perform_over.ensures.performed right)
 
 pub returns-clause-statuses : goal.returns-clause-statuses
-returns-clause-statuses g c = performed_status c.args.job.now _ _ _ _ _ c.perform_over.ensures.performed
+returns-clause-statuses g c = performed_status c.args.explains c.args.job.now _ _ _ _ _ c.perform_over.ensures.performed

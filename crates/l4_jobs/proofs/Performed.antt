@@ -1,6 +1,7 @@
 -- What was written of a job.
-use Rattle.std.proofs.Common.{◌≡◌, ℕ, Bool, true, false, Option, Some, None, Result, Ok, Err, List, ◌++◌, refl, ap, sym, subst, inl, inr}
+use Rattle.std.proofs.Common.{◌≡◌, ℕ, Bool, true, false, Option, Some, None, Result, Ok, Err, List, [], ◌++◌, refl, ap, sym, subst, inl, inr}
 use Rattle.std.specs.Prelude.{◌⊎◌}
+use Rattle.std.specs.declared.io.ErrorKind.{ErrorKind}
 use Rattle.l4_model.specs.Machine.{Machine}
 use Rattle.l4_expect.specs.Expected.{Expected}
 use Rattle.l4_core_model.specs.Runs.{Run as CoreRun}
@@ -17,7 +18,7 @@ use Rattle.l4_jobs.specs.Inner.Reading.{IsReadAs}
 use Rattle.l4_jobs.specs.Jobs.{IsDone, IsDoneFor, IsDoneOn, IsFaultFor, IsInLinesFor, IsStatusOf, IsTrueBy, IsTrueFor, IsTrueShown, is_lint, printed_of}
 use Rattle.l4_jobs.specs.Objects.{is_retold, told}
 use Rattle.l4_jobs.specs.Outputs.{Output}
-use Rattle.l4_jobs.specs.Performing.{IsKeptOut, IsLinesOut, IsPerformed, IsTrulyDone, IsUnwritten, IsWrittenOut, Sinks, Takes, sinks}
+use Rattle.l4_jobs.specs.Performing.{AreUnopened, IsKeptOut, IsLinesOut, IsPerformed, IsPerformedOn, IsTrulyDone, IsUnwritten, IsWrittenOut, Sinks, Takes, sinks}
 use Rattle.l4_jobs.specs.Runs.{IsRunDone, report_of, status_of_ending}
 use Rattle.l4_jobs.specs.Explanations.{IsExplained, told_line}
 use Rattle.l4_jobs.specs.FaultLines.{IsReported, fault_line}
@@ -107,6 +108,16 @@ unread_told explains job machine second expects file text f s status names fails
     by (inl told) =
         inl (text, f, inr (inl (subst (λ name. FailsWith name machine f) names fails)), (kept, left, subst (λ name. IsExplained explains name text s.faults f) names told, one))
     by (inr told) = inl (text, fault.NoMemory, inl refl, (kept, left, subst (λ name. IsExplained explains name text s.faults fault.NoMemory) names told, one))
+
+-- And so is that of a file that can't be opened.
+pub unopened_told : {File : Type 0} (opens : List ℕ → Result File ErrorKind → Type 0) (gives : File → Gives) (explains : Bool) (job : Job) (file : List ℕ)
+    (f : Fault) (s : Sinks) (status : ℕ) → file ≡ file_of job → AreUnopened opens job f → s.keeps_list → s.keeps_out →
+    IsExplained explains file [] s.faults f ⊎ IsExplained explains file [] s.faults fault.NoMemory → status ≡ 1 → IsPerformedOn opens gives explains job s status
+unopened_told opens gives explains job file f s status names unopened kept left told one = by told
+  where
+    by : IsExplained explains file [] s.faults f ⊎ IsExplained explains file [] s.faults fault.NoMemory → IsPerformedOn opens gives explains job s status
+    by (inl told) = inl (f, inr unopened, (kept, left, subst (λ name. IsExplained explains name [] s.faults f) names told, one))
+    by (inr told) = inl (fault.NoMemory, inl refl, (kept, left, subst (λ name. IsExplained explains name [] s.faults fault.NoMemory) names told, one))
 
 -- The exit status
 

@@ -1,4 +1,3 @@
-use Rattle.std.proofs.Common.{refl}
 use Rattle.std.specs.Option.{option_copied}
 use Rattle.l4_chart.specs.Charts.{drawn_of}
 use Rattle.l4_jobs.specs.ChartJobs.{drawing_form, part_of, text_width}

@@ -1,8 +1,21 @@
-use Rattle.std.proofs.Common.{Some, inr}
+use Rattle.std.proofs.Common.{◌≡◌, Some, inr, refl}
 use Rattle.l4_commands.specs.Files.{expected_of, file_of, second_file_of}
+use Rattle.l4_jobs.specs.Performing.{sinks}
 use Rattle.l4_jobs.specs.Streams.{GivenGives, IsWrittenApart}
-use Rattle.l4_jobs.proofs.Performed.{apart_as, performed_as, performed_status, performed_true}
+use Rattle.l4_jobs.proofs.Performed.{apart_as, performed_as, performed_status, performed_true, unopened_told}
 use Rattle.l4_jobs.proofs.perform.perform_on_files.Goals as goal
+
+pub returns-in-Err-clause-performed : goal.returns-in-Err-clause-performed
+returns-in-Err-clause-performed g c =
+    let tells = g.F.Folder.tells_same c.args.folder.now in
+    let writes = g.F.Folder.writes c.args.folder.now in
+    let job = c.args.job.now in
+    let list = IsWrittenApart tells writes (Some (file_of job)) (second_file_of job) (expected_of job) in
+    let out = g.W.Sink.takes c.args.out.now c.args.out.now in
+    let faults = g.E.Sink.takes c.args.faults.now c.tell.new.faults in
+    unopened_told (g.F.Folder.opens c.args.folder.now) g.F.File.Source.gives c.args.explains job c.file.result.now c.in-Err.fault
+    (sinks list (Unit {0}) out (c.args.out.now ≡ c.args.out.now) faults (c.tell.new.faults ≡ c.args.faults.now)) c.tell.result c.file.ensures c.in-Err.ensures.err tt
+    refl c.tell.ensures.told c.tell.ensures.status
 
 pub returns-clause-performed : goal.returns-clause-performed
 returns-clause-performed g c =
@@ -16,7 +29,7 @@ returns-clause-performed g c =
       c.in-Ok.ensures.ok,
       performed_as c.args.explains job (GivenGives gives files.machine) (GivenGives gives files.second) (GivenGives gives files.expects) _
           (IsWrittenApart tells writes (Some (file_of job)) (second_file_of job) (expected_of job)) _ (Unit {0}) _ _ _ _ c.perform_over.result
-          (λ name bytes all. apart_as tells writes _ _ _ _ _ _ name bytes all c.file.ensures c.second_file.ensures c.expected.ensures) (λ same. tt)
+          (λ name bytes all. apart_as tells writes _ _ _ _ _ _ name bytes all c.file-2.ensures c.second_file.ensures c.expected.ensures) (λ same. tt)
           c.perform_over.ensures.performed,
     )
 

@@ -27,8 +27,8 @@ import module  # noqa: E402
 WORKER = ["../module/call.js", "reading.js", "possible.js", "worker.js"]
 SCRIPT = [
     "reading.js",
-    "places.js",
     "words.js",
+    "meaning.js",
     "circle.js",
     "address.js",
     "program.js",

@@ -42,8 +42,8 @@ let busySince = 0;
 let clock = 0;
 // How far a search has come, as the program says that on a terminal: once a second, and at its end nothing.
 function onTold(line) {
-    const [, number, depth] = line.match(/looked at (\d+) states, depth (\d+)/) ?? [];
-    if (number) $("sofar").textContent = `${sizeText(number, "state")} so far, ${depth} deep`;
+    const [, number, waiting, depth] = line.match(/looked at (\d+) states, (\d+) wait, depth (\d+)/) ?? [];
+    if (number) $("sofar").textContent = `${sizeText(number, "state")} so far, ${Number(waiting).toLocaleString("en")} to go on from, ${depth} deep`;
 }
 function onBusy(isBusy) {
     $("stop").disabled = !isBusy;
@@ -119,11 +119,13 @@ async function lint() {
     document.body.dataset.linted = `${mine}`;
 }
 
-// Tells what stands at the line of the caret.
+// Tells what stands at the line of the caret: its marks, or what it says where the text has no fault.
 function tellLine(line) {
     const marks = editor.marks.filter((mark) => mark.line === line);
-    const all = editor.marks.length ? `; ${counted(editor.marks.length, "mark")} in all` : "; no fault, no doubt";
-    const text = `line ${line}${marks.length ? `: ${marks.map(({ hint }) => hint).join("; ")}` : all}`;
+    const all = editor.marks.length ? counted(editor.marks.length, "mark") : "no fault, no doubt";
+    const meaning = editor.marks.every(({ isDoubt }) => isDoubt) ? lineMeaning(editor.text, line) : "";
+    const said = [...(meaning ? [meaning] : []), ...marks.map(({ hint }) => hint)].join("; ");
+    const text = said ? `line ${line}: ${said}` : `line ${line}; ${all}. Click a line to read what it says.`;
     $("atline").className = `atline ${marks.length ? Editor.tone(marks[0]) : ""}`;
     if ($("atline").textContent !== text) $("atline").textContent = text;
 }
@@ -312,8 +314,8 @@ const VERBS = {
         tab("steps");
         await run();
     },
-    stuck: () => search(true),
-    endings: () => search(false),
+    stuck: () => searchAll(true),
+    endings: () => searchAll(false),
     report,
 };
 const verb = (name) =>
@@ -443,7 +445,11 @@ function wireTabs() {
         if (by) tab(TABS[(TABS.indexOf(doc.tab) + by + TABS.length) % TABS.length], true);
     });
     onSubmit("only", () => search($("onlystuck").checked));
-    on("searchagain", "click", () => search($("onlystuck").checked));
+    on("searchagain", "click", () => searchAgain());
+    onSubmit("moments", askForMoment);
+    for (const name of ["focus", "pointerdown"]) on("lineof", name, offerLines);
+    on("bylines", "toggle", offerLines);
+    for (const it of document.querySelectorAll("[data-line]")) it.addEventListener("click", () => writeLine(it.dataset.line));
     onSubmit("command", () => command($("words").value));
     on("copy", "click", () => copied(printed, "output copied"));
     on("saveout", "click", () => saved(`${stem()}.txt`, printed));
@@ -535,7 +541,6 @@ async function start() {
     const module = await bytesThrough(bytesOf64($("packed").textContent), new DecompressionStream("gzip"));
     const limit = () => Math.max(16, Number($("memory").value) || 3072) * 2 ** 20;
     program = new Program(await WebAssembly.compile(module), { onBusy, onTold, limit });
-    await guarded(askForSearches);
     await guarded(follow);
     document.body.dataset.ready = "yes";
 }

@@ -13,6 +13,8 @@ const STATUS = { 0: "0, ended", 1: "1, a fault", 2: "2, wrong usage", 3: "3, mor
 
 // A status of a command whose output is no answer.
 const isFault = (made) => made.status === 1 || made.status === 2;
+// The line of a fault, behind which lines may explain it.
+const faultOf = (made) => made.faults.split("\n")[0];
 
 const linesOf = (out) => out.split("\n").slice(0, -1);
 
@@ -23,6 +25,23 @@ function toldOf(out) {
         const { kind, to, line = 0, ...words } = JSON.parse(text);
         return { step: [kind, ...Object.values(words).flat()].join(" "), line: Number(line), to };
     });
+}
+
+// The steps of a trace, each with what the rows of its chart tell of it: the line of the instruction that it runs, or 0, and where a send goes to. A
+// step that is refused has no row.
+function toldOfChart(steps, svg) {
+    const titles = [...svg.matchAll(/<g class="row[^"]*"><title>([^<]*)<\/title>.*<text class="number"/g)].map(([, title]) => title);
+    return steps.map((step, place) => {
+        const [, to, line = 0] = titles[place]?.match(/^\S+ \S+(?: to (\S+))?.*?(?:\(line (\d+)[^()]*\))?$/) ?? [];
+        return { step, line: Number(line), to };
+    });
+}
+
+// The line of the instruction that each thread is in, or ran last; 0 of one that ran none.
+function placesOf(machine, told) {
+    const lines = new Map(machine.threads.map(({ id }) => [id, 0]));
+    for (const { step, line } of told) if (line) lines.set(step.split(" ")[1].split("#")[0], line);
+    return [...lines].map(([id, line]) => ({ id, line }));
 }
 
 // Processors, and threads with their scripts by lines. A text with a fault is read as far as it goes.
@@ -42,6 +61,12 @@ function machineOf(text) {
         }
     });
     return machine;
+}
+
+// How long a finite time is, in microseconds: ten bits times two to the power of the next five. Of other words it is 0.
+function periodOf(time) {
+    const word = Number(time) || 0;
+    return word === 1024 ? 0 : (word & 1023) * 2 ** ((word >> 10) & 31);
 }
 
 // Threads, who waits for whom, circles and deadlocks, and how it ended.
@@ -107,9 +132,10 @@ function headOf(line) {
 }
 
 // The endings that a search printed, and its last line. `isEndless`: nothing ends at all. `forever`: the threads that may be stuck for ever,
-// whether or not the others come to rest, of a program that looks for them; their numbers count on behind those of the endings.
+// whether or not the others come to rest; their numbers count on behind those of the endings. `isByWalk`: a walk at random came to an ending, and no
+// other was looked for.
 function endingsOf(out) {
-    const found = { endings: [], forever: [], isForeverCut: false, last: "", isEndless: false };
+    const found = { endings: [], forever: [], isForeverCut: false, last: "", isEndless: false, isByWalk: false };
     for (const line of linesOf(out)) {
         const head = headOf(line);
         const [, id, steps] = line.match(/^stuck (\S+) for ever, steps (\d+)$/) ?? [];
@@ -118,10 +144,23 @@ function endingsOf(out) {
         else if (line === "stuck for ever: cut") found.isForeverCut = true;
         else if (/^(states|worlds) /.test(line)) found.last = line;
         else if (line.startsWith("no ending")) found.isEndless = true;
+        else if (line.startsWith("found by a walk")) Object.assign(found, { isByWalk: true, last: line });
         else found.endings.at(-1)?.lines.push(line);
     }
     for (const ending of found.endings) ending.report = reportOf(ending.lines.join("\n"));
     return found;
+}
+
+// Whether a world on the way has all lines that were asked for, and such a world: what threads are in, and to whom they send.
+function momentOf(out) {
+    const [head, ...lines] = linesOf(out);
+    const [, steps, orFewer] = head.match(/^met, steps (\d+)( or fewer)?$/) ?? [];
+    const report = reportOf(lines.join("\n"));
+    for (const line of lines) {
+        const [, id, to] = line.match(/^waiting (\S+)#\d+ (\S+)$/) ?? [];
+        if (id && report.byId.has(id)) report.byId.get(id).wait = { to, phase: "send" };
+    }
+    return { isMet: steps !== undefined, steps: Number(steps), isLeast: !orFewer, isCut: head === "not met: cut", report, last: lines.at(-1) ?? "" };
 }
 
 // The marks of `lint`: each has a line, a column, a word and what may stand there, or what is doubtful.
@@ -138,6 +177,11 @@ function marksOf(out) {
             hint,
             isDoubt: kind === "always" || kind === "perhaps",
         }));
+}
+// The mark of a fault of the text, as the program explains it on a terminal.
+function faultMarkOf({ faults }) {
+    const [, line, column, said] = faults.match(/^m\.l4:(\d+):(\d+): (.*)$/m) ?? [];
+    return line && marksOf(`line ${line} column ${column}: ${said}\n`)[0];
 }
 function markText({ kind, word, hint, isDoubt }) {
     const named = word ? `\`${word}\`: ` : "";

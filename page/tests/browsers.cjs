@@ -246,10 +246,15 @@ class Firefox extends Browser {
     async size(width, height) {
         // A window is not made narrower than its own buttons want, unless that is taken back.
         await this.inChrome("document.documentElement.style.minWidth = '0'; document.documentElement.style.minHeight = '0';");
-        const set = (w, h) => this.send("WebDriver:SetWindowRect", { width: w, height: h });
-        await set(width, height);
-        const { value } = await this.send("WebDriver:ExecuteScript", { script: "return [innerWidth, innerHeight]", args: [] });
-        await set(2 * width - value[0], 2 * height - value[1]);
+        const script = "return [innerWidth, innerHeight, outerWidth - innerWidth, outerHeight - innerHeight]";
+        // A window comes to its size some time after it was asked to.
+        for (let tries = 0; tries < 100; tries += 1) {
+            const [wide, high, right, below] = (await this.send("WebDriver:ExecuteScript", { script, args: [] })).value;
+            if (wide === width && high === height) return;
+            await this.send("WebDriver:SetWindowRect", { width: width + right, height: height + below });
+            await sleep(50);
+        }
+        throw new Error(`the window does not come to ${width} by ${height}`);
     }
 
     dark(isDark) {

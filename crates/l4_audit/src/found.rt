@@ -5,7 +5,7 @@ ghost use Rattle.l4_model.specs.Machine.{Machine, declaration_of, same_cpu, most
 ghost use Rattle.l4_model.specs.World.{is_ready, is_deleted, receive_now};
 ghost use Rattle.l4_model.specs.Conditions.{instruction, act_of, may_still_accept, call_accepts};
 ghost use Rattle.l4_model.specs.Conditions.{is_elsewhere};
-ghost use Rattle.l4_model.specs.Rules.{accepts, destination, ask_act};
+ghost use Rattle.l4_model.specs.Rules.{accepts, id_from, ask_act};
 ghost use Rattle.l4_model.specs.Steps.{runs_alone, send_of, receive_of, order_of, receive_passed};
 ghost use Rattle.l4_types.specs.StepView.{order_kind_of};
 ghost use Rattle.l4_audit.specs.Inner.Delivering.{IsFound};
@@ -130,7 +130,7 @@ impl<'a> Found<'a> {
 
     // Where an Ipc of it sends to.
     fn destination(&self, to: To) -> ThreadId
-        ensures { result ≡ destination self.now.now.context (to_of to) }
+        ensures { result ≡ id_from self.now.now.context (to_of to) }
     {
         match to {
             To::Id(id) => id,
@@ -167,7 +167,7 @@ impl<'a> Found<'a> {
     // Whether an Ipc of it has a phase.
     fn has_phase(&self, ipc: &Ipc) -> bool
         ensures { result ≡
-            has_phase (destination self.now.now.context (to_of ipc.now.to)) ipc.now.from }
+            has_phase (id_from self.now.now.context (to_of ipc.now.to)) ipc.now.from }
     {
         self.destination(ipc.to()) != ThreadId::NIL || ipc.from() != ThreadId::NIL
     }

@@ -5,7 +5,7 @@ use Rattle.l4_model.specs.Words.{GlobalId, Id, NilThread, AnyThread, AnyLocalThr
 use Rattle.l4_model.specs.Machine as model
 use Rattle.l4_model.specs.Machine.{Declaration, Machine, Instr}
 use Rattle.l4_model.specs.World.{Context, Receive, Send, Thread, Ready, changed, is_deleted}
-use Rattle.l4_model.specs.Rules.{Act, RunsAlone, Sends, Receives, Orders, act, ask_act, destination, originator, receive_phase, is_admitted}
+use Rattle.l4_model.specs.Rules.{Act, RunsAlone, Sends, Receives, Orders, act, ask_act, id_from, originator, receive_phase, is_admitted}
 use Rattle.l4_model.specs.Conditions.{act_of, instruction}
 use Rattle.l4_model.specs.Effects.{begins, waits}
 use Rattle.l4_types.specs.Ids.{global_of}
@@ -40,8 +40,8 @@ block_id s i old k lt at = read-id s.threads.items s.machine.now.threads i old k
 
 -- A send that an instruction asks for is its thread's own.
 own_act : (m : Machine) (id : GlobalId) (now : ℕ) (c : Context) (i : Instr) (send : Send) → act m id now c i ≡ Sends send → send.message.actual ≡ id
-own_act m id now c (model.Ipc to from send_period receive_period) send e = own_message m id now c (destination c to) send_period (receive_phase from receive_period) send e
-own_act m id now c (model.Ask target what) send e = no_send target e
+own_act m id now c (model.Ipc to from send_period receive_period) send e = own_message m id now c (id_from c to) send_period (receive_phase (id_from c from) receive_period) send e
+own_act m id now c (model.Ask target what) send e = no_send (id_from c target) e
   where
     by : (b : Bool) (order : _) → (cond b (Orders order) RunsAlone) ≡ Sends send → send.message.actual ≡ id
     by true order e = cc

@@ -7,7 +7,7 @@ use Rattle.std.proofs.lemmas.Bool.{and_parts, or_from, or_parts, ltb-true, leb-t
 use Rattle.std.proofs.lemmas.List.{length-take}
 use Rattle.std.proofs.lemmas.Slice.Eq.{bytes_eq-Decides}
 use Rattle.l4_model.specs.Words.{Format, GlobalId, Id, NilThread, AnyThread, AnyLocalThread, LocalThread, GlobalThread, same_id, last_register}
-use Rattle.l4_model.specs.Machine.{Machine, Declaration, Assign, Instr, Run, Tag, Vs, Ipc, Ask, Jump, OnErr, End, place_of, instruction_at}
+use Rattle.l4_model.specs.Machine.{Machine, Declaration, IdFrom, Fixed, Last, InRegister, Assign, Instr, Run, Tag, Vs, Ipc, Ask, Jump, OnErr, OnLabel, OnWord, OnFrom, End, place_of, instruction_at}
 use Rattle.l4_model.specs.World.{World, Message, Context, Name, opening}
 use Rattle.l4_model.specs.Rules.{permitted, originator, message_of, register, received_tag, is_cross, bit}
 use Rattle.l4_model.specs.Steps.{Step, Deliver, next}
@@ -18,7 +18,7 @@ use Rattle.l4_model.proofs.Places.{same_id_is, known_send, eqb_same}
 use Rattle.l4_model.proofs.Requests.{message_short}
 use Rattle.l4_script.specs.Canonical.{can_be_assigned, can_be_written, is_register}
 use Rattle.l4_lint.specs.Always.{delivers_register, delivers_propagated}
-use Rattle.l4_lint.specs.Doubts.{uses, receives, names_originator, asks_to_propagate}
+use Rattle.l4_lint.specs.Doubts.{uses, may_receive, is_taken_from, names_originator, asks_to_propagate}
 use Rattle.l4_lint.proofs.Changes.{Each, step_each, sender_fact}
 use Rattle.l4_lint.proofs.Silent.{Allows, IsClosed, Silent, is_kept, opening_silent}
 
@@ -63,12 +63,14 @@ each_allowed C p q (i ∷ script) allow none all zero = allow i (or_parts (p i) 
 each_allowed C p q (i ∷ script) allow none all (suc place) =
     each_allowed C p q script allow (or_parts (p i) (list_any p script) none).1 (and_parts (q i) (list_all q script) all).1 place
 
-receives_nothing : (from : Id) → receives from ≡ false → from ≡ NilThread
-receives_nothing NilThread h = refl
-receives_nothing AnyThread h = cc
-receives_nothing AnyLocalThread h = cc
-receives_nothing (LocalThread word) h = cc
-receives_nothing (GlobalThread t) h = cc
+receives_nothing : (from : IdFrom) → may_receive from ≡ false → from ≡ Fixed NilThread
+receives_nothing (Fixed NilThread) h = refl
+receives_nothing (Fixed AnyThread) h = cc
+receives_nothing (Fixed AnyLocalThread) h = cc
+receives_nothing (Fixed (LocalThread word)) h = cc
+receives_nothing (Fixed (GlobalThread t)) h = cc
+receives_nothing Last h = cc
+receives_nothing (InRegister format a) h = cc
 
 written_above : (a : ℕ) → is_register a ≡ true → 0 < a
 written_above a h = let le : 1 ≤ a = leb-true 1 a (and_parts (nat_le 1 a) (nat_le a last_register) h).0 in omega (arith, le)
@@ -84,11 +86,15 @@ Short r d message = length message.words < r
 uses_allows : (f : Format) (size r : ℕ) (d : Declaration) (i : Instr) → uses r i ≡ false → can_be_written f size i ≡ true → Allows (Below r d) i
 uses_allows f size r d (Run (Assign a value)) u w = written_above a (and_parts (is_register a) (can_be_assigned f value) w).0
 uses_allows f size r d (Tag word) u w = λ tag actual h. let lt : word % 64 < r = leb-false r (word % 64) u in lt
-uses_allows f size r d (Vs id) u w = λ tag actual h. h
-uses_allows f size r d (Ipc to from send_period receive_period) u w = receives_nothing from u
+uses_allows f size r d (Vs from) u w = λ tag actual h c. h
+uses_allows f size r d (Ipc to from send_period receive_period) u w =
+    receives_nothing from (or_parts (may_receive from) (is_taken_from r to) u).0
 uses_allows f size r d (Ask target what) u w = tt
 uses_allows f size r d (Jump place) u w = tt
 uses_allows f size r d (OnErr place) u w = tt
+uses_allows f size r d (OnLabel label place) u w = tt
+uses_allows f size r d (OnWord a word place) u w = tt
+uses_allows f size r d (OnFrom id place) u w = tt
 uses_allows f size r d End u w = tt
 
 register_closed : (m : Machine) (f : Format) (size r : ℕ) (d : Declaration) → 0 < r → list_any (uses r) d.script ≡ false →
@@ -143,11 +149,16 @@ names_allows : (m : Machine) (d : Declaration) (f : Format) (size : ℕ) (i : In
     Allows (Unnamed m d) i
 names_allows m d f size (Run (Assign a value)) u w = written_above a (and_parts (is_register a) (can_be_assigned f value) w).0
 names_allows m d f size (Tag word) u w = λ tag actual h. h
-names_allows m d f size (Vs id) u w = λ tag actual h. is_none (permitted m d.id id) u
+names_allows m d f size (Vs (Fixed id)) u w = λ tag actual h c. is_none (permitted m d.id id) u
+names_allows m d f size (Vs Last) u w = cc
+names_allows m d f size (Vs (InRegister format a)) u w = cc
 names_allows m d f size (Ipc to from send_period receive_period) u w = receives_nothing from u
 names_allows m d f size (Ask target what) u w = tt
 names_allows m d f size (Jump place) u w = tt
 names_allows m d f size (OnErr place) u w = tt
+names_allows m d f size (OnLabel label place) u w = tt
+names_allows m d f size (OnWord a word place) u w = tt
+names_allows m d f size (OnFrom id place) u w = tt
 names_allows m d f size End u w = tt
 
 own_message : (m : Machine) (d : Declaration) (c : Context) → permitted m d.id c.actual ≡ None → IsOwn d (message_of m d.id c)

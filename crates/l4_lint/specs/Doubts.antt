@@ -3,7 +3,7 @@ use Rattle.std.specs.Prelude.{ℕ, ◌+◌, ◌-◌, ◌/◌, ◌%◌, ◌^◌, 
 use Rattle.std.specs.List.{list_any}
 use Rattle.std.specs.Str.{bytes_eq}
 use Rattle.l4_model.specs.Words.{GlobalId, Id, NilThread, Period}
-use Rattle.l4_model.specs.Machine.{Declaration, Instr, Copy, Tag, Vs, Ipc, Machine, place_of}
+use Rattle.l4_model.specs.Machine.{Declaration, IdFrom, Fixed, InRegister, Instr, Copy, Tag, Vs, Ipc, Ask, OnWord, Machine, place_of}
 use Rattle.l4_model.specs.Rules.{permitted}
 use Rattle.l4_words.specs.Lines.{parts_of}
 use Rattle.l4_words.specs.Threads.{thread_of}
@@ -73,17 +73,30 @@ ipc_doubts m number line to =
     id_doubts m number line to ++ id_doubts m number line (behind to)
     ++ answer_doubts number line to (behind (behind to))
 
--- A register that is written, but neither sent by a tag of the script nor copied. A script that
--- receives may send as many registers as its last message had.
+-- A register that is written, but neither sent by a tag of the script, nor copied, tested or taken
+-- for an id. A script that receives may send as many registers as its last message had.
 
 abbrev pub receives : Id → Bool
 receives NilThread = false
 receives _ = true
 
+-- `last` and a register may have any id.
+abbrev pub may_receive : IdFrom → Bool
+may_receive (Fixed id) = receives id
+may_receive from = true
+
+abbrev pub is_taken_from : (register : ℕ) → IdFrom → Bool
+is_taken_from register (InRegister format a) = a == register
+is_taken_from register from = false
+
 abbrev pub uses : (register : ℕ) → Instr → Bool
 uses register (Tag word) = nat_le register (word % 64)
 uses register (Copy to from) = from == register
-uses register (Ipc to from send_period receive_period) = receives from
+uses register (OnWord a word place) = a == register
+uses register (Vs from) = is_taken_from register from
+uses register (Ask target what) = is_taken_from register target
+uses register (Ipc to from send_period receive_period) =
+    may_receive from || is_taken_from register to
 uses register _ = false
 
 abbrev pub number_in : (rest : List ℕ) → ℕ
@@ -100,8 +113,9 @@ abbrev pub asks_to_propagate : (word : ℕ) → Bool
 asks_to_propagate word = (word / 2 ^ 12) % 2 == 1
 
 abbrev pub names_originator : Machine → GlobalId → Instr → Bool
-names_originator m sender (Vs id) = is_some (permitted m sender id)
-names_originator m sender (Ipc to from send_period receive_period) = receives from
+names_originator m sender (Vs (Fixed id)) = is_some (permitted m sender id)
+names_originator m sender (Vs from) = true
+names_originator m sender (Ipc to from send_period receive_period) = may_receive from
 names_originator m sender _ = false
 
 abbrev pub tag_doubts : Machine → Declaration → (number : ℕ) → (line rest : List ℕ) → List Doubtful

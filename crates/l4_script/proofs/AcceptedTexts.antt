@@ -6,7 +6,7 @@ use Rattle.std.proofs.lemmas.Bool.{lt-ltb, le-leb, ltb-true, ltb-false, eq-eqb, 
 use Rattle.std.proofs.lemmas.List.{length_push, length-set, get_or_push, get_or_append_left, get_or-set_same, get_or-set_other}
 use Rattle.std.proofs.lemmas.List.Folds.{list_all-append, list_any-append}
 use Rattle.l4_model.specs.Words.{Format, is_global_in}
-use Rattle.l4_model.specs.Machine.{Assign, Instr, Run, Tag, Vs, Ipc, Ask, Jump, OnErr, End, Declaration, Machine}
+use Rattle.l4_model.specs.Machine.{Assign, Instr, Run, Tag, Vs, Ipc, Ask, Jump, OnErr, OnLabel, OnWord, OnFrom, End, Declaration, Machine}
 use Rattle.l4_core_model.specs.Local.{declared, undeclared}
 use Rattle.l4_core_model.specs.Runs.{IsMachine}
 use Rattle.l4_script.specs.declared.text.fault.TextFault.{TextFault}
@@ -253,11 +253,14 @@ instruction_hit : (f : Format) (targets : List Target) (m : Machine) (place : �
     → can_be_written f (length (declared m place).script) instr ≡ true
 instruction_hit f targets m place (Run (Assign register value)) hits said kept = said
 instruction_hit f targets m place (Tag word) hits said kept = said
-instruction_hit f targets m place (Vs id) hits said kept = said
+instruction_hit f targets m place (Vs from) hits said kept = said
 instruction_hit f targets m place (Ipc to from send receive) hits said kept = said
 instruction_hit f targets m place (Ask target what) hits said kept = said
 instruction_hit f targets m place (Jump to) hits said kept = target_hit targets m place to hits kept
 instruction_hit f targets m place (OnErr to) hits said kept = target_hit targets m place to hits kept
+instruction_hit f targets m place (OnLabel label to) hits said kept = said
+instruction_hit f targets m place (OnWord register word to) hits said kept = said
+instruction_hit f targets m place (OnFrom id to) hits said kept = said
 instruction_hit f targets m place End hits said kept = refl
 
 script_hit : (f : Format) (targets : List Target) (m : Machine) (place : ℕ) (script : List Instr) → list_any (is_missed m) targets ≡ false → list_all (is_said f) script ≡ true → list_all (is_kept targets place) script ≡ true

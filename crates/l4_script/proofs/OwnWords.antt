@@ -4,7 +4,7 @@ use Rattle.std.specs.Prelude.{◌==◌}
 use Rattle.std.specs.List.{list_all}
 use Rattle.std.proofs.lemmas.Bool.{and_parts, and_from}
 use Rattle.l4_model.specs.Words.{Format, is_word_in}
-use Rattle.l4_model.specs.Machine.{Assign, Instr, Run, Tag, Vs, Ipc, Ask, Jump, OnErr, End, Declaration}
+use Rattle.l4_model.specs.Machine.{Assign, Instr, Run, Tag, Vs, Ipc, Ask, Jump, OnErr, OnLabel, OnWord, OnFrom, End, Declaration}
 use Rattle.l4_model.specs.Formats.{gives_words, writes_words}
 use Rattle.l4_script.specs.Canonical.{is_register, has_operand, can_be_assigned, can_be_written, can_be_declared, WritesItsWords}
 use Rattle.l4_script.proofs.Written.{declarable}
@@ -12,11 +12,14 @@ use Rattle.l4_script.proofs.Written.{declarable}
 instruction_writes : (f : Format) (size : ℕ) (i : Instr) → can_be_written f size i ≡ true → writes_words f i ≡ true
 instruction_writes f size (Run (Assign a value)) h = (and_parts (gives_words f value) (has_operand f value) (and_parts (is_register a) (can_be_assigned f value) h).1).0
 instruction_writes f size (Tag word) h = (and_parts (is_word_in f word) (word / 2 ^ 6 % 64 == 0) h).0
-instruction_writes f size (Vs id) h = refl
+instruction_writes f size (Vs from) h = refl
 instruction_writes f size (Ipc to from send receive) h = refl
 instruction_writes f size (Ask target what) h = refl
 instruction_writes f size (Jump place) h = refl
 instruction_writes f size (OnErr place) h = refl
+instruction_writes f size (OnLabel label place) h = refl
+instruction_writes f size (OnWord a word place) h = refl
+instruction_writes f size (OnFrom id place) h = refl
 instruction_writes f size End h = refl
 
 script_writes : (f : Format) (size : ℕ) (script : List Instr) → list_all (can_be_written f size) script ≡ true → list_all (writes_words f) script ≡ true

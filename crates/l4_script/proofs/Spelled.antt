@@ -6,13 +6,13 @@ use Rattle.std.specs.Fmt.{digit_glyph}
 use Rattle.std.specs.Str.Parse.{AllDigits, IsNumeral}
 use Rattle.std.specs.List.{list_all}
 use Rattle.std.specs.Option.{option_map}
-use Rattle.std.proofs.lemmas.Bool.{and_left, and_right, ltb-true, lt-ltb, le-leb, eq-eqb}
+use Rattle.std.proofs.lemmas.Bool.{false≢true, and_left, and_right, ltb-true, lt-ltb, le-leb, eq-eqb}
 use Rattle.std.proofs.lemmas.Bool.Decides.{nat_tests}
 use Rattle.std.proofs.lemmas.List.{length-append}
 use Rattle.std.proofs.lemmas.Fmt.{decimal_is_IsNumeral}
 use Rattle.l4_model.specs.Words.{Format, W64, W32, word_limit, is_word_in, GlobalId, is_global_in, has_word_in, id_by, Id, NilThread, AnyThread, AnyLocalThread, LocalThread, GlobalThread}
 use Rattle.l4_model.specs.Conditions.{◌>>=◌}
-use Rattle.l4_model.specs.Machine.{To, ToId, ToLast}
+use Rattle.l4_model.specs.Machine.{IdFrom, Fixed, Last, InRegister}
 use Rattle.l4_types.proofs.InFormats.{id_of_its_word, is_global_too}
 use Rattle.l4_words.specs.Numbers.{padded_of, with_digit, number_onto}
 use Rattle.l4_words.specs.Threads.{thread_word}
@@ -21,7 +21,7 @@ use Rattle.l4_words.proofs.Spelled.{fits, thread_is_read}
 use Rattle.l4_script.specs.Numbers.{number_of, number_from, word_from}
 use Rattle.l4_script.specs.Ids.{id_digits, raw_id_of, thread_in, spelled_id_of, id_of}
 use Rattle.l4_script.specs.Statements.{destination_of}
-use Rattle.l4_script.specs.Canonical.{low_digits, id_word, to_word, has_destination}
+use Rattle.l4_script.specs.Canonical.{low_digits, id_word, id_from_word, has_destination}
 
 -- Each byte of a word is printable, and no space.
 abbrev pub is_visible : ℕ → Bool
@@ -153,7 +153,8 @@ id_no_last f AnyLocalThread h = refl
 id_no_last f (LocalThread word) h = refl
 id_no_last f (GlobalThread t) h = numeral_no_last (decimal t.number) (codes ".") (decimal t.version) (digits_of_number f t h)
 
-pub destination_read : (f : Format) (to : To) → has_destination f to ≡ true → destination_of f (to_word f to) ≡ Ok to
+pub destination_read : (f : Format) (to : IdFrom) → has_destination f to ≡ true → destination_of f (id_from_word f to) ≡ Ok to
 unfolding destination_of
-destination_read f (ToId id) h = rw (id_no_last f id h, id_read f id h) refl
-destination_read f ToLast h = refl
+destination_read f (Fixed id) h = rw (id_no_last f id h, id_read f id h) refl
+destination_read f Last h = refl
+destination_read f (InRegister format a) h = absurd (false≢true h)

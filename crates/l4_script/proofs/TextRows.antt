@@ -2,7 +2,7 @@
 use Rattle.std.specs.Prelude.{◌≡◌, ℕ, Bool, List, [], ◌∷◌, ◌++◌, map, length, filter, take, is_ok, Option, Some, None, Result, Ok, Err, codes, refl}
 use Rattle.std.specs.List.{flat_map, range_with_len}
 use Rattle.l4_model.specs.Words.{W64, W32, global_id, Id, GlobalThread, LocalThread, NilThread, AnyThread, AnyLocalThread, Period}
-use Rattle.l4_model.specs.Machine.{Instr, Set, Copy, Add, Tag, Vs, Ipc, ToId, ToLast, Ask, CancelSend, CancelReceive, CancelBoth, Delete, Jump, OnErr, End, Declaration, Machine, machine_of, retargeting_machine_of}
+use Rattle.l4_model.specs.Machine.{Instr, Set, Copy, Add, Tag, Vs, Ipc, Fixed, Last, Ask, CancelSend, CancelReceive, CancelBoth, Delete, Jump, OnErr, End, Declaration, Machine, machine_of, retargeting_machine_of}
 use Rattle.l4_script.specs.declared.text.fault.TextFault.{TextFault}
 use Rattle.l4_script.specs.declared.text.fault.TextFaultKind.{TextFaultKind}
 use Rattle.l4_script.specs.declared.text.fault.TextFaultKind.TheVariants.{BadLine, BadNumber, BadId, BadCpu, TypedItems, DoubleId, BadTarget}
@@ -127,10 +127,10 @@ abbrev t_2_65 : Id
 t_2_65 = GlobalThread (global_id 2 65)
 
 abbrev send_to : Id → Instr
-send_to to = Ipc (ToId to) NilThread None None
+send_to to = Ipc (Fixed to) (Fixed NilThread) None None
 
 abbrev receive_from_any : Instr
-receive_from_any = Ipc (ToId NilThread) AnyThread None None
+receive_from_any = Ipc (Fixed NilThread) (Fixed AnyThread) None None
 
 abbrev thread : (number space : ℕ) → List Instr → Declaration
 thread number space script = record { id = global_id number 1; cpu = 0; space = space; script = script }
@@ -182,36 +182,36 @@ instructions =
     ∷ (codes "ipc nil any never never", receive_from_any)
     ∷ (codes "ipc #0000000000000000 #ffffffffffffffff 0x0000 never", receive_from_any)
     -- both phases, one, or none
-    ∷ (codes "ipc 2.1 2.1 never never", Ipc (ToId t_2_1) t_2_1 None None)
-    ∷ (codes "ipc 2.1 any never never", Ipc (ToId t_2_1) AnyThread None None)
-    ∷ (codes "ipc nil 2.1 never never", Ipc (ToId NilThread) t_2_1 None None)
-    ∷ (codes "ipc nil anylocal never never", Ipc (ToId NilThread) AnyLocalThread None None)
-    ∷ (codes "ipc any anylocal zero zero", Ipc (ToId AnyThread) AnyLocalThread (Some 0) (Some 0))
-    ∷ (codes "ipc #0000000000000040 #0000000000000080 never never", Ipc (ToId (LocalThread 64)) (LocalThread 128) None None)
-    ∷ (codes "ipc last nil never never", Ipc ToLast NilThread None None)
-    ∷ (codes "ipc last any 5 0x400", Ipc ToLast AnyThread (Some 5) (Some 0))
+    ∷ (codes "ipc 2.1 2.1 never never", Ipc (Fixed t_2_1) (Fixed t_2_1) None None)
+    ∷ (codes "ipc 2.1 any never never", Ipc (Fixed t_2_1) (Fixed AnyThread) None None)
+    ∷ (codes "ipc nil 2.1 never never", Ipc (Fixed NilThread) (Fixed t_2_1) None None)
+    ∷ (codes "ipc nil anylocal never never", Ipc (Fixed NilThread) (Fixed AnyLocalThread) None None)
+    ∷ (codes "ipc any anylocal zero zero", Ipc (Fixed AnyThread) (Fixed AnyLocalThread) (Some 0) (Some 0))
+    ∷ (codes "ipc #0000000000000040 #0000000000000080 never never", Ipc (Fixed (LocalThread 64)) (Fixed (LocalThread 128)) None None)
+    ∷ (codes "ipc last nil never never", Ipc Last (Fixed NilThread) None None)
+    ∷ (codes "ipc last any 5 0x400", Ipc Last (Fixed AnyThread) (Some 5) (Some 0))
     -- every time, of the send phase and of the receive phase
-    ∷ (codes "ipc 2.1 2.1 zero never", Ipc (ToId t_2_1) t_2_1 (Some 0) None)
-    ∷ (codes "ipc 2.1 2.1 never zero", Ipc (ToId t_2_1) t_2_1 None (Some 0))
-    ∷ (codes "ipc 2.1 2.1 1024 0x7c00", Ipc (ToId t_2_1) t_2_1 (Some 0) (Some 0))
-    ∷ (codes "ipc 2.1 2.1 5 0xc03", Ipc (ToId t_2_1) t_2_1 (Some 5) (Some 24))
-    ∷ (codes "ipc 2.1 2.1 0x7fff 1", Ipc (ToId t_2_1) t_2_1 (Some 2196875771904) (Some 1))
+    ∷ (codes "ipc 2.1 2.1 zero never", Ipc (Fixed t_2_1) (Fixed t_2_1) (Some 0) None)
+    ∷ (codes "ipc 2.1 2.1 never zero", Ipc (Fixed t_2_1) (Fixed t_2_1) None (Some 0))
+    ∷ (codes "ipc 2.1 2.1 1024 0x7c00", Ipc (Fixed t_2_1) (Fixed t_2_1) (Some 0) (Some 0))
+    ∷ (codes "ipc 2.1 2.1 5 0xc03", Ipc (Fixed t_2_1) (Fixed t_2_1) (Some 5) (Some 24))
+    ∷ (codes "ipc 2.1 2.1 0x7fff 1", Ipc (Fixed t_2_1) (Fixed t_2_1) (Some 2196875771904) (Some 1))
     -- every id of the VirtualSender
-    ∷ (codes "vs 2.65", Vs t_2_65)
-    ∷ (codes "vs #0000000200000041", Vs t_2_65)
-    ∷ (codes "vs nil", Vs NilThread)
-    ∷ (codes "vs any", Vs AnyThread)
-    ∷ (codes "vs anylocal", Vs AnyLocalThread)
-    ∷ (codes "vs #0000000000000040", Vs (LocalThread 64))
+    ∷ (codes "vs 2.65", Vs (Fixed t_2_65))
+    ∷ (codes "vs #0000000200000041", Vs (Fixed t_2_65))
+    ∷ (codes "vs nil", Vs (Fixed NilThread))
+    ∷ (codes "vs any", Vs (Fixed AnyThread))
+    ∷ (codes "vs anylocal", Vs (Fixed AnyLocalThread))
+    ∷ (codes "vs #0000000000000040", Vs (Fixed (LocalThread 64)))
     -- orders, of whatever id
-    ∷ (codes "exregs 1.1 S", Ask t_1_1 CancelSend)
-    ∷ (codes "exregs 2.1 R", Ask t_2_1 CancelReceive)
-    ∷ (codes "exregs 2.1 SR", Ask t_2_1 CancelBoth)
-    ∷ (codes "exregs nil S", Ask NilThread CancelSend)
-    ∷ (codes "exregs #0000000200000041 SR", Ask t_2_65 CancelBoth)
-    ∷ (codes "delete 2.1", Ask t_2_1 Delete)
-    ∷ (codes "delete any", Ask AnyThread Delete)
-    ∷ (codes "delete #0000000000000040", Ask (LocalThread 64) Delete)
+    ∷ (codes "exregs 1.1 S", Ask (Fixed t_1_1) CancelSend)
+    ∷ (codes "exregs 2.1 R", Ask (Fixed t_2_1) CancelReceive)
+    ∷ (codes "exregs 2.1 SR", Ask (Fixed t_2_1) CancelBoth)
+    ∷ (codes "exregs nil S", Ask (Fixed NilThread) CancelSend)
+    ∷ (codes "exregs #0000000200000041 SR", Ask (Fixed t_2_65) CancelBoth)
+    ∷ (codes "delete 2.1", Ask (Fixed t_2_1) Delete)
+    ∷ (codes "delete any", Ask (Fixed AnyThread) Delete)
+    ∷ (codes "delete #0000000000000040", Ask (Fixed (LocalThread 64)) Delete)
     ∷ (codes "jump 0", Jump 0)
     ∷ (codes "jump 1", Jump 1)
     ∷ (codes "onerr 0x1", OnErr 1)
@@ -470,9 +470,9 @@ short_instructions =
     ∷ (codes "tag 0xffff003f", Tag 0xffff003f)
     ∷ (codes "ipc #00008001 nil never never", send_to t_2_1)
     ∷ (codes "ipc nil #ffffffff never never", receive_from_any)
-    ∷ (codes "vs 262143.16382", Vs (GlobalThread (global_id 262143 16382)))
-    ∷ (codes "exregs #00008041 SR", Ask t_2_65 CancelBoth)
-    ∷ (codes "delete #00000040", Ask (LocalThread 64) Delete)
+    ∷ (codes "vs 262143.16382", Vs (Fixed (GlobalThread (global_id 262143 16382))))
+    ∷ (codes "exregs #00008041 SR", Ask (Fixed t_2_65) CancelBoth)
+    ∷ (codes "delete #00000040", Ask (Fixed (LocalThread 64)) Delete)
     ∷ (codes "copy 1 0", Copy 1 0)
     ∷ (codes "jump 0x0000000000000001", Jump 1)
     ∷ []

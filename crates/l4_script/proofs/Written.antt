@@ -5,14 +5,14 @@ use Rattle.std.specs.Char.{digit_value}
 use Rattle.std.specs.Fmt.{digit_glyph}
 use Rattle.std.specs.Str.Parse.{AllDigits}
 use Rattle.std.specs.List.{All, list_all, list_any, join_with_byte}
-use Rattle.std.proofs.lemmas.Bool.{agree_below_at, and_parts, and_from, or_from, ltb-true, leb-true, lt-ltb, ne_eqb, not-true, eqb-false}
+use Rattle.std.proofs.lemmas.Bool.{false≢true, agree_below_at, and_parts, and_from, or_from, ltb-true, leb-true, lt-ltb, ne_eqb, not-true, eqb-false}
 use Rattle.std.proofs.lemmas.Bool.Decides.{nat_tests}
 use Rattle.std.proofs.lemmas.List.Elements.{All-nil, All-cons}
 use Rattle.std.proofs.lemmas.List.Folds.{list_all-append}
 use Rattle.std.proofs.lemmas.List.Splits.{slice_split_none, slice_split_at}
 use Rattle.std.proofs.lemmas.Fmt.{decimal_is_IsNumeral}
 use Rattle.l4_model.specs.Words.{Format, W64, W32, word_limit, is_word_in, GlobalId, is_global_in, has_word_in, Id, NilThread, AnyThread, AnyLocalThread, LocalThread, GlobalThread, Period}
-use Rattle.l4_model.specs.Machine.{To, ToId, ToLast, CancelSend, CancelReceive, CancelBoth, Delete, Value, Assign, Instr, Run, Tag, Vs, Ipc, Ask, Jump, OnErr, End, Declaration}
+use Rattle.l4_model.specs.Machine.{IdFrom, Fixed, Last, InRegister, CancelSend, CancelReceive, CancelBoth, Delete, Value, Assign, Instr, Run, Tag, Vs, Ipc, Ask, Jump, OnErr, OnLabel, OnWord, OnFrom, End, Declaration}
 use Rattle.l4_types.proofs.InFormats.{is_global_too}
 use Rattle.l4_words.specs.Threads.{thread_word}
 use Rattle.l4_words.specs.Words.{words_in}
@@ -22,7 +22,7 @@ use Rattle.l4_script.specs.Ids.{id_digits}
 use Rattle.l4_script.specs.Lines.{is_printable, has_empty_word, is_skipped, line_of}
 use Rattle.l4_script.specs.Statements.{Heading, format_line, processors_line, processor_of, declaration_of, value_of, assign_of, tag_of, vs_of, ipc_of, bits_of, exregs_of, delete_of, target_of, other_of, instruction_of}
 use Rattle.l4_script.specs.Texts.{Stage, Start, Processors, Threads, Reading, nothing_read, declared_in, extended_at, thread_line, after_words, after_line}
-use Rattle.l4_script.specs.Canonical.{low_digits, id_word, to_word, exponent_of, ticks_word, time_word, words_of_instruction, words_of_thread, words_of_format, keyword_of, operand_of, is_register, has_destination, has_time, can_be_assigned, can_be_written, can_be_declared}
+use Rattle.l4_script.specs.Canonical.{low_digits, id_word, id_from_word, exponent_of, ticks_word, time_word, words_of_instruction, words_of_thread, words_of_format, keyword_of, operand_of, is_register, has_id, has_destination, has_time, can_be_assigned, can_be_written, can_be_declared}
 use Rattle.l4_script.proofs.Spelled.{is_visible, is_plain, number_read, ranged_read, word_small, word_read, thread_in_read, id_read, destination_read}
 use Rattle.l4_script.proofs.Times.{IsTimeOf, spelled_time, time_read}
 use Rattle.l4_script.proofs.Values.{keyword_is, operand_small, value_read}
@@ -164,9 +164,15 @@ register_range n h =
     let upper = leb-true n 63 parts.1 in
     (lower, upper, omega (arith, upper))
 
-destination_is_plain : (f : Format) (to : To) → has_destination f to ≡ true → is_plain (to_word f to) ≡ true
-destination_is_plain f (ToId id) h = id_is_plain f id h
-destination_is_plain f ToLast h = refl
+destination_is_plain : (f : Format) (to : IdFrom) → has_destination f to ≡ true → is_plain (id_from_word f to) ≡ true
+destination_is_plain f (Fixed id) h = id_is_plain f id h
+destination_is_plain f Last h = refl
+destination_is_plain f (InRegister format a) h = absurd (false≢true h)
+
+fixed_is_plain : (f : Format) (from : IdFrom) → has_id f from ≡ true → is_plain (id_from_word f from) ≡ true
+fixed_is_plain f (Fixed id) h = id_is_plain f id h
+fixed_is_plain f Last h = absurd (false≢true h)
+fixed_is_plain f (InRegister format a) h = absurd (false≢true h)
 
 time_is_plain : (p : Period) → has_time p ≡ true → is_plain (time_word p) ≡ true
 time_is_plain None h = refl
@@ -180,17 +186,17 @@ time_is_plain (Some ticks) h = by_test (eqb ticks 0) refl
     by_test false t = by_number (ticks_word ticks (exponent_of ticks)) (spelled_time ticks (eqb-false ticks 0 t) h)
 
 -- The operands of an ipc.
-record AreOperands (f : Format) (to : To) (from : Id) (send receive : Period) : Type 0 where
+record AreOperands (f : Format) (to from : IdFrom) (send receive : Period) : Type 0 where
   destination : has_destination f to ≡ true
-  specifier : has_word_in f from ≡ true
+  specifier : has_id f from ≡ true
   send_time : has_time send ≡ true
   receive_time : has_time receive ≡ true
 
-operands : (f : Format) (size : ℕ) (to : To) (from : Id) (send receive : Period) → can_be_written f size (Ipc to from send receive) ≡ true → AreOperands f to from send receive
+operands : (f : Format) (size : ℕ) (to from : IdFrom) (send receive : Period) → can_be_written f size (Ipc to from send receive) ≡ true → AreOperands f to from send receive
 operands f size to from send receive h =
-    let all_3 = and_parts (has_destination f to && has_word_in f from && has_time send) (has_time receive) h in
-    let all_2 = and_parts (has_destination f to && has_word_in f from) (has_time send) all_3.0 in
-    let all_1 = and_parts (has_destination f to) (has_word_in f from) all_2.0 in
+    let all_3 = and_parts (has_destination f to && has_id f from && has_time send) (has_time receive) h in
+    let all_2 = and_parts (has_destination f to && has_id f from) (has_time send) all_3.0 in
+    let all_1 = and_parts (has_destination f to) (has_id f from) all_2.0 in
     record { destination = all_1.0; specifier = all_1.1; send_time = all_2.1; receive_time = all_3.1 }
 
 one_number : (keyword : List ℕ) (n : ℕ) → not (get_or keyword 0 0 == 59) ≡ true → is_plain keyword ≡ true → n < 2 ^ 64 → are_line (keyword ∷ decimal n ∷ []) ≡ true
@@ -205,16 +211,19 @@ instruction_is_line f size (Run (Assign a value)) l h =
     let keyword = keyword_is value in
     two_numbers (keyword_of value) a (operand_of value) keyword.begins keyword.plain (register_range a parts.0).2 (operand_small f value parts.1)
 instruction_is_line f size (Tag word) l h = one_number (codes "tag") word refl refl (word_fits f word (and_parts _ _ h).0)
-instruction_is_line f size (Vs id) l h = and_from _ true (id_is_plain f id h) refl
+instruction_is_line f size (Vs from) l h = and_from _ true (fixed_is_plain f from h) refl
 instruction_is_line f size (Ipc to from send receive) l h =
     let o = operands f size to from send receive h in
-    and_from _ _ (destination_is_plain f to o.destination) (and_from _ _ (id_is_plain f from o.specifier) (and_from _ _ (time_is_plain send o.send_time) (and_from _ true (time_is_plain receive o.receive_time) refl)))
-instruction_is_line f size (Ask target CancelSend) l h = and_from _ true (id_is_plain f target h) refl
-instruction_is_line f size (Ask target CancelReceive) l h = and_from _ true (id_is_plain f target h) refl
-instruction_is_line f size (Ask target CancelBoth) l h = and_from _ true (id_is_plain f target h) refl
-instruction_is_line f size (Ask target Delete) l h = and_from _ true (id_is_plain f target h) refl
+    and_from _ _ (destination_is_plain f to o.destination) (and_from _ _ (fixed_is_plain f from o.specifier) (and_from _ _ (time_is_plain send o.send_time) (and_from _ true (time_is_plain receive o.receive_time) refl)))
+instruction_is_line f size (Ask target CancelSend) l h = and_from _ true (fixed_is_plain f target h) refl
+instruction_is_line f size (Ask target CancelReceive) l h = and_from _ true (fixed_is_plain f target h) refl
+instruction_is_line f size (Ask target CancelBoth) l h = and_from _ true (fixed_is_plain f target h) refl
+instruction_is_line f size (Ask target Delete) l h = and_from _ true (fixed_is_plain f target h) refl
 instruction_is_line f size (Jump place) l h = let upper = leb-true place size h in one_number (codes "jump") place refl refl (omega (arith, upper, l))
 instruction_is_line f size (OnErr place) l h = let upper = leb-true place size h in one_number (codes "onerr") place refl refl (omega (arith, upper, l))
+instruction_is_line f size (OnLabel label place) l h = absurd (false≢true h)
+instruction_is_line f size (OnWord a word place) l h = absurd (false≢true h)
+instruction_is_line f size (OnFrom id place) l h = absurd (false≢true h)
 instruction_is_line f size End l h = refl
 
 -- What a line says
@@ -234,14 +243,25 @@ instruction_read n r size (Run (Assign a value)) some l h = assign_read n r a va
 instruction_read n r size (Tag word) some l h =
     let parts = and_parts _ _ h in
     rw (lt-ltb 0 (length r.machine.threads) some, word_read r.format word parts.0, parts.1) refl
-instruction_read n r size (Vs id) some l h = rw (lt-ltb 0 (length r.machine.threads) some, id_read r.format id h) refl
-instruction_read n r size (Ipc to from send receive) some l h =
-    let o = operands r.format size to from send receive h in
+instruction_read n r size (Vs (Fixed id)) some l h = rw (lt-ltb 0 (length r.machine.threads) some, id_read r.format id h) refl
+instruction_read n r size (Vs Last) some l h = absurd (false≢true h)
+instruction_read n r size (Vs (InRegister format a)) some l h = absurd (false≢true h)
+instruction_read n r size (Ipc to Last send receive) some l h =
+    absurd (false≢true (operands r.format size to Last send receive h).specifier)
+instruction_read n r size (Ipc to (InRegister format a) send receive) some l h =
+    absurd (false≢true (operands r.format size to (InRegister format a) send receive h).specifier)
+instruction_read n r size (Ipc to (Fixed from) send receive) some l h =
+    let o = operands r.format size to (Fixed from) send receive h in
     rw (lt-ltb 0 (length r.machine.threads) some, destination_read r.format to o.destination, id_read r.format from o.specifier, time_read send o.send_time, time_read receive o.receive_time) refl
-instruction_read n r size (Ask target CancelSend) some l h = rw (lt-ltb 0 (length r.machine.threads) some, id_read r.format target h) refl
-instruction_read n r size (Ask target CancelReceive) some l h = rw (lt-ltb 0 (length r.machine.threads) some, id_read r.format target h) refl
-instruction_read n r size (Ask target CancelBoth) some l h = rw (lt-ltb 0 (length r.machine.threads) some, id_read r.format target h) refl
-instruction_read n r size (Ask target Delete) some l h = rw (lt-ltb 0 (length r.machine.threads) some, id_read r.format target h) refl
+instruction_read n r size (Ask (Fixed target) CancelSend) some l h = rw (lt-ltb 0 (length r.machine.threads) some, id_read r.format target h) refl
+instruction_read n r size (Ask (Fixed target) CancelReceive) some l h = rw (lt-ltb 0 (length r.machine.threads) some, id_read r.format target h) refl
+instruction_read n r size (Ask (Fixed target) CancelBoth) some l h = rw (lt-ltb 0 (length r.machine.threads) some, id_read r.format target h) refl
+instruction_read n r size (Ask (Fixed target) Delete) some l h = rw (lt-ltb 0 (length r.machine.threads) some, id_read r.format target h) refl
+instruction_read n r size (Ask Last what) some l h = absurd (false≢true h)
+instruction_read n r size (Ask (InRegister format a) what) some l h = absurd (false≢true h)
+instruction_read n r size (OnLabel label place) some l h = absurd (false≢true h)
+instruction_read n r size (OnWord a word place) some l h = absurd (false≢true h)
+instruction_read n r size (OnFrom id place) some l h = absurd (false≢true h)
 instruction_read n r size (Jump place) some l h =
     let upper = leb-true place size h in
     rw (lt-ltb 0 (length r.machine.threads) some, number_read place (omega (arith, upper, l))) refl

@@ -5,7 +5,7 @@ ghost use Rattle.std.specs.Option.{option_map};
 ghost use Rattle.l4_model.specs.Words.{word_of_tag, word_limit, register_count};
 ghost use Rattle.l4_model.specs.World.{opening_context};
 ghost use Rattle.l4_model.specs.Rules.{failed, sent, received, ordered, advanced, ran, register};
-ghost use Rattle.l4_model.specs.Rules.{destination, receive_phase};
+ghost use Rattle.l4_model.specs.Rules.{id_from, receive_phase};
 ghost use Rattle.l4_types.specs.Inner.Codes.{code_of};
 ghost use Rattle.l4_types.specs.Inner.FormatView.{format_of};
 ghost use Rattle.l4_types.specs.Inner.PeriodView.{period_of, IsTimely};
@@ -373,7 +373,7 @@ impl Thread {
 
     /// The destination of an Ipc.
     pub fn destination(&self, to: To) -> ThreadId
-        ensures { result ≡ destination self.now.context (to_of to) }
+        ensures { result ≡ id_from self.now.context (to_of to) }
     {
         match to {
             To::Id(id) => id,

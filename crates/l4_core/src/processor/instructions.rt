@@ -1,6 +1,6 @@
 //! Runs the next instruction of a thread.
 ghost use Rattle.std.specs.Prelude.{◌≡◌, ◌<◌, ◌≤◌, ◌+◌, ◌^◌, true, false, length, IfSome, ℕ};
-ghost use Rattle.l4_model.specs.Machine.{Ask, place_of, most_instructions};
+ghost use Rattle.l4_model.specs.Machine.{Fixed, Ask, place_of, most_instructions};
 ghost use Rattle.l4_model.specs.Conditions.{act_of, instruction};
 ghost use Rattle.l4_model.specs.Rules.{ask_act};
 ghost use Rattle.std.specs.Option.{option_map};
@@ -155,7 +155,7 @@ impl Core<'_> {
         requires hand { IsAtHand self.old place }
         requires instr { instr_of instr.now ≡
             instruction (held self.old.machine self.old.local place) }
-        requires ask { instr_of instr.now ≡ Ask target (order_kind_of what) }
+        requires ask { instr_of instr.now ≡ Ask (Fixed target) (order_kind_of what) }
         requires within { is_end (instr_of instr.now) ≡ false →
             (thread self.old.local place).context.place < most_instructions }
         requires room { 3 ≤ buffer.old.room }

@@ -9,6 +9,7 @@ pub mod OwnWords
 pub mod PlainWords
 pub mod ReadBack
 pub mod ReadingLines
+pub mod SecondRows
 pub mod Spelled
 pub mod TextRows
 pub mod Times

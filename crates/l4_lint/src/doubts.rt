@@ -3,7 +3,7 @@ ghost use Rattle.std.specs.Prelude.{ℕ, List, ◌≡◌, ◌≤◌, ◌++◌, l
 ghost use Rattle.std.specs.List.{list_any};
 ghost use Rattle.std.specs.Option.{option_copied};
 ghost use Rattle.std.specs.Str.{bytes_eq};
-ghost use Rattle.l4_script.specs.Inner.Scripts.{instr_of};
+ghost use Rattle.l4_script.specs.Inner.Scripts.{id_from_of, instr_of};
 ghost use Rattle.l4_script.specs.Numbers.{time_from};
 ghost use Rattle.l4_script.specs.Texts.{machine_of_text};
 ghost use Rattle.l4_lint.specs.Always.{AreAlwaysSo};
@@ -12,7 +12,7 @@ ghost use Rattle.l4_lint.specs.Doubts.{doubted, doubts_text, lines_of};
 ghost use Rattle.l4_lint.specs.Doubts.{doubtful_at, doubts_from, doubts_of, id_doubts, ipc_doubts};
 ghost use Rattle.l4_lint.specs.Doubts.{is_endless, is_no_thread, is_one_of_ids, is_write};
 ghost use Rattle.l4_lint.specs.Doubts.{line_doubts, mark_word, marked, names_originator, number_in};
-ghost use Rattle.l4_lint.specs.Doubts.{receives};
+ghost use Rattle.l4_lint.specs.Doubts.{is_taken_from, may_receive};
 ghost use Rattle.l4_lint.specs.Doubts.{script_doubts, tag_doubts, thread_after, uses, write_doubts};
 ghost use Rattle.l4_lint.specs.Reading.{begins_script};
 ghost use Rattle.l4_lint.specs.Inner.Views.{doubtful_of};
@@ -21,7 +21,7 @@ use crate::bytes::split_word;
 use crate::commands::first_operand;
 use crate::hints::Operand;
 use crate::spelling::push_place;
-use l4_script::instructions::Instr;
+use l4_script::instructions::{IdFrom, Instr, Source};
 use l4_script::machine::{Declaration, Machine};
 use l4_script::text::{TextFaultKind, number, time};
 use l4_types::errors::NoMemory;
@@ -190,20 +190,44 @@ fn push_ipc<'a>(
     push_answer(number, line, to, time, found)
 }
 
-fn receives(from: ThreadId) -> bool
-    ensures { result ≡ receives from }
+// Whether a receive phase may follow: `last` and a register may have any id.
+fn may_receive(from: IdFrom) -> bool
+    ensures { result ≡ may_receive (id_from_of from) }
 {
-    from != ThreadId::NIL
+    match from {
+        IdFrom::Fixed(id) => id != ThreadId::NIL,
+        IdFrom::Last | IdFrom::InRegister(_) | IdFrom::InShortRegister(_) => true,
+    }
 }
 
-// Whether an instruction copies this register, or sends or may send it.
+fn is_register(register: u64, source: Source) -> bool
+    ensures { result ≡ (source == register) }
+{
+    u64::from(source.number()) == register
+}
+
+fn is_taken_from(register: u64, from: IdFrom) -> bool
+    ensures { result ≡ is_taken_from register (id_from_of from) }
+{
+    match from {
+        IdFrom::InRegister(source) | IdFrom::InShortRegister(source) => {
+            is_register(register, source)
+        }
+        IdFrom::Fixed(_) | IdFrom::Last => false,
+    }
+}
+
+// Whether an instruction copies or tests this register, takes an id from it, or sends or may send
+// it.
 fn uses(register: u64, instruction: &Instr) -> bool
     ensures { result ≡ uses register (instr_of instruction.now) }
 {
     match *instruction {
         Instr::Tag(tag) => register <= tag.raw() % 64,
-        Instr::Copy(_, from) => u64::from(from.number()) == register,
-        Instr::Ipc(ipc) => receives(ipc.from()),
+        Instr::Copy(_, from) => is_register(register, from),
+        Instr::OnWord(source, _, _) => is_register(register, source),
+        Instr::Vs(from) | Instr::Order(from, _) => is_taken_from(register, from),
+        Instr::Ipc(ipc) => may_receive(ipc.from()) || is_taken_from(register, ipc.to()),
         _ => false,
     }
 }
@@ -250,8 +274,9 @@ fn names_originator(machine: &Machine, sender: GlobalId, instruction: &Instr) ->
     ensures { result ≡ names_originator machine.now sender (instr_of instruction.now) }
 {
     match *instruction {
-        Instr::Vs(id) => machine.may_show(sender, id),
-        Instr::Ipc(ipc) => receives(ipc.from()),
+        Instr::Vs(IdFrom::Fixed(id)) => machine.may_show(sender, id),
+        Instr::Vs(_) => true,
+        Instr::Ipc(ipc) => may_receive(ipc.from()),
         _ => false,
     }
 }

@@ -20,6 +20,7 @@ fn kind_word(kind: TextFaultKind) -> &'static str
         TextFaultKind::BadLine => "BadLine",
         TextFaultKind::BadNumber => "BadNumber",
         TextFaultKind::BadId => "BadId",
+        TextFaultKind::BadName => "BadName",
         TextFaultKind::BadCpu => "BadCpu",
         TextFaultKind::TypedItems => "TypedItems",
         TextFaultKind::DoubleId => "DoubleId",

@@ -9,6 +9,7 @@ mod ids;
 mod lines;
 mod numbers;
 mod reading;
+pub mod second;
 mod statements;
 
 use crate::machine::Machine;
@@ -35,6 +36,9 @@ impl Machine {
                 line: 0,
                 kind: TextFaultKind::TooLong,
             });
+        }
+        if second::begins_second(text) {
+            return second::read(alloc, text);
         }
         read(alloc, text)
     }

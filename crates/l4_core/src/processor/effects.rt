@@ -118,7 +118,8 @@ impl Core<'_> {
         requires room { (thread self.old.local place).context.place + 1 < 2 ^ 64 }
         requires count { (thread self.old.local place).context.begun < self.old.local.stamp }
         ensures { self.new ≡ with_local self.old (comes_to place
-            (passes (receive_phase ipc.now.from
+            (passes (receive_phase
+            (id_from (thread self.old.local place).context (id_from_of ipc.now.from))
             (period_of ipc.now.receive_period)) self.old.local.clock) self.old.local) }
     {
         let known = &mut self.known;

@@ -1,11 +1,12 @@
 -- Names in machine texts with scripts of version 2: of ids, and of the instructions of a script.
-use Rattle.std.specs.Prelude.{ℕ, Bool, false, not, ◌&&◌, ◌||◌, ◌==◌, nat_le, if◌then◌else◌, Option, Some, None, List, [], ◌∷◌, length, take, drop, find, codes}
+use Rattle.std.specs.Prelude.{ℕ, Bool, false, not, ◌&&◌, ◌||◌, ◌==◌, nat_le, if◌then◌else◌, Option, Some, None, Ok, Err, List, [], ◌∷◌, length, take, drop, find, codes}
 use Rattle.std.specs.Option.{option_map}
 use Rattle.std.specs.List.{list_all, list_any}
 use Rattle.std.specs.Str.{bytes_eq}
-use Rattle.l4_model.specs.Words.{Format, GlobalId, Id, GlobalThread}
+use Rattle.l4_model.specs.Words.{Format, GlobalId, Id}
+use Rattle.l4_types.specs.Ids.{global_of}
 use Rattle.l4_script.specs.declared.text.fault.TextFaultKind.TheVariants.{BadId, BadName}
-use Rattle.l4_script.specs.Judged.{Judged, ◌>>=◌, ◌>>◌, needs}
+use Rattle.l4_script.specs.Judged.{Judged, ◌>>=◌, needs}
 use Rattle.l4_script.specs.Ids.{thread_in, id_of}
 
 abbrev pub is_letter : (byte : ℕ) → Bool
@@ -29,7 +30,7 @@ most_name_bytes = 31
 abbrev pub keywords : List (List ℕ)
 keywords =
     codes "l4" ∷ codes "cpus" ∷ codes "name" ∷ codes "thread" ∷ codes "cpu" ∷ codes "space"
-    ∷ codes "as" ∷ codes "set" ∷ codes "copy" ∷ codes "add" ∷ codes "from" ∷ codes "tag"
+    ∷ codes "to" ∷ codes "as" ∷ codes "set" ∷ codes "copy" ∷ codes "add" ∷ codes "from" ∷ codes "tag"
     ∷ codes "vs" ∷ codes "ipc" ∷ codes "exregs" ∷ codes "delete" ∷ codes "jump" ∷ codes "onerr"
     ∷ codes "onlabel" ∷ codes "onword" ∷ codes "onfrom" ∷ codes "end" ∷ codes "nil" ∷ codes "any"
     ∷ codes "anylocal" ∷ codes "last" ∷ codes "never" ∷ codes "zero" ∷ codes "S" ∷ codes "R"
@@ -60,18 +61,22 @@ is_declared_in names name = list_any (λ n. bytes_eq n.name name) names
 abbrev pub id_under : List Named → (name : List ℕ) → Option Id
 id_under names name = option_map (λ n. n.id) (find (λ n. bytes_eq n.name name) names)
 
+-- The id that a word names which spells none.
+unfoldable pub id_by_name : List Named → (word : List ℕ) → Judged Id
+id_by_name names word = if is_name word then needs (id_under names word) BadName else Err BadId
+
 -- An id as version 1 spells it, or by a name.
 unfoldable pub id_named : Format → List Named → (word : List ℕ) → Judged Id
-id_named format names word = if is_name word then needs (id_under names word) BadName
-    else needs (id_of format word) BadId
+id_named format names word = by (id_of format word)
+  where
+    by : Option Id → Judged Id
+    by (Some id) = Ok id
+    by None = id_by_name names word
 
 -- The id of a thread: a global one.
-abbrev pub global_of : Id → Option GlobalId
-global_of (GlobalThread t) = Some t
-global_of id = None
-
 unfoldable pub thread_named : Format → List Named → (word : List ℕ) → Judged GlobalId
-thread_named format names word = if is_name word then (do
-  id ← needs (id_under names word) BadName
-  needs (global_of id) BadId)
-    else needs (thread_in format word) BadId
+thread_named format names word = by (thread_in format word)
+  where
+    by : Option GlobalId → Judged GlobalId
+    by (Some t) = Ok t
+    by None = id_by_name names word >>= λ id. needs (global_of id) BadId

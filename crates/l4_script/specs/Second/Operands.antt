@@ -1,5 +1,5 @@
 -- Operands of scripts of version 2.
-use Rattle.std.specs.Prelude.{ℕ, ◌*◌, ◌-◌, Bool, ◌&&◌, ◌||◌, ◌==◌, nat_le, if◌then◌else◌, Some, is_some, Ok, Err, List, length, take, drop, codes}
+use Rattle.std.specs.Prelude.{ℕ, ◌*◌, ◌-◌, Bool, ◌||◌, ◌==◌, nat_le, if◌then◌else◌, Option, Some, None, is_some, Ok, Err, List, length, take, drop, codes}
 use Rattle.std.specs.Str.{bytes_eq}
 use Rattle.l4_model.specs.Words.{Format, Period, last_register}
 use Rattle.l4_model.specs.Machine.{IdFrom, Fixed, Last, InRegister}
@@ -11,43 +11,45 @@ use Rattle.l4_script.specs.Canonical.{exponent_of}
 use Rattle.l4_script.specs.Second.Names.{is_name, is_register_word, Named, id_named}
 
 -- `mrA`: the id whose word MR A has, in decimal digits without a leading zero.
-abbrev pub register_of : Format → (word : List ℕ) → Judged IdFrom
+unfoldable pub register_of : Format → (word : List ℕ) → Judged IdFrom
 register_of format word = do
   a ← needs (words.number_of 10 (drop 2 word)) BadId
   must (nat_le a last_register) BadId
   Ok (InRegister format a)
 
 -- Where an id is from: a register, an id or a name.
-unfoldable pub id_from_of : Format → List Named → (word : List ℕ) → Judged IdFrom
-id_from_of format names word = if is_register_word word then register_of format word
+unfoldable pub id_or_register_of : Format → List Named → (word : List ℕ) → Judged IdFrom
+id_or_register_of format names word = if is_register_word word then register_of format word
     else (id_named format names word >>= λ id. Ok (Fixed id))
 
 -- The same, or `last`.
-abbrev pub id_or_last_of : Format → List Named → (word : List ℕ) → Judged IdFrom
+unfoldable pub id_or_last_of : Format → List Named → (word : List ℕ) → Judged IdFrom
 id_or_last_of format names word = if bytes_eq word (codes "last") then Ok Last
-    else id_from_of format names word
+    else id_or_register_of format names word
 
 -- An instruction that a line names: by its number in its script, or by its name.
 pub data Place : Type 0 where
   Numbered : (place : ℕ) → Place
   Labelled : (name : List ℕ) → Place
 
-abbrev pub place_of : (word : List ℕ) → Judged Place
-place_of word = if is_name word then Ok (Labelled word)
-    else (needs (number_of word) BadNumber >>= λ place. Ok (Numbered place))
+unfoldable pub place_of : (word : List ℕ) → Judged Place
+place_of word = by (number_of word)
+  where
+    by : Option ℕ → Judged Place
+    by (Some place) = Ok (Numbered place)
+    by None = if is_name word then Ok (Labelled word) else Err BadNumber
 
 -- So many microseconds, where some time means them exactly.
 abbrev pub exact_period : (ticks : ℕ) → Judged Period
 exact_period ticks = if ticks == 0 || is_some (exponent_of ticks) then Ok (Some ticks)
     else Err BadNumber
 
-abbrev pub ends_with : (suffix word : List ℕ) → Bool
-ends_with suffix word = nat_le (length suffix) (length word) &&
-    bytes_eq (drop (length word - length suffix) word) suffix
+abbrev pub ends_with : (ending word : List ℕ) → Bool
+ends_with ending word = bytes_eq (drop (length word - length ending) word) ending
 
-abbrev pub counted_in : (unit : ℕ) → (suffix word : List ℕ) → Judged Period
-counted_in unit suffix word = do
-  count ← needs (words.number_of 10 (take (length word - length suffix) word)) BadNumber
+abbrev pub counted_in : (unit : ℕ) → (ending word : List ℕ) → Judged Period
+counted_in unit ending word = do
+  count ← needs (words.number_of 10 (take (length word - length ending) word)) BadNumber
   exact_period (count * unit)
 
 -- A time as in version 1, or `5us`, `5ms`, `2s`: so many microseconds, thousands or millions of

@@ -1,17 +1,16 @@
 -- What the lines of scripts of version 2 say, beside those of version 1.
-use Rattle.std.specs.Prelude.{ℕ, ◌-◌, ◌^◌, ◌==◌, Bool, true, false, ◌&&◌, if◌then◌else◌, Option, Some, None, Ok, Err, List, [], ◌∷◌, codes}
-use Rattle.std.specs.Option.{option_map}
+use Rattle.std.specs.Prelude.{ℕ, ◌-◌, ◌^◌, ◌==◌, Bool, true, false, ◌&&◌, nat_le, if◌then◌else◌, Option, Some, None, Ok, Err, List, [], ◌∷◌, codes}
 use Rattle.std.specs.Str.{bytes_eq}
-use Rattle.l4_model.specs.Words.{Format, last_register, label_limit_in}
+use Rattle.l4_model.specs.Words.{Format, GlobalId, last_register, label_limit_in}
 use Rattle.l4_model.specs.Machine.{Assign, FromWord, Instr, Run, Vs, Ipc, Ask, Delete, Jump, OnErr, OnLabel, OnWord, OnFrom, Declaration, Value}
 use Rattle.l4_words.specs.Words.{one, two, three, four}
-use Rattle.l4_script.specs.declared.text.fault.TextFaultKind.TheVariants.{BadLine, BadNumber}
+use Rattle.l4_script.specs.declared.text.fault.TextFaultKind.TheVariants.{BadLine, BadNumber, BadId}
 use Rattle.l4_script.specs.Judged.{Judged, ◌>>=◌, ◌>>◌, must, needs}
 use Rattle.l4_script.specs.Numbers.{number_of, number_from, word_from}
 use Rattle.l4_script.specs.Lines.{after}
 use Rattle.l4_script.specs.Statements.{Heading, heading_by, processor_of, value_of, assign_of, tag_of, bits_of, end_of}
 use Rattle.l4_script.specs.Second.Names.{Named, id_named, thread_named}
-use Rattle.l4_script.specs.Second.Operands.{Place, id_from_of, id_or_last_of, place_of, second_time_from}
+use Rattle.l4_script.specs.Second.Operands.{Place, id_or_register_of, id_or_last_of, place_of, second_time_from}
 
 -- `l4 P B 2`: the words behind `l4`, where the last one is a number that is 2.
 abbrev pub is_second : (number : Option ℕ) → Bool
@@ -31,45 +30,67 @@ second_format_line words = do
   width ← needs (number_of numbers.1) BadNumber
   needs (heading_by profile width) BadNumber
 
--- `name NAME ID`, behind its first word: whether the name may be declared is asked in between.
-unfoldable pub name_of : Format → List Named → (may_be : List ℕ → Judged (Unit {0})) →
-    (operands : List (List ℕ)) → Judged Named
-name_of format names may_be operands = do
-  words ← needs (two operands) BadLine
-  may_be words.0
-  id ← id_named format names words.1
-  Ok (record { name = words.0; id = id })
-
--- A thread line: what it declares, and whose script it has, where that is not its own.
-pub record Heir : Type 0 where
-  pub declaration : Declaration
+-- The words of a thread line: `ID cpu P space S`, behind it `as ID` or nothing, or `ID to ID` in
+-- front of all that.
+pub record ThreadWords : Type 0 where
+  pub id : List ℕ
+  pub last : Option (List ℕ)
+  pub cpu : List ℕ
+  pub space : List ℕ
   pub source : Option (List ℕ)
 
--- The words behind `thread`: five of them, or seven with `as ID`.
-abbrev pub seven : (words : List (List ℕ)) → Option (List ℕ × List ℕ × List ℕ × List ℕ × List ℕ ×
-    Option (List ℕ × List ℕ))
-seven (a ∷ b ∷ c ∷ d ∷ e ∷ []) = Some (a, b, c, d, e, None)
-seven (a ∷ b ∷ c ∷ d ∷ e ∷ f ∷ g ∷ []) = Some (a, b, c, d, e, Some (f, g))
-seven words = None
+abbrev pub thread_words : (id cpu space : List ℕ) → (last source : Option (List ℕ)) → ThreadWords
+thread_words id cpu space last source =
+    record { id = id; last = last; cpu = cpu; space = space; source = source }
 
-abbrev pub has_keywords : (cpu space : List ℕ) → Bool
-has_keywords cpu space = bytes_eq cpu (codes "cpu") && bytes_eq space (codes "space")
+-- These words are those keywords.
+abbrev pub are_keywords : (words keywords : List (List ℕ)) → Bool
+are_keywords (word ∷ words) (keyword ∷ keywords) =
+    bytes_eq word keyword && are_keywords words keywords
+are_keywords words keywords = true
 
-abbrev pub says_as : Option (List ℕ × List ℕ) → Bool
-says_as None = true
-says_as (Some words) = bytes_eq words.0 (codes "as")
+abbrev pub with_keywords : (words keywords : List (List ℕ)) → ThreadWords → Option ThreadWords
+with_keywords words keywords said = if are_keywords words keywords then Some said else None
+
+-- Many threads have the script of another.
+abbrev pub thread_words_of : (operands : List (List ℕ)) → Option ThreadWords
+thread_words_of (id ∷ a ∷ cpu ∷ b ∷ space ∷ []) =
+    with_keywords (a ∷ b ∷ []) (codes "cpu" ∷ codes "space" ∷ []) (thread_words id cpu space None None)
+thread_words_of (id ∷ a ∷ cpu ∷ b ∷ space ∷ c ∷ source ∷ []) =
+    with_keywords (a ∷ b ∷ c ∷ []) (codes "cpu" ∷ codes "space" ∷ codes "as" ∷ [])
+    (thread_words id cpu space None (Some source))
+thread_words_of (id ∷ a ∷ last ∷ b ∷ cpu ∷ c ∷ space ∷ d ∷ source ∷ []) =
+    with_keywords (a ∷ b ∷ c ∷ d ∷ []) (codes "to" ∷ codes "cpu" ∷ codes "space" ∷ codes "as" ∷ [])
+    (thread_words id cpu space (Some last) (Some source))
+thread_words_of operands = None
+
+-- What a thread line declares: the first thread, the greatest number, which is that of the first one
+-- where there are no others, and whose script they have, where that is not the thread's own.
+pub record Heir : Type 0 where
+  pub declaration : Declaration
+  pub last : ℕ
+  pub source : Option (List ℕ)
+
+-- The last thread has the version of the first one, and no lower number.
+abbrev pub last_number : Format → List Named → (first : GlobalId) → Option (List ℕ) → Judged ℕ
+last_number format names first None = Ok first.number
+last_number format names first (Some word) = do
+  last ← thread_named format names word
+  must (last.version == first.version && nat_le first.number last.number) BadId
+  Ok last.number
 
 unfoldable pub second_declaration_of : Format → List Named → (cpus : ℕ) →
     (operands : List (List ℕ)) → Judged Heir
 second_declaration_of format names cpus operands = do
-  words ← needs (seven operands) BadLine
-  must (has_keywords words.1 words.3 && says_as words.5) BadLine
-  id ← thread_named format names words.0
-  cpu ← processor_of cpus words.2
-  space ← number_from 0 (2 ^ 32 - 1) words.4
+  words ← needs (thread_words_of operands) BadLine
+  id ← thread_named format names words.id
+  last ← last_number format names id words.last
+  cpu ← processor_of cpus words.cpu
+  space ← number_from 0 (2 ^ 32 - 1) words.space
   Ok (record {
     declaration = record { id = id; cpu = cpu; space = space; script = [] };
-    source = option_map (λ both. both.1) words.5;
+    last = last;
+    source = words.source;
   })
 
 -- An instruction, and the instruction of its script that it names, if it names one: then its own
@@ -81,8 +102,11 @@ pub record Unplaced : Type 0 where
 abbrev pub without_target : Judged Instr → Judged Unplaced
 without_target said = said >>= λ instr. Ok (record { instr = instr; target = None })
 
-abbrev pub with_target : Instr → Place → Judged Unplaced
-with_target instr place = Ok (record { instr = instr; target = Some place })
+-- What it names is judged last.
+abbrev pub targeting : Instr → (word : List ℕ) → Judged Unplaced
+targeting instr word = do
+  place ← place_of word
+  Ok (record { instr = instr; target = Some place })
 
 abbrev pub with_place : (place : ℕ) → Instr → Instr
 with_place place (Jump at) = Jump place
@@ -128,23 +152,21 @@ second_exregs_of format names operands = do
 unfoldable pub second_delete_of : Format → List Named → (operands : List (List ℕ)) → Judged Instr
 second_delete_of format names operands = do
   word ← needs (one operands) BadLine
-  target ← id_from_of format names word
+  target ← id_or_register_of format names word
   Ok (Ask target Delete)
 
 -- `jump L` and `onerr L`.
 abbrev pub goes_to : (instr : Instr) → (operands : List (List ℕ)) → Judged Unplaced
 goes_to instr operands = do
   word ← needs (one operands) BadLine
-  place ← place_of word
-  with_target instr place
+  targeting instr word
 
 -- `onlabel W L`: W is a label of the format.
 unfoldable pub on_label_of : Format → (operands : List (List ℕ)) → Judged Unplaced
 on_label_of format operands = do
   words ← needs (two operands) BadLine
   label ← number_from 0 (label_limit_in format - 1) words.0
-  place ← place_of words.1
-  with_target (OnLabel label 0) place
+  targeting (OnLabel label 0) words.1
 
 -- `onword A W L`.
 unfoldable pub on_word_of : Format → (operands : List (List ℕ)) → Judged Unplaced
@@ -152,16 +174,14 @@ on_word_of format operands = do
   words ← needs (three operands) BadLine
   a ← number_from 0 last_register words.0
   word ← word_from format words.1
-  place ← place_of words.2
-  with_target (OnWord a word 0) place
+  targeting (OnWord a word 0) words.2
 
 -- `onfrom ID L`: an id or a name.
 unfoldable pub on_from_of : Format → List Named → (operands : List (List ℕ)) → Judged Unplaced
 on_from_of format names operands = do
   words ← needs (two operands) BadLine
   id ← id_named format names words.0
-  place ← place_of words.1
-  with_target (OnFrom id 0) place
+  targeting (OnFrom id 0) words.1
 
 unfoldable pub second_other_of : Format → List Named → (name : List ℕ) →
     (operands : List (List ℕ)) → Judged Unplaced

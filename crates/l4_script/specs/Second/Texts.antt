@@ -1,48 +1,50 @@
 -- The machine that a text with scripts of version 2 declares, or its first fault.
-use Rattle.std.specs.Prelude.{ℕ, ◌+◌, ◌-◌, Bool, true, false, not, ◌&&◌, ◌||◌, ◌==◌, nat_lt, if◌then◌else◌, Option, Some, None, is_none, Result, Ok, Err, List, [], ◌∷◌, ◌++◌, length, find, slice_set, codes}
+use Rattle.std.specs.Prelude.{ℕ, suc, ◌+◌, ◌-◌, Bool, true, false, not, ◌&&◌, ◌||◌, ◌==◌, nat_lt, nat_le, if◌then◌else◌, Option, Some, None, is_none, is_some, Result, Ok, Err, List, [], ◌∷◌, ◌++◌, length, find, slice_set, codes}
 use Rattle.std.specs.Option.{option_map}
+use Rattle.std.specs.List.{list_any, range_with_len}
 use Rattle.std.specs.Str.{bytes_eq}
-use Rattle.l4_model.specs.Words.{Format, GlobalId}
-use Rattle.l4_model.specs.Machine.{Instr, Declaration, Machine, declaration_of}
+use Rattle.l4_model.specs.Words.{Format, global_id}
+use Rattle.l4_model.specs.Machine.{Instr, Declaration, Machine, instruction_at, place_of, most_threads}
 use Rattle.l4_core_model.specs.Local.{declared}
 use Rattle.l4_words.specs.Lines.{parts_of}
+use Rattle.l4_words.specs.Words.{two}
 use Rattle.l4_script.specs.declared.text.fault.TextFault.{TextFault}
 use Rattle.l4_script.specs.declared.text.fault.TextFaultKind.{TextFaultKind}
-use Rattle.l4_script.specs.declared.text.fault.TextFaultKind.TheVariants.{BadLine, BadId, BadName, BadTarget, TooLong}
+use Rattle.l4_script.specs.declared.text.fault.TextFaultKind.TheVariants.{BadLine, BadId, BadName, DoubleId, TooManyThreads, BadTarget, TooLong}
 use Rattle.l4_script.specs.Faults.{fault_at}
 use Rattle.l4_script.specs.Judged.{Judged, ◌>>=◌, ◌>>◌, must, needs}
-use Rattle.l4_script.specs.Machines.{last_place, last_thread, machine_with}
-use Rattle.l4_script.specs.Statements.{Heading, processors_line, declare, extend}
+use Rattle.l4_script.specs.Machines.{is_taken, last_thread, with_last_script, with_thread, machine_with}
+use Rattle.l4_script.specs.Statements.{Heading, processors_line, extend}
 use Rattle.l4_script.specs.Texts.{machine_of_text}
-use Rattle.l4_script.specs.Second.Names.{is_name, Named, is_declared_in, thread_named}
+use Rattle.l4_script.specs.Second.Names.{is_name, Named, is_declared_in, id_named, thread_named}
 use Rattle.l4_script.specs.Second.Lines.{Said, second_line_of}
 use Rattle.l4_script.specs.Second.Operands.{Place, Numbered, Labelled}
-use Rattle.l4_script.specs.Second.Statements.{is_second_heading, second_format_line, name_of, Heir, second_declaration_of, Unplaced, with_place, second_instruction_of}
+use Rattle.l4_script.specs.Second.Statements.{is_second_heading, second_format_line, Heir, second_declaration_of, with_place, second_instruction_of}
 
--- The name of an instruction: the place of its thread, and its own in the script.
+-- The name of an instruction of the last script, and its place.
 pub record Label : Type 0 where
   pub name : List ℕ
-  pub thread : ℕ
   pub at : ℕ
 
--- An instruction that names one of its script: the number of the line, the place of its thread, its
--- own place in the script, and what it names.
+-- An instruction of the last script that names one: the number of the line, its own place, and what
+-- it names.
 pub record Target : Type 0 where
   pub line : ℕ
-  pub thread : ℕ
   pub at : ℕ
   pub place : Place
 
--- The format of the text, the names that it declares, the machine of the lines so far, the names of
--- their instructions, and those that they name. `is_heir`: the last thread has the script of
--- another, and no line of its own.
+-- The format of the text, the names that it declares, the machine of the lines so far, and of the
+-- last script the names of its instructions, and what these name. `is_heir`: the last thread has the
+-- script of another, and no line of its own. `missed` is the first fault of the scripts before: an
+-- instruction names one that its script does not have.
 pub record Reading : Type 0 where
   pub format : Format
   pub names : List Named
   pub machine : Machine
+  pub is_heir : Bool
   pub labels : List Label
   pub targets : List Target
-  pub is_heir : Bool
+  pub missed : Option TextFault
 
 pub data Stage : Type 0 where
   Start : Stage
@@ -54,9 +56,10 @@ nothing_read heading cpus = record {
   format = heading.format;
   names = [];
   machine = machine_with heading.retargeting cpus [];
+  is_heir = false;
   labels = [];
   targets = [];
-  is_heir = false;
+  missed = None;
 }
 
 abbrev pub has_thread : Reading → Bool
@@ -68,94 +71,135 @@ has_script r = has_thread r && not r.is_heir
 
 -- What instructions name
 
-abbrev pub label_of : List Label → (thread : ℕ) → (name : List ℕ) → Option ℕ
-label_of labels thread name =
-    option_map (λ l. l.at) (find (λ l. l.thread == thread && bytes_eq l.name name) labels)
+abbrev pub label_of : List Label → (name : List ℕ) → Option ℕ
+label_of labels name = option_map (λ l. l.at) (find (λ l. bytes_eq l.name name) labels)
 
--- The place that an instruction of a thread names, if its script has it. A number may be too great:
--- that shows at the end of the text.
-abbrev pub found_place : List Label → (thread : ℕ) → Place → Option ℕ
-found_place labels thread (Numbered place) = Some place
-found_place labels thread (Labelled name) = label_of labels thread name
+-- The place that an instruction names, if its script has such a name. A number may be too great:
+-- then it is missed.
+abbrev pub found_place : List Label → Place → Option ℕ
+found_place labels (Numbered place) = Some place
+found_place labels (Labelled name) = label_of labels name
 
-abbrev pub placed : Option ℕ → Instr → Instr
-placed None instr = instr
-placed (Some place) instr = with_place place instr
+-- The instruction at one place goes on at another.
+abbrev pub placed_at : (at : ℕ) → (place : Option ℕ) → List Instr → List Instr
+placed_at at None script = script
+placed_at at (Some place) script =
+    slice_set script at (with_place place (instruction_at script at))
 
--- An instruction at a place of the script of a thread names what it is to name.
-abbrev pub named_at : List Label → List Target → (thread at : ℕ) → Instr → Instr
-named_at labels targets thread at instr = by (find (λ t. t.thread == thread && t.at == at) targets)
-  where
-    by : Option Target → Instr
-    by None = instr
-    by (Some t) = placed (found_place labels thread t.place) instr
+-- Each instruction that names one goes on there.
+abbrev pub placed : List Label → List Target → List Instr → List Instr
+placed labels [] script = script
+placed labels (t ∷ ts) script =
+    placed labels ts (placed_at t.at (found_place labels t.place) script)
 
-abbrev pub named_from : List Label → List Target → (thread at : ℕ) → List Instr → List Instr
-named_from labels targets thread at [] = []
-named_from labels targets thread at (instr ∷ script) =
-    named_at labels targets thread at instr ∷ named_from labels targets thread (at + 1) script
+-- What a script of so many instructions does not have.
+abbrev pub missed_in : List Label → (size : ℕ) → Place → Option TextFaultKind
+missed_in labels size (Numbered place) = if nat_lt size place then Some BadTarget else None
+missed_in labels size (Labelled name) =
+    if is_none (label_of labels name) then Some BadName else None
 
--- The script of the last thread ends: each of its instructions has the place that it names.
-abbrev pub settled_script : Reading → List Instr
-settled_script r =
-    named_from r.labels r.targets (last_place r.machine) 0 (last_thread r.machine).script
+abbrev pub fault_or : (line : ℕ) → Option TextFaultKind → (later : Option TextFault) →
+    Option TextFault
+fault_or line None later = later
+fault_or line (Some kind) later = Some (fault_at line kind)
 
-abbrev pub settled : Reading → Machine
-settled r = if has_script r
-    then record r.machine {
-      threads = slice_set r.machine.threads (last_place r.machine)
-          (record (last_thread r.machine) { script = settled_script r });
-    }
-    else r.machine
+abbrev pub first_missed : List Label → (size : ℕ) → List Target → Option TextFault
+first_missed labels size [] = None
+first_missed labels size (t ∷ ts) =
+    fault_or t.line (missed_in labels size t.place) (first_missed labels size ts)
+
+abbrev pub first_of : (earlier later : Option TextFault) → Option TextFault
+first_of None later = later
+first_of (Some fault) later = Some fault
+
+-- The script of the last thread ends.
+abbrev pub with_script_ended : Reading → Reading
+with_script_ended r = record r {
+  machine = with_last_script (placed r.labels r.targets (last_thread r.machine).script) r.machine;
+  labels = [];
+  targets = [];
+  missed = first_of r.missed
+      (first_missed r.labels (length (last_thread r.machine).script) r.targets);
+}
+
+abbrev pub settled : Reading → Reading
+settled r = if has_thread r then with_script_ended r else r
 
 -- Lines
 
--- A name that may be declared: no keyword, and nothing else has it.
-abbrev pub may_name : Reading → (name : List ℕ) → Judged (Unit {0})
-may_name r name = must (is_name name && not (is_declared_in r.names name)) BadName
+-- A name that may be declared: no keyword, and no other id has it.
+abbrev pub may_name : Reading → (name : List ℕ) → Bool
+may_name r name = is_name name && not (is_declared_in r.names name)
 
 -- `name NAME ID`, before the first thread.
 abbrev pub name_line : Reading → (operands : List (List ℕ)) → Judged Reading
 name_line r operands = do
   must (not (has_thread r)) BadLine
-  named ← name_of r.format r.names (may_name r) operands
-  Ok (record r { names = r.names ++ named ∷ [] })
+  words ← needs (two operands) BadLine
+  must (may_name r words.0) BadName
+  id ← id_named r.format r.names words.1
+  Ok (record r { names = r.names ++ record { name = words.0; id = id } ∷ [] })
 
--- The script that a thread has from its beginning: none, or that of a thread declared before.
-abbrev pub script_of : Machine → Format → List Named → Option (List ℕ) → Judged (List Instr)
-script_of m format names None = Ok []
-script_of m format names (Some word) = do
-  source ← thread_named format names word
-  d ← needs (declaration_of m source) BadId
-  Ok d.script
+-- The place of the thread whose script a thread has: it is declared before.
+abbrev pub source_of : Reading → Option (List ℕ) → Judged (Option ℕ)
+source_of r None = Ok None
+source_of r (Some word) = do
+  thread ← thread_named r.format r.names word
+  place ← needs (place_of r.machine thread) BadId
+  Ok (Some place)
 
--- A thread line.
+abbrev pub script_of : Machine → (source : Option ℕ) → List Instr
+script_of m None = []
+script_of m (Some place) = (declared m place).script
+
+-- The numbers of the threads that a line declares.
+abbrev pub numbers_of : Heir → List ℕ
+numbers_of heir =
+    range_with_len heir.declaration.id.number (suc heir.last - heir.declaration.id.number)
+
+-- There is room for them, and none of their numbers is taken.
+abbrev pub may_declare : Heir → Machine → Judged (Unit {0})
+may_declare heir m = do
+  must (nat_le (length m.threads + length (numbers_of heir)) most_threads) TooManyThreads
+  must (not (list_any (λ number. is_taken number m) (numbers_of heir))) DoubleId
+
+-- A thread of each of these numbers.
+abbrev pub with_threads : (numbers : List ℕ) → Declaration → Machine → Machine
+with_threads [] d m = m
+with_threads (number ∷ numbers) d m = with_threads numbers d
+    (with_thread (record d { id = global_id number d.id.version }) m)
+
+-- A thread line. The script before it ends.
 abbrev pub second_declared : Reading → (operands : List (List ℕ)) → Judged Reading
 second_declared r operands = do
   heir ← second_declaration_of r.format r.names r.machine.cpus operands
-  script ← script_of (settled r) r.format r.names heir.source
-  machine ← declare (record heir.declaration { script = script }) (settled r)
-  Ok (record r { machine = machine; is_heir = not (is_none heir.source) })
+  source ← source_of r heir.source
+  may_declare heir r.machine
+  Ok (record (settled r) {
+    machine = with_threads (numbers_of heir)
+        (record heir.declaration { script = script_of (settled r).machine source })
+        (settled r).machine;
+    is_heir = is_some source;
+  })
 
--- The name of the instruction that follows, of a thread with a script of its own.
+-- A script of its own follows, in which no instruction has this name.
+abbrev pub may_label : Reading → (name : List ℕ) → Judged (Unit {0})
+may_label r name = do
+  must (has_script r) BadLine
+  must (may_name r name && is_none (label_of r.labels name)) BadName
+
+-- The name of the instruction that follows.
 abbrev pub labelled : Option (List ℕ) → Reading → Judged Reading
 labelled None r = Ok r
 labelled (Some name) r = do
-  must (has_script r) BadLine
-  may_name r name
-  must (is_none (label_of r.labels (last_place r.machine) name)) BadName
+  may_label r name
   Ok (record r {
-    labels = r.labels ++ record {
-      name = name;
-      thread = last_place r.machine;
-      at = length (last_thread r.machine).script;
-    } ∷ [];
+    labels = r.labels ++ record { name = name; at = length (last_thread r.machine).script } ∷ [];
   })
 
-abbrev pub targets_of : (line thread at : ℕ) → Option Place → List Target
-targets_of line thread at None = []
-targets_of line thread at (Some place) =
-    record { line = line; thread = thread; at = at; place = place } ∷ []
+abbrev pub target_at : (line at : ℕ) → Option Place → List Target
+target_at line at None = []
+target_at line at (Some place) = record { line = line; at = at; place = place } ∷ []
 
 -- An instruction of the last thread.
 abbrev pub instruction_line : (line : ℕ) → Reading → (name : List ℕ) → (operands : List (List ℕ)) →
@@ -166,8 +210,7 @@ instruction_line line r name operands = do
   machine ← extend said.instr r.machine
   Ok (record r {
     machine = machine;
-    targets = r.targets ++ targets_of line (last_place r.machine)
-        (length (last_thread r.machine).script) said.target;
+    targets = r.targets ++ target_at line (length (last_thread r.machine).script) said.target;
   })
 
 -- A line behind `cpus`. Only instructions have names.
@@ -204,34 +247,14 @@ after_said line stage (Some said) = after_words line stage said
 unfoldable pub after_line : (line : ℕ) → Stage → List ℕ → Judged Stage
 after_line line stage text = second_line_of text >>= after_said line stage
 
--- The end
-
--- What an instruction names its script does not have: a number is above that of its instructions,
--- or no instruction of it has the name.
-abbrev pub missed : Machine → List Label → Target → Option TextFaultKind
-missed m labels t = by t.place
-  where
-    by : Place → Option TextFaultKind
-    by (Numbered place) = if nat_lt (length (declared m t.thread).script) place then Some BadTarget
-        else None
-    by (Labelled name) = if is_none (label_of labels t.thread name) then Some BadName else None
-
-abbrev pub fault_or : (line : ℕ) → Option TextFaultKind → (later : Option TextFault) →
-    Option TextFault
-fault_or line None later = later
-fault_or line (Some kind) later = Some (fault_at line kind)
-
-abbrev pub first_missed : Machine → List Label → List Target → Option TextFault
-first_missed m labels [] = None
-first_missed m labels (t ∷ ts) = fault_or t.line (missed m labels t) (first_missed m labels ts)
-
+-- The machine, unless an instruction names one that its script does not have.
 abbrev pub unless_faulty : Machine → Option TextFault → Result Machine TextFault
 unless_faulty m None = Ok m
 unless_faulty m (Some fault) = Err fault
 
 -- The text ends. `line` is the number of its lines, plus 1.
 abbrev pub ended : Stage → (line : ℕ) → Result Machine TextFault
-ended (Threads r) line = unless_faulty (settled r) (first_missed r.machine r.labels r.targets)
+ended (Threads r) line = unless_faulty (settled r).machine (settled r).missed
 ended stage line = Err (fault_at line BadLine)
 
 abbrev pub judged_at : {X : Type 0} → (line : ℕ) → Judged Stage → (Stage → Result X TextFault) →

@@ -40,8 +40,10 @@ function ticksBehind({ cpus, threads }, list) {
     });
 }
 
-// How long a finite time is, in microseconds: ten bits times two to the power of the next five. Of other words it is 0.
+// How long a finite time is, in microseconds: so many of them, or ten bits times two to the power of the next five. Of other words it is 0.
 function periodOf(time) {
+    const counted = /^(\d+)(us|ms|s)$/.exec(time);
+    if (counted) return Number(counted[1]) * { us: 1, ms: 1000, s: 1000000 }[counted[2]];
     const word = Number(time) || 0;
     return word === 1024 ? 0 : (word & 1023) * 2 ** ((word >> 10) & 31);
 }

@@ -5,6 +5,8 @@ ghost use Rattle.l4_script.specs.Lines.{is_skipped};
 ghost use Rattle.l4_json.specs.Scripts.{EachHasLine, declares_thread, groups, script_lines};
 
 use crate::rows::first_word;
+use l4_script::text::TextFaultKind;
+use l4_script::text::second::{Reading, Stage, begins_second};
 use l4_types::errors::NoMemory;
 use l4_words::lines::split_line;
 use std::alloc::Global;
@@ -50,6 +52,53 @@ fn add_line(
     Ok(())
 }
 
+// Adds the line of this number to the groups of lines, by what the text has declared behind it: new
+// threads begin groups, which have the lines of the thread whose script they have.
+fn add_second_line(
+    alloc: Global,
+    reading: &Reading<'_>,
+    number: u64,
+    groups: &mut Vec<Vec<u64>>,
+) -> Result<(), NoMemory> {
+    let threads = reading.machine().threads();
+    if groups.len() <= threads.len() {
+        while groups.len() <= threads.len() {
+            let lines = match reading.heir_of().and_then(|place| groups.get(place + 1)) {
+                Some(lines) => Vec::from_slice(alloc, lines.as_slice())?,
+                None => Vec::new(alloc),
+            };
+            groups.push(lines)?;
+        }
+        return Ok(());
+    }
+    if let (Some(thread), Some(lines)) = (threads.last(), groups.last_mut())
+        && lines.len() < thread.script().len()
+    {
+        lines.push(number)?;
+    }
+    Ok(())
+}
+
+// The lines of a text with scripts of version 2.
+fn second_lines(alloc: Global, text: &[u8]) -> Result<ScriptLines, NoMemory> {
+    let mut groups = Vec::new(alloc);
+    groups.push(Vec::new(alloc))?;
+    let mut stage = Stage::Start;
+    let mut left = text;
+    let mut number = 1;
+    while let Some((line, rest)) = split_line(left) {
+        if let Err(TextFaultKind::NoMemory) = stage.read_line(number, alloc, line) {
+            return Err(NoMemory);
+        }
+        if let Stage::Threads(reading) = &stage {
+            add_second_line(alloc, reading, number as u64, &mut groups)?;
+        }
+        number += 1;
+        left = rest;
+    }
+    Ok(ScriptLines { groups })
+}
+
 /// For each thread of a machine text, the numbers of the lines of its instructions, in order.
 #[derive(Debug, Drop)]
 pub struct ScriptLines {
@@ -72,6 +121,9 @@ impl ScriptLines {
     pub fn of(alloc: Global, text: &[u8]) -> Result<ScriptLines, NoMemory>
         ensures { IfOk result (λ lines. lines ≡ script_lines text.now) }
     {
+        if begins_second(text) {
+            return second_lines(alloc, text);
+        }
         let mut groups = Vec::new(alloc);
         let mut current = Vec::new(alloc);
         let mut left = text;

@@ -137,6 +137,7 @@ pub(crate) fn operands_of(lines: Lines, name: &[u8]) -> Option<&'static [Operand
         Lines::Format => operands_behind(name, FORMAT, FORMAT_OPERANDS),
         Lines::Processors => operands_behind(name, PROCESSORS, PROCESSORS_OPERANDS),
         Lines::Thread => operands_behind(name, THREAD, THREAD_OPERANDS),
+        Lines::Names => None,
         Lines::Script if name == THREAD => Some(THREAD_OPERANDS),
         Lines::Script => instruction_operands(name),
     }

@@ -20,9 +20,11 @@ ghost use Rattle.l4_lint.specs.Inner.Views.{doubtful_of};
 use crate::bytes::split_word;
 use crate::commands::first_operand;
 use crate::hints::Operand;
+use crate::second::parts_of;
 use crate::spelling::push_place;
 use l4_script::instructions::{IdFrom, Instr, Source};
 use l4_script::machine::{Declaration, Machine};
+use l4_script::text::second::{Stage, begins_second};
 use l4_script::text::{TextFaultKind, number, time};
 use l4_types::errors::NoMemory;
 use l4_types::ids::{GlobalId, ThreadId};
@@ -418,6 +420,46 @@ fn doubts_in<'a>(
     Ok(found)
 }
 
+// The thread whose script is the last so far, as the whole text declares it.
+fn thread_of<'m>(machine: &'m Machine, stage: &Stage<'_>) -> Option<&'m Declaration> {
+    match stage {
+        Stage::Threads(reading) => thread_after(machine, reading.machine().threads().len()),
+        Stage::Start | Stage::Processors(_) => None,
+    }
+}
+
+// The doubts of the text of a machine with scripts of version 2, line by line.
+fn second_doubts<'a>(
+    alloc: Global,
+    machine: &Machine,
+    text: &'a [u8],
+) -> Result<Vec<Doubtful<'a>>, NoMemory> {
+    let mut found = Vec::new(alloc);
+    let mut stage = Stage::Start;
+    let mut left = text;
+    let mut number = 1;
+    'lines: while let Some((line, rest)) = split_line(left) {
+        if let Err(TextFaultKind::NoMemory) = stage.read_line(number, alloc, line) {
+            return Err(NoMemory);
+        }
+        let parts = parts_of(line);
+        let before = found.len();
+        push_line(
+            machine,
+            thread_of(machine, &stage),
+            number,
+            parts.words,
+            &mut found,
+        )?;
+        for doubtful in &mut found[before..] {
+            doubtful.column += parts.front.len() - parts.words.len();
+        }
+        number += 1;
+        left = rest;
+    }
+    Ok(found)
+}
+
 /// What a doubt says that is marked `Always` holds in every history of the machine that the text
 /// declares.
 pub fn law_always()
@@ -432,6 +474,7 @@ pub fn doubts<'a>(alloc: Global, text: &'a [u8]) -> Result<Vec<Doubtful<'a>>, No
 {
     law_always();
     match Machine::parse(alloc, text) {
+        Ok(machine) if begins_second(text) => second_doubts(alloc, &machine, text),
         Ok(machine) => doubts_in(alloc, &machine, text),
         Err(fault) if fault.kind == TextFaultKind::NoMemory => Err(NoMemory),
         Err(_) => Ok(Vec::new(alloc)),

@@ -67,6 +67,8 @@ pub(crate) fn is_right(context: Context, operand: Operand, word: &[u8]) -> bool
         Operand::Time => time(word).is_ok(),
         Operand::Bits => bits(word).is_some(),
         Operand::Place => number(word).is_some(),
+        // Those of scripts of version 2 are judged beside their names.
+        _ => false,
     }
 }
 
@@ -76,7 +78,11 @@ pub(crate) fn is_keyword(operand: Operand) -> bool
 {
     matches!(
         operand,
-        Operand::CpuKeyword | Operand::SpaceKeyword | Operand::Bits
+        Operand::CpuKeyword
+            | Operand::SpaceKeyword
+            | Operand::Bits
+            | Operand::ToKeyword
+            | Operand::AsKeyword
     )
 }
 

@@ -50,6 +50,10 @@ is_name word =
     begins_with_letter word && nat_le (length word) most_name_bytes && list_all is_name_byte word &&
     not (is_keyword word)
 
+-- So many ids have names at most, and so many instructions of a script (own).
+abbrev pub most_names : ℕ
+most_names = 1024
+
 -- A name that a text declares, and its id.
 pub record Named : Type 0 where
   pub name : List ℕ

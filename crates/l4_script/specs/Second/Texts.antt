@@ -1,5 +1,5 @@
 -- The machine that a text with scripts of version 2 declares, or its first fault.
-use Rattle.std.specs.Prelude.{ℕ, suc, ◌+◌, ◌-◌, Bool, true, false, not, ◌&&◌, ◌||◌, ◌==◌, nat_lt, nat_le, if◌then◌else◌, Option, Some, None, is_none, is_some, Result, Ok, Err, List, [], ◌∷◌, ◌++◌, length, find, slice_set, codes}
+use Rattle.std.specs.Prelude.{ℕ, suc, ◌+◌, ◌-◌, Bool, false, not, ◌&&◌, ◌||◌, ◌==◌, nat_lt, nat_le, if◌then◌else◌, Option, Some, None, is_none, Result, Ok, Err, List, [], ◌∷◌, ◌++◌, length, find, slice_set, codes}
 use Rattle.std.specs.Option.{option_map}
 use Rattle.std.specs.List.{list_any, range_with_len}
 use Rattle.std.specs.Str.{bytes_eq}
@@ -16,7 +16,7 @@ use Rattle.l4_script.specs.Judged.{Judged, ◌>>=◌, ◌>>◌, must, needs}
 use Rattle.l4_script.specs.Machines.{is_taken, last_thread, with_last_script, with_thread, machine_with}
 use Rattle.l4_script.specs.Statements.{Heading, processors_line, extend}
 use Rattle.l4_script.specs.Texts.{machine_of_text}
-use Rattle.l4_script.specs.Second.Names.{is_name, Named, is_declared_in, id_named, thread_named}
+use Rattle.l4_script.specs.Second.Names.{is_name, most_names, Named, is_declared_in, id_named, thread_named}
 use Rattle.l4_script.specs.Second.Lines.{Said, second_line_of}
 use Rattle.l4_script.specs.Second.Operands.{Place, Numbered, Labelled}
 use Rattle.l4_script.specs.Second.Statements.{is_second_heading, second_format_line, Heir, second_declaration_of, with_place, second_instruction_of}
@@ -34,14 +34,14 @@ pub record Target : Type 0 where
   pub place : Place
 
 -- The format of the text, the names that it declares, the machine of the lines so far, and of the
--- last script the names of its instructions, and what these name. `is_heir`: the last thread has the
--- script of another, and no line of its own. `missed` is the first fault of the scripts before: an
--- instruction names one that its script does not have.
+-- last script the names of its instructions, and what these name. `heir_of` is the place of the
+-- thread whose script the last one has, where it has no line of its own. `missed` is the first fault
+-- of the scripts before: an instruction names one that its script does not have.
 pub record Reading : Type 0 where
   pub format : Format
   pub names : List Named
   pub machine : Machine
-  pub is_heir : Bool
+  pub heir_of : Option ℕ
   pub labels : List Label
   pub targets : List Target
   pub missed : Option TextFault
@@ -56,7 +56,7 @@ nothing_read heading cpus = record {
   format = heading.format;
   names = [];
   machine = machine_with heading.retargeting cpus [];
-  is_heir = false;
+  heir_of = None;
   labels = [];
   targets = [];
   missed = None;
@@ -67,7 +67,7 @@ has_thread r = nat_lt 0 (length r.machine.threads)
 
 -- The last thread has a script of its own.
 abbrev pub has_script : Reading → Bool
-has_script r = has_thread r && not r.is_heir
+has_script r = has_thread r && is_none r.heir_of
 
 -- What instructions name
 
@@ -127,7 +127,7 @@ settled r = if has_thread r then with_script_ended r else r
 
 -- Lines
 
--- A name that may be declared: no keyword, and no other id has it.
+-- A name that may be declared: no keyword, and no id has it.
 abbrev pub may_name : Reading → (name : List ℕ) → Bool
 may_name r name = is_name name && not (is_declared_in r.names name)
 
@@ -136,7 +136,7 @@ abbrev pub name_line : Reading → (operands : List (List ℕ)) → Judged Readi
 name_line r operands = do
   must (not (has_thread r)) BadLine
   words ← needs (two operands) BadLine
-  must (may_name r words.0) BadName
+  must (may_name r words.0 && nat_lt (length r.names) most_names) BadName
   id ← id_named r.format r.names words.1
   Ok (record r { names = r.names ++ record { name = words.0; id = id } ∷ [] })
 
@@ -179,14 +179,15 @@ second_declared r operands = do
     machine = with_threads (numbers_of heir)
         (record heir.declaration { script = script_of (settled r).machine source })
         (settled r).machine;
-    is_heir = is_some source;
+    heir_of = source;
   })
 
 -- A script of its own follows, in which no instruction has this name.
 abbrev pub may_label : Reading → (name : List ℕ) → Judged (Unit {0})
 may_label r name = do
   must (has_script r) BadLine
-  must (may_name r name && is_none (label_of r.labels name)) BadName
+  must (may_name r name && is_none (label_of r.labels name) &&
+      nat_lt (length r.labels) most_names) BadName
 
 -- The name of the instruction that follows.
 abbrev pub labelled : Option (List ℕ) → Reading → Judged Reading

@@ -91,6 +91,14 @@ fn split_comment(line: &[u8]) -> (&[u8], &[u8])
     (without_last_blanks(without_first_blanks(said)), comment)
 }
 
+/// What a line says, without the blanks around it, a comment and a carriage return behind it. An
+/// instruction of version 1 is all of its line.
+pub fn said_part(line: &[u8]) -> &[u8]
+    ensures { result.now ≡ said_in (without_return line.now) }
+{
+    split_comment(without_return(line)).0
+}
+
 // What stands in front of the first blank, and behind all blanks there.
 fn split_first(said: &[u8]) -> (&[u8], &[u8])
     ensures first { result.0.now ≡ first_of said.now }

@@ -18,6 +18,9 @@ use std::marker::Model;
 /// How many bytes a name has at most.
 const MOST_NAME_BYTES: usize = 31;
 
+/// How many ids have names at most, and how many instructions of a script.
+pub const MOST_NAMES: usize = 1024;
+
 /// A name that a text declares, and its id.
 #[derive(Debug, Drop)]
 pub struct Named<'a> {
@@ -150,7 +153,7 @@ fn id_by_name(names: &[Named<'_>], word: &[u8]) -> Result<ThreadId, TextFaultKin
 
 /// An id as version 1 spells it, or by a name.
 #[tactic(auto, unfolding(crate::specs::Second::Names::id_named))]
-pub(super) fn id_named(
+pub fn id_named(
     format: Format,
     names: &[Named<'_>],
     word: &[u8],
@@ -165,7 +168,7 @@ pub(super) fn id_named(
 
 /// The id of a thread: a global one.
 #[tactic(auto, unfolding(crate::specs::Second::Names::thread_named))]
-pub(super) fn thread_named(
+pub fn thread_named(
     format: Format,
     names: &[Named<'_>],
     word: &[u8],

@@ -25,7 +25,7 @@ ghost use Rattle.l4_script.specs.Second.Texts.{unless_faulty, ended, judged_at};
 use super::super::fault::{TextFault, TextFaultKind};
 use super::super::statements::{Heading, processors_line};
 use super::lines::{Said, line_said};
-use super::names::{Named, id_named, id_under, is_name, thread_named};
+use super::names::{MOST_NAMES, Named, id_named, id_under, is_name, thread_named};
 use super::operands::Place;
 use super::statements::{Heir, declaration, format_line, instruction};
 use crate::machine::{Declaration, MOST_INSTRUCTIONS, MOST_THREADS, Machine};
@@ -80,8 +80,8 @@ pub struct Reading<'a> {
     format: Format,
     names: Vec<Named<'a>>,
     machine: Machine,
-    // The last thread has the script of another, and no line of its own.
-    is_heir: bool,
+    // The place of the thread whose script the last one has, where it has no line of its own.
+    heir_of: Option<usize>,
     labels: Vec<Label<'a>>,
     targets: Vec<Target<'a>>,
     // The first fault of the scripts before: an instruction names one that its script does not
@@ -99,7 +99,7 @@ impl<'a> Model for Reading<'a> {
       format = format_of r.format;
       names = r.names.items;
       machine = r.machine;
-      is_heir = r.is_heir;
+      heir_of = r.heir_of;
       labels = r.labels.items;
       targets = r.targets.items;
       missed = r.missed;
@@ -212,7 +212,7 @@ impl<'a> Reading<'a> {
             format: heading.format,
             names: Vec::new(alloc),
             machine: Machine::new(alloc, heading.retargeting, cpus),
-            is_heir: false,
+            heir_of: None,
             labels: Vec::new(alloc),
             targets: Vec::new(alloc),
             missed: None,
@@ -250,11 +250,18 @@ impl<'a> Reading<'a> {
     fn has_script(&self) -> bool
         ensures { result ≡ has_script self.now }
     {
-        self.has_thread() && !self.is_heir
+        self.has_thread() && self.heir_of.is_none()
     }
 
-    // Whether a name may be declared: it is no keyword, and no other id has it.
-    fn may_name(&self, name: &[u8]) -> bool
+    /// The place of the thread whose script the last one has, where it has none of its own.
+    pub fn heir_of(&self) -> Option<usize>
+        ensures { result ≡ self.now.heir_of }
+    {
+        self.heir_of
+    }
+
+    /// Whether a name may be declared: it is no keyword, and no other id has it.
+    pub fn may_name(&self, name: &[u8]) -> bool
         ensures { result ≡ may_name self.now name.now }
     {
         is_name(name) && id_under(self.names.as_slice(), name).is_none()
@@ -269,7 +276,7 @@ impl<'a> Reading<'a> {
             return Err(TextFaultKind::BadLine);
         }
         let (name, id) = operands.two().ok_or(TextFaultKind::BadLine)?;
-        if !self.may_name(name) {
+        if !self.may_name(name) || self.names.len() >= MOST_NAMES {
             return Err(TextFaultKind::BadName);
         }
         let id = id_named(self.format, self.names.as_slice(), id)?;
@@ -360,7 +367,7 @@ impl<'a> Reading<'a> {
             number += 1;
         }
         self.declare(alloc, number, heir, source)?;
-        self.is_heir = source.is_some();
+        self.heir_of = source;
         Ok(())
     }
 
@@ -382,14 +389,16 @@ impl<'a> Reading<'a> {
         Ok(())
     }
 
-    // Whether a script of its own follows, in which no instruction has this name.
-    fn may_label(&self, name: &[u8]) -> Result<(), TextFaultKind>
+    /// Whether a script of its own follows, in which no instruction has this name: else `BadLine` or
+    /// `BadName`.
+    pub fn may_label(&self, name: &[u8]) -> Result<(), TextFaultKind>
         ensures { result ≡ may_label self.now name.now }
     {
         if !self.has_script() {
             return Err(TextFaultKind::BadLine);
         }
-        if !self.may_name(name) || label_of(self.labels.as_slice(), name).is_some() {
+        let is_taken = label_of(self.labels.as_slice(), name).is_some();
+        if !self.may_name(name) || is_taken || self.labels.len() >= MOST_NAMES {
             return Err(TextFaultKind::BadName);
         }
         Ok(())
@@ -543,7 +552,7 @@ impl<'a> Stage<'a> {
     }
 
     /// The machine of a text that ends here, before the line of this number.
-    pub(super) fn ended(self, line: usize) -> Result<Machine, TextFault>
+    pub fn ended(self, line: usize) -> Result<Machine, TextFault>
         ensures { result ≡ ended (stage_of self) line }
     {
         match self {

@@ -184,9 +184,9 @@ of the kind stands
 that, `--schedule
 LIST` tells each faulty item of a list for this machine, with status 1.
 
-Kinds: BadLine, BadNumber, BadId, BadCpu, TypedItems, DoubleId, TooManyThreads, \
-TooManyInstructions, BadTarget,
-TooLong. docs/FORMATS.md tells what each of them is.";
+Kinds: BadLine, BadNumber, BadId, BadName, BadCpu, TypedItems, DoubleId, TooManyThreads, \
+TooManyInstructions,
+BadTarget, TooLong. docs/FORMATS.md tells what each of them is.";
 
 pub const TWO_FORMS: &str =
     "error: only one of '--ascii', '--svg', '--html' and '--mermaid' can be given

@@ -80,12 +80,9 @@ impl Declaration {
           script = map instr_of script.now;
         }) }
     {
-        Ok(Declaration {
-            id,
-            cpu,
-            space,
-            script: Vec::from_slice(alloc, script)?,
-        })
+        let mut thread = Declaration::new(alloc, id, cpu, space);
+        thread.script = Vec::from_slice(alloc, script)?;
+        Ok(thread)
     }
 
     // Its instruction at one place goes on at another.

@@ -8,12 +8,12 @@ ghost use Rattle.l4_core_model.specs.Local.{declared};
 ghost use Rattle.l4_core_model.specs.Runs.{IsMachine};
 ghost use Rattle.l4_first.specs.First.{instruction_deletes, is_delete, may_ask, tag_asks};
 ghost use Rattle.l4_persistent.specs.Inner.Posts.{Aim, aims_of, has_aim, is_at, is_deletable};
-ghost use Rattle.l4_persistent.specs.Inner.Posts.{may_propagate, names};
+ghost use Rattle.l4_persistent.specs.Inner.Posts.{may_name, may_propagate, names};
 ghost use Rattle.l4_script.specs.Inner.Scripts.{instr_of, to_of};
 ghost use Rattle.l4_types.specs.StepView.{order_kind_of};
 ghost use Rattle.l4_sets.specs.Inner.Sets.{has};
 ghost use Rattle.l4_sets.specs.Inner.Aimed.{aimed_at, is_aimed, is_aimed_behind, AreAimed, IsBelow};
-ghost use Rattle.l4_sets.specs.Inner.Aimed.{IsSettledAt, is_sent_to};
+ghost use Rattle.l4_sets.specs.Inner.Aimed.{IsSettledAt};
 
 use crate::processors::Processors;
 use l4_script::instructions::{Instr, To};
@@ -214,7 +214,7 @@ fn own_aim(machine: &Machine, instr: &Instr) -> Aimed
 
 // Whom a send goes to.
 fn sent_to(machine: &Machine, to: To) -> Aimed
-    ensures { (aim : Aim) → is_aimed result aim ≡ is_sent_to machine.now (to_of to) aim }
+    ensures { (aim : Aim) → is_aimed result aim ≡ may_name machine.now (to_of to) aim }
 {
     match to {
         To::Id(id) => Aimed {

@@ -201,7 +201,8 @@ pub(crate) fn named_home(machine: &Machine, id: ThreadId) -> Processors
 
 // Whom an instruction itself sends or gives an order to.
 fn own_aim(machine: &Machine, instr: &Instr) -> Aimed
-    ensures { (aim : Aim) → is_aimed result aim ≡ has_aim machine.now (instr_of instr.now) aim }
+    ensures { (aim : Aim) → IsBelow aim →
+        is_aimed result aim ≡ has_aim machine.now (instr_of instr.now) aim }
 {
     match *instr {
         Instr::Ipc(ipc) => aim_of(machine, ipc.to()),

@@ -10,7 +10,7 @@ use Rattle.l4_types.specs.declared.reports.Ending.{Ending}
 use Rattle.l4_words.specs.Words.{words_in}
 use Rattle.l4_lines.specs.Lines.{are_rest, has_line}
 use Rattle.l4_reports.specs.ReportLines.{report_text}
-use Rattle.l4_script.specs.Texts.{machine_of_text}
+use Rattle.l4_script.specs.Versions.{machine_of_text}
 use Rattle.l4_script.proofs.AcceptedTexts.{each_has_text}
 use Rattle.l4_trace.specs.Lines as trace
 use Rattle.l4_expect.specs.Judging.{wrong_asked}

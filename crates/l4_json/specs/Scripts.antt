@@ -3,7 +3,7 @@ use Rattle.std.specs.Prelude.{ℕ, ◌≡◌, ◌+◌, Bool, false, if◌then◌
 use Rattle.std.specs.Str.{bytes_eq}
 use Rattle.l4_model.specs.Machine.{Machine}
 use Rattle.l4_script.specs.Lines.{is_skipped}
-use Rattle.l4_script.specs.Texts.{machine_of_text}
+use Rattle.l4_script.specs.Versions.{machine_of_text}
 use Rattle.l4_words.specs.Lines.{parts_of}
 use Rattle.l4_words.specs.Words.{words_in}
 use Rattle.l4_json.specs.Lines.{all_but_last}

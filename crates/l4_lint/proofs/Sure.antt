@@ -16,7 +16,7 @@ use Rattle.l4_core_model.specs.Local.{undeclared}
 use Rattle.l4_core_model.specs.Runs.{IsMachine}
 use Rattle.l4_script.specs.Canonical.{HasText, can_be_declared, can_be_written}
 use Rattle.l4_script.specs.Numbers.{time_from}
-use Rattle.l4_script.specs.Texts.{machine_of_text}
+use Rattle.l4_script.specs.Versions.{machine_of_text}
 use Rattle.l4_script.specs.declared.text.fault.TextFault.{TextFault}
 use Rattle.l4_script.proofs.AcceptedTexts.{each_has_text}
 use Rattle.l4_lint.specs.declared.doubts.Doubt.TheVariants.{NoThread, NoLimit, NotSent, NotPropagated}

@@ -8,7 +8,7 @@ use Rattle.l4_model.specs.Steps.{Step, Deliver, Order, Tick, OfThread, OfSend}
 use Rattle.l4_model.specs.History.{IsHistory}
 use Rattle.l4_words.specs.Threads.{thread_of}
 use Rattle.l4_script.specs.Numbers.{number_of}
-use Rattle.l4_script.specs.Texts.{machine_of_text}
+use Rattle.l4_script.specs.Versions.{machine_of_text}
 use Rattle.l4_lint.specs.declared.doubts.Doubt.{Doubt}
 use Rattle.l4_lint.specs.declared.doubts.Doubt.TheVariants.{NoThread, NoLimit, NotSent, NotPropagated}
 use Rattle.l4_lint.specs.declared.doubts.Mark.TheVariants.{Always}

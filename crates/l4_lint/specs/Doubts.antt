@@ -9,7 +9,7 @@ use Rattle.l4_words.specs.Lines.{parts_of}
 use Rattle.l4_words.specs.Threads.{thread_of}
 use Rattle.l4_script.specs.Judged.{Judged}
 use Rattle.l4_script.specs.Numbers.{number_of, time_from}
-use Rattle.l4_script.specs.Texts.{machine_of_text}
+use Rattle.l4_script.specs.Versions.{machine_of_text}
 use Rattle.l4_script.specs.declared.text.fault.TextFault.{TextFault}
 use Rattle.l4_lint.specs.declared.doubts.Doubt.{Doubt}
 use Rattle.l4_lint.specs.declared.doubts.Doubt.TheVariants.{NoThread, NoLimit, NotSent, NotPropagated}

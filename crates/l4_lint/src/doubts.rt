@@ -5,7 +5,7 @@ ghost use Rattle.std.specs.Option.{option_copied};
 ghost use Rattle.std.specs.Str.{bytes_eq};
 ghost use Rattle.l4_script.specs.Inner.Scripts.{id_from_of, instr_of};
 ghost use Rattle.l4_script.specs.Numbers.{time_from};
-ghost use Rattle.l4_script.specs.Texts.{machine_of_text};
+ghost use Rattle.l4_script.specs.Versions.{machine_of_text};
 ghost use Rattle.l4_lint.specs.Always.{AreAlwaysSo};
 ghost use Rattle.l4_lint.specs.Doubts.{answer_doubts, asks_to_propagate, doubt_line, doubt_text};
 ghost use Rattle.l4_lint.specs.Doubts.{doubted, doubts_text, lines_of};

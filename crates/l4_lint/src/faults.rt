@@ -3,7 +3,7 @@ ghost use Rattle.std.specs.Prelude.{◌≡◌, ◌≤◌, ◌+◌, ◌++◌, ◌
 ghost use Rattle.std.specs.Prelude.{IfOk, IfSome, MatchOption, OnOk};
 ghost use Rattle.l4_words.specs.Lines.{parts_of};
 ghost use Rattle.l4_script.specs.Inner.Stages.{stage_of};
-ghost use Rattle.l4_script.specs.Texts.{machine_of_text};
+ghost use Rattle.l4_script.specs.Versions.{machine_of_text};
 ghost use Rattle.l4_lint.specs.Faults.{Fault as FaultView, step, followed, faults_from, faults_of};
 ghost use Rattle.l4_lint.specs.Faults.{too_long, not_read, unended, text_ends, ended, first_in};
 ghost use Rattle.l4_lint.specs.Faults.{fault_in};

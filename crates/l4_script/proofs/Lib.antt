@@ -1,5 +1,6 @@
 pub mod AcceptedLines
 pub mod AcceptedTexts
+pub mod Blanks
 pub mod CanonicalRows
 pub mod Finding
 pub mod Growing
@@ -9,6 +10,7 @@ pub mod OwnWords
 pub mod PlainWords
 pub mod ReadBack
 pub mod ReadingLines
+pub mod SecondReadingLines
 pub mod SecondRows
 pub mod Spelled
 pub mod TextRows

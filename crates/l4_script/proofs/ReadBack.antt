@@ -15,7 +15,7 @@ use Rattle.l4_script.specs.Judged.{Judged}
 use Rattle.l4_words.specs.Lines.{parts_of, line_of_words}
 use Rattle.l4_script.specs.Machines.{has_number, last_thread, extended}
 use Rattle.l4_script.specs.Statements.{Heading, declare, extend}
-use Rattle.l4_script.specs.Texts.{Stage, Start, Processors, Threads, Reading, Target, targets_of, declared_in, extended_at, thread_line, after_words, after_line, is_missed, unless_missed, judged_at, read, machine_of_text}
+use Rattle.l4_script.specs.Texts.{Stage, Start, Processors, Threads, Reading, Target, targets_of, declared_in, extended_at, thread_line, after_words, after_line, is_missed, unless_missed, judged_at, read, first_machine_of_text}
 use Rattle.l4_script.specs.Canonical.{words_of_instruction, words_of_thread, words_of_format, lines_of_thread, lines_of, canonical_text, can_be_written, can_be_declared, are_apart, HasText}
 use Rattle.l4_script.proofs.Written.{are_line, line_lacks_end, after_line_read, instruction_is_line, instruction_read, declarable, thread_is_line, thread_line_read, format_is_line, format_read, processors_read, processors_is_line}
 
@@ -187,7 +187,7 @@ threads_are_lines f cpus (d ∷ ds) limit h =
     list_all-append are_line (lines_of_thread f d) (flat_map (lines_of_thread f) ds)
     ∙ and_from _ _ (and_from _ _ (thread_is_line f cpus d limit can) (script_is_lines f (length d.script) d.script can.room can.script)) (threads_are_lines f cpus ds limit both.1)
 
-pub read_back : (f : Format) (m : Machine) → HasText f m → length (canonical_text f m) ≤ 0x100000 → machine_of_text (canonical_text f m) ≡ Ok m
+pub read_back : (f : Format) (m : Machine) → HasText f m → length (canonical_text f m) ≤ 0x100000 → first_machine_of_text (canonical_text f m) ≡ Ok m
 read_back f m h short =
     let limit = h.limit in
     let threads = flat_map (lines_of_thread f) m.threads in

@@ -13,7 +13,7 @@ use Rattle.l4_words.specs.Threads.{thread_of}
 use Rattle.l4_script.specs.Ids.{thread_in, spelled_id_of, id_of}
 use Rattle.l4_script.specs.Lines.{line_of}
 use Rattle.l4_script.specs.Statements.{format_line, processors_line, processor_of, declaration_of, value_of, assign_of, tag_of, vs_of, destination_of, ipc_of, bits_of, exregs_of, delete_of, target_of, other_of, instruction_of, declare, extend}
-use Rattle.l4_script.specs.Texts.{thread_line, after_words, after_line, machine_of_text, format_of_text}
+use Rattle.l4_script.specs.Texts.{thread_line, after_words, after_line, first_machine_of_text, format_of_text}
 
 -- Words
 
@@ -138,7 +138,7 @@ thread number space script = record { id = global_id number 1; cpu = 0; space = 
 abbrev first_path : Machine
 first_path = machine_of 1 (thread 1 1 (Set 1 10 ∷ Tag 0x70001 ∷ send_to (GlobalThread (global_id 2 1)) ∷ []) ∷ thread 2 2 (receive_from_any ∷ []) ∷ [])
 
-first_path_read : machine_of_text first_path_text ≡ Ok first_path
+first_path_read : first_machine_of_text first_path_text ≡ Ok first_path
 unfolding number_of number_from word_from period_number time_from thread_of thread_in spelled_id_of id_of line_of format_line processors_line processor_of declaration_of value_of assign_of tag_of vs_of destination_of ipc_of bits_of exregs_of delete_of target_of other_of instruction_of declare extend thread_line after_words after_line
 first_path_read = refl
 
@@ -147,7 +147,7 @@ first_path_size = refl
 
 -- The beginnings of this text that are texts: those that end with a line, behind the `cpus` line.
 abbrev is_read : ℕ → Bool
-is_read size = is_ok (machine_of_text (take size first_path_text))
+is_read size = is_ok (first_machine_of_text (take size first_path_text))
 
 beginnings_read : filter is_read (range_with_len 0 135) ≡ 15 ∷ 40 ∷ 49 ∷ 61 ∷ 85 ∷ 110 ∷ 134 ∷ []
 unfolding number_of number_from word_from period_number time_from thread_of thread_in spelled_id_of id_of line_of format_line processors_line processor_of declaration_of value_of assign_of tag_of vs_of destination_of ipc_of bits_of exregs_of delete_of target_of other_of instruction_of declare extend thread_line after_words after_line
@@ -218,7 +218,7 @@ instructions =
     ∷ (codes "end", End)
     ∷ []
 
-instructions_read : map (λ row. machine_of_text (behind_thread (row.0 ∷ []))) instructions ≡ map (λ row. Ok (machine_of 1 (thread 1 1 (row.1 ∷ []) ∷ []))) instructions
+instructions_read : map (λ row. first_machine_of_text (behind_thread (row.0 ∷ []))) instructions ≡ map (λ row. Ok (machine_of 1 (thread 1 1 (row.1 ∷ []) ∷ []))) instructions
 unfolding number_of number_from word_from period_number time_from thread_of thread_in spelled_id_of id_of line_of format_line processors_line processor_of declaration_of value_of assign_of tag_of vs_of destination_of ipc_of bits_of exregs_of delete_of target_of other_of instruction_of declare extend thread_line after_words after_line
 instructions_read = refl
 
@@ -304,7 +304,7 @@ no_instructions =
     ∷ (codes "jump 18446744073709551615", BadTarget)
     ∷ []
 
-no_instructions_read : map (λ row. machine_of_text (behind_thread (row.0 ∷ []))) no_instructions ≡ map (λ row. Err (fault_at 4 row.1)) no_instructions
+no_instructions_read : map (λ row. first_machine_of_text (behind_thread (row.0 ∷ []))) no_instructions ≡ map (λ row. Err (fault_at 4 row.1)) no_instructions
 unfolding number_of number_from word_from period_number time_from thread_of thread_in spelled_id_of id_of line_of format_line processors_line processor_of declaration_of value_of assign_of tag_of vs_of destination_of ipc_of bits_of exregs_of delete_of target_of other_of instruction_of declare extend thread_line after_words after_line
 no_instructions_read = refl
 
@@ -333,7 +333,7 @@ no_threads =
     ∷ (codes "l4 1 64", BadLine)
     ∷ []
 
-no_threads_read : map (λ row. machine_of_text (behind_headers (row.0 ∷ []))) no_threads ≡ map (λ row. Err (fault_at 3 row.1)) no_threads
+no_threads_read : map (λ row. first_machine_of_text (behind_headers (row.0 ∷ []))) no_threads ≡ map (λ row. Err (fault_at 3 row.1)) no_threads
 unfolding number_of number_from word_from period_number time_from thread_of thread_in spelled_id_of id_of line_of format_line processors_line processor_of declaration_of value_of assign_of tag_of vs_of destination_of ipc_of bits_of exregs_of delete_of target_of other_of instruction_of declare extend thread_line after_words after_line
 no_threads_read = refl
 
@@ -420,7 +420,7 @@ texts =
     ∷ (behind_thread (codes "end" ∷ codes "end" ∷ codes "thread 2.1 cpu 0 space 1" ∷ codes "onerr 2" ∷ []), Err (fault_at 7 BadTarget))
     ∷ []
 
-texts_read : map (λ row. machine_of_text row.0) texts ≡ map (λ row. row.1) texts
+texts_read : map (λ row. first_machine_of_text row.0) texts ≡ map (λ row. row.1) texts
 unfolding number_of number_from word_from period_number time_from thread_of thread_in spelled_id_of id_of line_of format_line processors_line processor_of declaration_of value_of assign_of tag_of vs_of destination_of ipc_of bits_of exregs_of delete_of target_of other_of instruction_of declare extend thread_line after_words after_line
 texts_read = refl
 
@@ -477,7 +477,7 @@ short_instructions =
     ∷ (codes "jump 0x0000000000000001", Jump 1)
     ∷ []
 
-short_instructions_read : map (λ row. machine_of_text (behind_short_thread (row.0 ∷ []))) short_instructions ≡ map (λ row. Ok (machine_of 1 (thread 1 1 (row.1 ∷ []) ∷ []))) short_instructions
+short_instructions_read : map (λ row. first_machine_of_text (behind_short_thread (row.0 ∷ []))) short_instructions ≡ map (λ row. Ok (machine_of 1 (thread 1 1 (row.1 ∷ []) ∷ []))) short_instructions
 unfolding number_of number_from word_from period_number time_from thread_of thread_in spelled_id_of id_of line_of format_line processors_line processor_of declaration_of value_of assign_of tag_of vs_of destination_of ipc_of bits_of exregs_of delete_of target_of other_of instruction_of declare extend thread_line after_words after_line
 short_instructions_read = refl
 
@@ -505,7 +505,7 @@ no_short_instructions =
     ∷ (codes "thread 2.1 cpu 0 space 4294967296", BadNumber)
     ∷ []
 
-no_short_instructions_read : map (λ row. machine_of_text (behind_short_thread (row.0 ∷ []))) no_short_instructions ≡ map (λ row. Err (fault_at 4 row.1)) no_short_instructions
+no_short_instructions_read : map (λ row. first_machine_of_text (behind_short_thread (row.0 ∷ []))) no_short_instructions ≡ map (λ row. Err (fault_at 4 row.1)) no_short_instructions
 unfolding number_of number_from word_from period_number time_from thread_of thread_in spelled_id_of id_of line_of format_line processors_line processor_of declaration_of value_of assign_of tag_of vs_of destination_of ipc_of bits_of exregs_of delete_of target_of other_of instruction_of declare extend thread_line after_words after_line
 no_short_instructions_read = refl
 
@@ -518,13 +518,13 @@ formats_named = (refl, refl, refl, refl, refl, refl, refl)
 
 -- A sum that wraps, and an id by its word.
 short_path_read :
-    machine_of_text (behind_short_thread (codes "set 1 0xffffffff" ∷ codes "add 1 2" ∷ codes "tag 0x70001" ∷ codes "ipc #00008001 nil never never" ∷ codes "thread 2.1 cpu 0 space 2" ∷ codes "ipc nil any never never" ∷ []))
+    first_machine_of_text (behind_short_thread (codes "set 1 0xffffffff" ∷ codes "add 1 2" ∷ codes "tag 0x70001" ∷ codes "ipc #00008001 nil never never" ∷ codes "thread 2.1 cpu 0 space 2" ∷ codes "ipc nil any never never" ∷ []))
     ≡ Ok (machine_of 1 (thread 1 1 (Set 1 0xffffffff ∷ Add W32 1 2 ∷ Tag 0x70001 ∷ send_to t_2_1 ∷ []) ∷ thread 2 2 (receive_from_any ∷ []) ∷ []))
 unfolding number_of number_from word_from period_number time_from thread_of thread_in spelled_id_of id_of line_of format_line processors_line processor_of declaration_of value_of assign_of tag_of vs_of destination_of ipc_of bits_of exregs_of delete_of target_of other_of instruction_of declare extend thread_line after_words after_line
 short_path_read = refl
 
 short_sum_of_profile_2_read :
-    machine_of_text (text (codes "l4 2 32" ∷ codes "cpus 1" ∷ codes "thread 1.1 cpu 0 space 1" ∷ codes "add 1 2" ∷ []))
+    first_machine_of_text (text (codes "l4 2 32" ∷ codes "cpus 1" ∷ codes "thread 1.1 cpu 0 space 1" ∷ codes "add 1 2" ∷ []))
     ≡ Ok (retargeting_machine_of 1 (thread 1 1 (Add W32 1 2 ∷ []) ∷ []))
 unfolding number_of number_from word_from period_number time_from thread_of thread_in spelled_id_of id_of line_of format_line processors_line processor_of declaration_of value_of assign_of tag_of vs_of destination_of ipc_of bits_of exregs_of delete_of target_of other_of instruction_of declare extend thread_line after_words after_line
 short_sum_of_profile_2_read = refl

@@ -11,7 +11,7 @@ use Rattle.l4_words.specs.Lines.{line_of_words}
 use Rattle.l4_words.specs.Threads.{thread_word}
 use Rattle.l4_script.specs.Ids.{id_digits}
 use Rattle.l4_script.specs.Machines.{has_number}
-use Rattle.l4_script.specs.Texts.{machine_of_text, format_of_text}
+use Rattle.l4_script.specs.Texts.{first_machine_of_text, format_of_text}
 
 -- Words
 
@@ -183,12 +183,12 @@ pub record HasText (f : Format) (m : Machine) : Type 0 where
 -- long.
 abbrev pub IsReadBack : Type 0
 IsReadBack = (f : Format) (m : Machine) → HasText f m → length (canonical_text f m) ≤ 0x100000 →
-    machine_of_text (canonical_text f m) ≡ Ok m
+    first_machine_of_text (canonical_text f m) ≡ Ok m
 
 -- Every machine that is read of a text, however it is spelled, has a canonical text in the format
 -- that the text names.
 abbrev pub EachHasText : Type 0
-EachHasText = (text : List ℕ) (m : Machine) → machine_of_text text ≡ Ok m →
+EachHasText = (text : List ℕ) (m : Machine) → first_machine_of_text text ≡ Ok m →
     IsMachine m × ((f : Format) × (format_of_text text ≡ Some f) × HasText f m)
 
 -- The scripts of a machine that has a text in a format write words of this format alone.

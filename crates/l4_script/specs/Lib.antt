@@ -9,3 +9,4 @@ pub mod Numbers
 pub mod Second
 pub mod Statements
 pub mod Texts
+pub mod Versions

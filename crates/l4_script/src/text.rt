@@ -2,7 +2,8 @@
 ghost use Rattle.std.specs.Prelude.{◌≡◌, ◌≤◌, length};
 ghost use Rattle.l4_script.specs.Canonical.{IsReadBack, EachHasText, WritesItsWords};
 ghost use Rattle.l4_words.specs.Lines.{parts_of};
-ghost use Rattle.l4_script.specs.Texts.{Start, Reads, read, machine_of_text};
+ghost use Rattle.l4_script.specs.Texts.{Start, Reads, read};
+ghost use Rattle.l4_script.specs.Versions.{machine_of_text};
 
 mod fault;
 mod ids;

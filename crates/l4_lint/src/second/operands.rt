@@ -5,7 +5,7 @@ use crate::hints::{Lines, Operand};
 use crate::judging::is_right as is_right_in_first;
 use l4_script::text::number_from;
 use l4_script::text::second::{
-    Named, Reading, id_named, id_or_last, id_or_register, is_name, place, second_time, thread_named,
+    Named, Reading, id_named, id_or_last, id_or_register, is_name, named_place, second_time, thread_named,
 };
 use l4_types::formats::Format;
 use l4_types::ids::GlobalId;
@@ -145,7 +145,7 @@ impl Known<'_, '_> {
             Operand::IdOrLast => id_or_last(format, self.names(), word).is_ok(),
             Operand::CountedTime => second_time(word).is_ok(),
             Operand::Label => number_from(0, most_label(format), word).is_ok(),
-            Operand::NamedPlace => place(word).is_ok(),
+            Operand::NamedPlace => named_place(word).is_ok(),
             _ => is_right_in_first(self.context, operand, word),
         }
     }

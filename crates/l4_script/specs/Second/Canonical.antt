@@ -5,7 +5,7 @@ use Rattle.l4_model.specs.Words.{Format, same_format, is_word_in, is_global_in, 
 use Rattle.l4_model.specs.Machine.{FromWord, Assign, Instr, Run, Vs, Ipc, IdFrom, Fixed, Last, InRegister, Ask, Delete, OnLabel, OnWord, OnFrom, Declaration, Machine, most_processors, most_threads, most_instructions}
 use Rattle.l4_words.specs.Lines.{line_of_words}
 use Rattle.l4_script.specs.Canonical.{words_of_instruction, words_of_thread, words_of_format, can_be_written, is_register, has_time, are_apart}
-use Rattle.l4_script.specs.Second.Texts.{machine_of_any_text}
+use Rattle.l4_script.specs.Versions.{machine_of_text}
 
 abbrev pub second_words_of_instruction : Format → Instr → List (List ℕ)
 second_words_of_instruction f (Run (Assign a (FromWord format))) = codes "from" ∷ decimal a ∷ []
@@ -70,4 +70,4 @@ pub record HasSecondText (f : Format) (m : Machine) : Type 0 where
 abbrev pub IsSecondReadBack : Type 0
 IsSecondReadBack = (f : Format) (m : Machine) → HasSecondText f m →
     length (second_canonical_text f m) ≤ 0x100000 →
-    machine_of_any_text (second_canonical_text f m) ≡ Ok m
+    machine_of_text (second_canonical_text f m) ≡ Ok m

@@ -8,7 +8,7 @@ use Rattle.l4_script.specs.declared.text.fault.TextFaultKind.TheVariants.{BadLin
 use Rattle.l4_script.specs.Judged.{Judged, ◌>>=◌, ◌>>◌, must, needs}
 use Rattle.l4_script.specs.Numbers.{number_of, number_from, word_from}
 use Rattle.l4_script.specs.Lines.{after}
-use Rattle.l4_script.specs.Statements.{Heading, heading_by, processor_of, value_of, assign_of, tag_of, bits_of, end_of}
+use Rattle.l4_script.specs.Statements.{Heading, heading_by, processor_of, value_of, assigned_or, tag_of, bits_of, end_of}
 use Rattle.l4_script.specs.Second.Names.{Named, id_named, thread_named}
 use Rattle.l4_script.specs.Second.Operands.{Place, id_or_register_of, id_or_last_of, place_of, second_time_from}
 
@@ -99,9 +99,6 @@ pub record Unplaced : Type 0 where
   pub instr : Instr
   pub target : Option Place
 
-abbrev pub without_target : Judged Instr → Judged Unplaced
-without_target said = said >>= λ instr. Ok (record { instr = instr; target = None })
-
 -- What it names is judged last.
 abbrev pub targeting : Instr → (word : List ℕ) → Judged Unplaced
 targeting instr word = do
@@ -183,32 +180,35 @@ on_from_of format names operands = do
   id ← id_named format names words.0
   targeting (OnFrom id 0) words.1
 
+-- An instruction that goes on with the next, and assigns no value, by its first word.
 unfoldable pub second_other_of : Format → List Named → (name : List ℕ) →
-    (operands : List (List ℕ)) → Judged Unplaced
+    (operands : List (List ℕ)) → Judged Instr
 second_other_of format names name operands =
-    if bytes_eq name (codes "from") then without_target (from_of format operands)
-    else (if bytes_eq name (codes "tag") then without_target (tag_of format operands)
-    else (if bytes_eq name (codes "vs") then without_target (second_vs_of format names operands)
-    else (if bytes_eq name (codes "ipc") then without_target (second_ipc_of format names operands)
-    else (if bytes_eq name (codes "exregs")
-    then without_target (second_exregs_of format names operands)
-    else (if bytes_eq name (codes "delete")
-    then without_target (second_delete_of format names operands)
-    else (if bytes_eq name (codes "jump") then goes_to (Jump 0) operands
-    else (if bytes_eq name (codes "onerr") then goes_to (OnErr 0) operands
-    else (if bytes_eq name (codes "onlabel") then on_label_of format operands
-    else (if bytes_eq name (codes "onword") then on_word_of format operands
-    else (if bytes_eq name (codes "onfrom") then on_from_of format names operands
-    else (if bytes_eq name (codes "end") then without_target (end_of operands)
-    else Err BadLine)))))))))))
+    if bytes_eq name (codes "from") then from_of format operands
+    else (if bytes_eq name (codes "tag") then tag_of format operands
+    else (if bytes_eq name (codes "vs") then second_vs_of format names operands
+    else (if bytes_eq name (codes "ipc") then second_ipc_of format names operands
+    else (if bytes_eq name (codes "exregs") then second_exregs_of format names operands
+    else (if bytes_eq name (codes "delete") then second_delete_of format names operands
+    else (if bytes_eq name (codes "end") then end_of operands
+    else Err BadLine))))))
 
-abbrev pub assigned_or : Option (List ℕ → Judged Value) → (operands : List (List ℕ)) →
-    Judged Unplaced → Judged Unplaced
-assigned_or (Some said) operands other = without_target (assign_of said operands)
-assigned_or None operands other = other
+-- One that goes on with the next.
+unfoldable pub plain_of : Format → List Named → (name : List ℕ) → (operands : List (List ℕ)) →
+    Judged Instr
+plain_of format names name operands =
+    assigned_or (value_of format name) operands (second_other_of format names name operands)
+
+abbrev pub without_target : Judged Instr → Judged Unplaced
+without_target said = said >>= λ instr. Ok (record { instr = instr; target = None })
 
 -- An instruction by its first word.
 unfoldable pub second_instruction_of : Format → List Named → (name : List ℕ) →
     (operands : List (List ℕ)) → Judged Unplaced
 second_instruction_of format names name operands =
-    assigned_or (value_of format name) operands (second_other_of format names name operands)
+    if bytes_eq name (codes "jump") then goes_to (Jump 0) operands
+    else (if bytes_eq name (codes "onerr") then goes_to (OnErr 0) operands
+    else (if bytes_eq name (codes "onlabel") then on_label_of format operands
+    else (if bytes_eq name (codes "onword") then on_word_of format operands
+    else (if bytes_eq name (codes "onfrom") then on_from_of format names operands
+    else without_target (plain_of format names name operands)))))

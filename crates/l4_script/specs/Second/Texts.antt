@@ -6,16 +6,14 @@ use Rattle.std.specs.Str.{bytes_eq}
 use Rattle.l4_model.specs.Words.{Format, global_id}
 use Rattle.l4_model.specs.Machine.{Instr, Declaration, Machine, instruction_at, place_of, most_threads}
 use Rattle.l4_core_model.specs.Local.{declared}
-use Rattle.l4_words.specs.Lines.{parts_of}
 use Rattle.l4_words.specs.Words.{two}
 use Rattle.l4_script.specs.declared.text.fault.TextFault.{TextFault}
 use Rattle.l4_script.specs.declared.text.fault.TextFaultKind.{TextFaultKind}
-use Rattle.l4_script.specs.declared.text.fault.TextFaultKind.TheVariants.{BadLine, BadId, BadName, DoubleId, TooManyThreads, BadTarget, TooLong}
+use Rattle.l4_script.specs.declared.text.fault.TextFaultKind.TheVariants.{BadLine, BadId, BadName, DoubleId, TooManyThreads, BadTarget}
 use Rattle.l4_script.specs.Faults.{fault_at}
 use Rattle.l4_script.specs.Judged.{Judged, ◌>>=◌, ◌>>◌, must, needs}
 use Rattle.l4_script.specs.Machines.{is_taken, last_thread, with_last_script, with_thread, machine_with}
 use Rattle.l4_script.specs.Statements.{Heading, processors_line, extend}
-use Rattle.l4_script.specs.Texts.{machine_of_text}
 use Rattle.l4_script.specs.Second.Names.{is_name, most_names, Named, is_declared_in, id_named, thread_named}
 use Rattle.l4_script.specs.Second.Lines.{Said, second_line_of}
 use Rattle.l4_script.specs.Second.Operands.{Place, Numbered, Labelled}
@@ -279,11 +277,3 @@ says_second (Err kind) later = false
 abbrev pub begins_second : (parts : List (List ℕ)) → Bool
 begins_second [] = false
 begins_second (part ∷ parts) = says_second (second_line_of part) (begins_second parts)
-
--- The machine that a text declares, whatever the version of its scripts. A text whose first line
--- does not say version 2 is read as ever.
-abbrev pub machine_of_any_text : List ℕ → Result Machine TextFault
-machine_of_any_text text =
-    if nat_lt 0x100000 (length text) then Err (fault_at 0 TooLong)
-    else (if begins_second (parts_of text) then read (parts_of text) Start 1
-    else machine_of_text text)

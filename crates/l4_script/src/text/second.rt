@@ -17,7 +17,7 @@ use crate::machine::Machine;
 use l4_words::lines::split_line;
 pub use lines::{Said, line_said, said_part};
 pub use names::{MOST_NAMES, Named, id_named, is_name, thread_named};
-pub use operands::{Place, id_or_last, id_or_register, place, second_time};
+pub use operands::{Place, id_or_last, id_or_register, named_place, second_time};
 pub use reading::{Label, Reading, Stage, Target};
 use statements::is_heading;
 pub use statements::{Heir, Unplaced, instruction};

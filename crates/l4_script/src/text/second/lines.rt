@@ -52,6 +52,7 @@ fn is_blank(byte: u8) -> bool
     byte == b' ' || byte == b'\t'
 }
 
+#[tactic(auto, using(crate::proofs::Blanks::first_blank, crate::proofs::Blanks::no_first_blank))]
 fn without_first_blanks(line: &[u8]) -> &[u8]
     ensures { result.now ≡ without_first_blanks line.now }
 {
@@ -62,6 +63,7 @@ fn without_first_blanks(line: &[u8]) -> &[u8]
     left
 }
 
+#[tactic(auto, using(crate::proofs::Blanks::some_last_blank, crate::proofs::Blanks::other_last))]
 fn without_last_blanks(line: &[u8]) -> &[u8]
     ensures { result.now ≡ without_last_blanks line.now }
 {

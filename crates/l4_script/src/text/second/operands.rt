@@ -81,7 +81,7 @@ pub fn id_or_last(
 
 /// An instruction of the script by its number or its name, else `BadNumber`.
 #[tactic(auto, unfolding(crate::specs::Second::Operands::place_of))]
-pub fn place(word: &[u8]) -> Result<Place<'_>, TextFaultKind>
+pub fn named_place(word: &[u8]) -> Result<Place<'_>, TextFaultKind>
     ensures { Returns place_view result (place_of word.now) }
 {
     match number(word) {

@@ -1,23 +1,21 @@
 //! How far a text with scripts of version 2 has been read.
-ghost use Rattle.std.specs.Prelude.{◌≡◌, ◌≢◌, ◌<◌, ◌≤◌, ◌++◌, ◌∷◌, [], ◌&&◌, not, length, map, ℕ};
-ghost use Rattle.std.specs.Prelude.{IfErr, IfOk, IfSome, OnErr, OnOk, is_none, is_some};
+ghost use Rattle.std.specs.Prelude.{◌≡◌, ◌≢◌, ◌<◌, ◌≤◌, ◌++◌, ◌∷◌, [], length, false, true, Ok};
+ghost use Rattle.std.specs.Prelude.{IfErr, IfOk, IfSome, OnOk};
 ghost use Rattle.std.specs.Option.{option_copied, option_map};
-ghost use Rattle.l4_model.specs.Machine.{most_instructions, most_processors, most_threads};
-ghost use Rattle.l4_core_model.specs.Local.{declared};
+ghost use Rattle.l4_model.specs.Words.{global_id, is_global};
+ghost use Rattle.l4_model.specs.Machine.{most_processors, most_threads};
 ghost use Rattle.l4_types.specs.Inner.FormatView.{format_of};
-ghost use Rattle.l4_words.specs.Words.{two};
 ghost use Rattle.l4_script.specs.declared.text.fault.TextFaultKind.TheVariants.{NoMemory as OutOfMemory};
-ghost use Rattle.l4_script.specs.Judged.{Fails, Leads, Returns};
+ghost use Rattle.l4_script.specs.Judged.{Leads, ◌>>=◌};
 ghost use Rattle.l4_script.specs.Machines.{is_taken, last_thread, with_last_script, with_thread};
-ghost use Rattle.l4_script.specs.Statements.{declare};
 ghost use Rattle.l4_script.specs.Texts.{LeadsOn};
 ghost use Rattle.l4_script.specs.Inner.Headings.{heading_of};
-ghost use Rattle.l4_script.specs.Inner.Scripts.{instr_of};
 ghost use Rattle.l4_script.specs.Inner.Second.{heir_of, place_of, said_of, stage_of};
 ghost use Rattle.l4_script.specs.Second.Texts.{label_of, found_place, missed_in, first_missed};
-ghost use Rattle.l4_script.specs.Second.Texts.{first_of, placed, settled, with_script_ended};
+ghost use Rattle.l4_script.specs.Second.Texts.{placed, settled, with_script_ended};
 ghost use Rattle.l4_script.specs.Second.Texts.{nothing_read, has_thread, has_script, may_name};
 ghost use Rattle.l4_script.specs.Second.Texts.{name_line, source_of, script_of, second_declared};
+ghost use Rattle.l4_script.specs.Second.Texts.{may_declare, numbers_of, with_threads};
 ghost use Rattle.l4_script.specs.Second.Texts.{may_label, labelled, target_at, instruction_line};
 ghost use Rattle.l4_script.specs.Second.Texts.{second_thread_line, after_words, after_line};
 ghost use Rattle.l4_script.specs.Second.Texts.{unless_faulty, ended, judged_at};
@@ -279,7 +277,8 @@ impl<'a> Reading<'a> {
         if !self.may_name(name) || self.names.len() >= MOST_NAMES {
             return Err(TextFaultKind::BadName);
         }
-        let id = id_named(self.format, self.names.as_slice(), id)?;
+        let format = self.format;
+        let id = id_named(format, self.names.as_slice(), id)?;
         keep_name(&mut self.names, Named { name, id })?;
         Ok(())
     }
@@ -322,17 +321,17 @@ impl<'a> Reading<'a> {
         Ok(Some(place))
     }
 
-    // Whether there is room for these threads, and none of their numbers is taken.
-    fn may_declare(&self, first: u32, last: u32) -> Result<(), TextFaultKind>
-        requires { first ≤ last }
-        ensures { result ≡ may_declare_from self.now.machine first last }
+    // Whether there is room for the threads of a line, and none of their numbers is taken.
+    fn may_declare(&self, heir: &Heir<'_>) -> Result<(), TextFaultKind>
+        requires { heir.now.id.number ≤ heir.now.last }
+        ensures { result ≡ may_declare (heir_of heir.now) self.now.machine }
     {
-        let count = u64::from(last - first) + 1;
+        let mut number = heir.id.number();
+        let count = u64::from(heir.last - number) + 1;
         if self.machine.threads().len() as u64 + count > MOST_THREADS as u64 {
             return Err(TextFaultKind::TooManyThreads);
         }
-        let mut number = first;
-        'numbers: while number < last && !self.machine.has_number(number) {
+        'numbers: while number < heir.last && !self.machine.has_number(number) {
             number += 1;
         }
         if self.machine.has_number(number) {
@@ -346,12 +345,13 @@ impl<'a> Reading<'a> {
         ensures kept { IfErr result (λ kind. kind ≢ OutOfMemory → self.new ≡ self.old) }
         ensures leads { Leads result self.new (second_declared self.old operands.entry) }
     {
-        let names = self.names.as_slice();
-        let heir = declaration(self.format, names, self.machine.cpus(), operands)?;
+        let (format, cpus) = (self.format, self.machine.cpus());
+        let heir = declaration(format, self.names.as_slice(), cpus, operands)?;
         let source = self.source_of(heir.source)?;
-        self.may_declare(heir.id.number(), heir.last)?;
+        self.may_declare(&heir)?;
         self.settle();
-        self.declare_all(alloc, &heir, source)
+        self.declare_all(alloc, &heir, source)?;
+        Ok(())
     }
 
     // Declares all threads of a line, with the script of the thread at a place or none yet.
@@ -360,7 +360,19 @@ impl<'a> Reading<'a> {
         alloc: Global,
         heir: &Heir<'_>,
         source: Option<usize>,
-    ) -> Result<(), TextFaultKind> {
+    ) -> Result<(), NoMemory>
+        requires rises { heir.now.id.number ≤ heir.now.last }
+        requires home { heir.now.cpu < self.old.machine.cpus }
+        requires may { may_declare (heir_of heir.now) self.old.machine ≡ Ok tt }
+        requires source { IfSome source (λ place. place < length self.old.machine.threads) }
+        ensures { OnOk result (self.new ≡ record self.old {
+          machine = with_threads (numbers_of (heir_of heir.now))
+              (record (heir_of heir.now).declaration {
+                script = script_of self.old.machine source;
+              }) self.old.machine;
+          heir_of = source;
+        }) }
+    {
         let mut number = heir.id.number();
         'numbers: while number < heir.last {
             self.declare(alloc, number, heir, source)?;
@@ -378,8 +390,20 @@ impl<'a> Reading<'a> {
         number: u32,
         heir: &Heir<'_>,
         source: Option<usize>,
-    ) -> Result<(), TextFaultKind> {
-        let id = GlobalId::new(number, heir.id.version()).ok_or(TextFaultKind::BadId)?;
+    ) -> Result<(), NoMemory>
+        requires room { length self.old.machine.threads < most_threads }
+        requires home { heir.now.cpu < self.old.machine.cpus }
+        requires fresh { is_taken number self.old.machine ≡ false }
+        requires lawful { is_global (global_id number heir.now.id.version) ≡ true }
+        requires source { IfSome source (λ place. place < length self.old.machine.threads) }
+        ensures { OnOk result (self.new ≡ record self.old {
+          machine = with_thread (record (heir_of heir.now).declaration {
+            id = global_id number heir.now.id.version;
+            script = script_of self.old.machine source;
+          }) self.old.machine;
+        }) }
+    {
+        let id = GlobalId::new(number, heir.id.version()).unwrap();
         let script = match source {
             Some(place) => self.machine.threads()[place].script(),
             None => &[],
@@ -405,7 +429,13 @@ impl<'a> Reading<'a> {
     }
 
     // Names the instruction that follows.
-    fn label(&mut self, name: &'a [u8]) -> Result<(), NoMemory> {
+    fn label(&mut self, name: &'a [u8]) -> Result<(), NoMemory>
+        requires { 0 < length self.old.machine.threads }
+        ensures { OnOk result (self.new ≡ record self.old {
+          labels = self.old.labels ++
+              record { name = name.now; at = length (last_thread self.old.machine).script } ∷ [];
+        }) }
+    {
         let at = self.machine.last_script_len();
         keep_label(&mut self.labels, Label { name, at })
     }
@@ -429,14 +459,19 @@ impl<'a> Reading<'a> {
         label: Option<&'a [u8]>,
         name: &[u8],
         operands: Words<'a>,
-    ) -> Result<(), TextFaultKind> {
+    ) -> Result<(), TextFaultKind>
+        ensures kept { IfErr result (λ kind. kind ≢ OutOfMemory → self.new ≡ self.old) }
+        ensures leads { Leads result self.new (labelled (option_copied label.entry) self.old >>=
+            λ named. instruction_line line named name.now operands.entry) }
+    {
         if !self.has_script() {
             return Err(TextFaultKind::BadLine);
         }
         if let Some(label) = label {
             self.may_label(label)?;
         }
-        let said = instruction(self.format, self.names.as_slice(), name, operands)?;
+        let format = self.format;
+        let said = instruction(format, self.names.as_slice(), name, operands)?;
         let at = self.machine.last_script_len();
         if at >= MOST_INSTRUCTIONS {
             return Err(TextFaultKind::TooManyInstructions);

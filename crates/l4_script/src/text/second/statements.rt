@@ -1,5 +1,5 @@
 //! What the lines of scripts of version 2 say, beside those of version 1.
-ghost use Rattle.std.specs.Prelude.{◌≡◌, ◌<◌, ◌≤◌, None, IfOk};
+ghost use Rattle.std.specs.Prelude.{◌≡◌, ◌<◌, ◌≤◌, IfOk};
 ghost use Rattle.std.specs.Option.{option_copied, option_map};
 ghost use Rattle.l4_model.specs.Words.{label_limit_in};
 ghost use Rattle.l4_types.specs.Inner.FormatView.{format_of};
@@ -14,7 +14,7 @@ ghost use Rattle.l4_script.specs.Second.Statements.{targeting, from_of, second_v
 ghost use Rattle.l4_script.specs.Second.Statements.{second_ipc_of, second_exregs_of};
 ghost use Rattle.l4_script.specs.Second.Statements.{second_delete_of, goes_to, on_label_of};
 ghost use Rattle.l4_script.specs.Second.Statements.{on_word_of, on_from_of};
-ghost use Rattle.l4_script.specs.Second.Statements.{second_instruction_of};
+ghost use Rattle.l4_script.specs.Second.Statements.{plain_of, second_instruction_of};
 
 use super::super::fault::TextFaultKind;
 use super::super::lines::after;
@@ -25,7 +25,7 @@ use super::super::statements::{
     tag,
 };
 use super::names::{Named, id_named, thread_named};
-use super::operands::{Place, id_or_last, id_or_register, place, second_time};
+use super::operands::{Place, id_or_last, id_or_register, named_place, second_time};
 use crate::instructions::{Instr, Ipc};
 use l4_types::formats::Format;
 use l4_types::ids::GlobalId;
@@ -190,19 +190,10 @@ pub struct Unplaced<'a> {
     pub target: Option<Place<'a>>,
 }
 
-fn without_target<'a>(instr: Instr) -> Unplaced<'a>
-    ensures { unplaced_of result ≡ record { instr = instr_of instr; target = None } }
-{
-    Unplaced {
-        instr,
-        target: None,
-    }
-}
-
 fn with_target(instr: Instr, word: &[u8]) -> Result<Unplaced<'_>, TextFaultKind>
     ensures { Returns unplaced_of result (targeting (instr_of instr) word.now) }
 {
-    let target = Some(place(word)?);
+    let target = Some(named_place(word)?);
     Ok(Unplaced { instr, target })
 }
 
@@ -324,9 +315,54 @@ fn on_from<'a>(
     with_target(Instr::OnFrom(id, 0), target)
 }
 
+/// An instruction of this name that goes on with the next, or the first fault of its line.
+#[inline(always)]
+#[tactic(auto, unfolding(crate::specs::Second::Statements::plain_of, crate::specs::Statements::value_of, crate::specs::Second::Statements::second_other_of))]
+fn plain(
+    format: Format,
+    names: &[Named<'_>],
+    name: &[u8],
+    operands: Words<'_>,
+) -> Result<Instr, TextFaultKind>
+    ensures { Returns instr_of result
+        (plain_of (format_of format) names.now name.now operands.entry) }
+{
+    if is(name, SET) {
+        return set(format, operands);
+    }
+    if is(name, COPY) {
+        return copy(operands);
+    }
+    if is(name, ADD) {
+        return add(format, operands);
+    }
+    if is(name, FROM) {
+        return from(format, operands);
+    }
+    if is(name, TAG) {
+        return tag(format, operands);
+    }
+    if is(name, VIRTUAL_SENDER) {
+        return vs(format, names, operands);
+    }
+    if is(name, IPC) {
+        return ipc(format, names, operands);
+    }
+    if is(name, EXCHANGE_REGISTERS) {
+        return exregs(format, names, operands);
+    }
+    if is(name, DELETE) {
+        return delete(format, names, operands);
+    }
+    if is(name, END) {
+        return end(operands);
+    }
+    Err(TextFaultKind::BadLine)
+}
+
 /// An instruction of this name, or the first fault of its line.
 #[inline(always)]
-#[tactic(auto, unfolding(crate::specs::Second::Statements::second_instruction_of, crate::specs::Statements::value_of, crate::specs::Second::Statements::second_other_of))]
+#[tactic(auto, unfolding(crate::specs::Second::Statements::second_instruction_of))]
 pub fn instruction<'a>(
     format: Format,
     names: &[Named<'_>],
@@ -336,33 +372,6 @@ pub fn instruction<'a>(
     ensures { Returns unplaced_of result
         (second_instruction_of (format_of format) names.now name.now operands.entry) }
 {
-    if is(name, SET) {
-        return Ok(without_target(set(format, operands)?));
-    }
-    if is(name, COPY) {
-        return Ok(without_target(copy(operands)?));
-    }
-    if is(name, ADD) {
-        return Ok(without_target(add(format, operands)?));
-    }
-    if is(name, FROM) {
-        return Ok(without_target(from(format, operands)?));
-    }
-    if is(name, TAG) {
-        return Ok(without_target(tag(format, operands)?));
-    }
-    if is(name, VIRTUAL_SENDER) {
-        return Ok(without_target(vs(format, names, operands)?));
-    }
-    if is(name, IPC) {
-        return Ok(without_target(ipc(format, names, operands)?));
-    }
-    if is(name, EXCHANGE_REGISTERS) {
-        return Ok(without_target(exregs(format, names, operands)?));
-    }
-    if is(name, DELETE) {
-        return Ok(without_target(delete(format, names, operands)?));
-    }
     if is(name, JUMP) {
         return goes_to(Instr::Jump(0), operands);
     }
@@ -378,8 +387,8 @@ pub fn instruction<'a>(
     if is(name, ON_FROM) {
         return on_from(format, names, operands);
     }
-    if is(name, END) {
-        return Ok(without_target(end(operands)?));
-    }
-    Err(TextFaultKind::BadLine)
+    Ok(Unplaced {
+        instr: plain(format, names, name, operands)?,
+        target: None,
+    })
 }

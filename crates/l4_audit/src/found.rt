@@ -188,8 +188,7 @@ impl<'a> Found<'a> {
     {
         match self.instruction() {
             Instr::Ipc(ipc) => {
-                self.id_from(ipc.to()) == ThreadId::NIL
-                    && self.id_from(ipc.from()) != ThreadId::NIL
+                self.id_from(ipc.to()) == ThreadId::NIL && self.id_from(ipc.from()) != ThreadId::NIL
             }
             _ => false,
         }

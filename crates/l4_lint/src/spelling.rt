@@ -133,7 +133,10 @@ fn push_hint(hint: Hint, out: &mut Vec<u8>) -> Result<(), NoMemory>
         Hint::DeclaredOn(line) => write!(said, "line {line} declares this name")?,
         Hint::NearOn(line) => write!(said, "line {line} declares a name that is near")?,
         Hint::NearTimes(below, above) => {
-            write!(said, "no time means this; the nearest are {below}us and {above}us")?
+            write!(
+                said,
+                "no time means this; the nearest are {below}us and {above}us"
+            )?
         }
         _ => said.push_str(plain_hint(hint))?,
     }

@@ -1,6 +1,7 @@
 //! Machine texts, and their reader.
 ghost use Rattle.std.specs.Prelude.{◌≡◌, ◌≤◌, length};
 ghost use Rattle.l4_script.specs.Canonical.{IsReadBack, EachHasText, WritesItsWords};
+ghost use Rattle.l4_script.specs.Second.Canonical.{EachHasSecondText, IsSecondReadBack};
 ghost use Rattle.l4_words.specs.Lines.{parts_of};
 ghost use Rattle.l4_script.specs.Texts.{Start, Reads, read};
 ghost use Rattle.l4_script.specs.Versions.{machine_of_text};
@@ -66,9 +67,12 @@ fn read(alloc: Global, text: &[u8]) -> Result<Machine, TextFault>
 
 /// The canonical text of a machine has a line for each thread and instruction, with every number in
 /// decimal. Unless it is too long, it declares that machine and no other. Every declared machine
-/// has one, in the format of its text. Its scripts write words of that format alone.
+/// has one, in the format of its text. Its scripts write words of that format alone. So it is of
+/// texts with scripts of version 2, which every declared machine has.
 pub fn law_canonical_text()
     ensures read_back { IsReadBack }
     ensures each { EachHasText }
+    ensures second { IsSecondReadBack }
+    ensures each_second { EachHasSecondText }
     ensures words { WritesItsWords }
 {}

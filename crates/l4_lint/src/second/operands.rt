@@ -5,7 +5,8 @@ use crate::hints::{Lines, Operand};
 use crate::judging::is_right as is_right_in_first;
 use l4_script::text::number_from;
 use l4_script::text::second::{
-    Named, Reading, id_named, id_or_last, id_or_register, is_name, named_place, second_time, thread_named,
+    Named, Reading, id_named, id_or_last, id_or_register, is_name, named_place, second_time,
+    thread_named,
 };
 use l4_types::formats::Format;
 use l4_types::ids::GlobalId;

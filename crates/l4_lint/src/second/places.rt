@@ -100,11 +100,7 @@ fn byte_place<'a>(number: usize, line: &'a [u8]) -> Option<Place<'a>> {
 }
 
 // The place of a word that is missing, surplus, or a wrong keyword.
-fn counted_place<'a>(
-    known: &Known<'_, '_>,
-    parts: &Parts<'a>,
-    operands: &[Operand],
-) -> Place<'a> {
+fn counted_place<'a>(known: &Known<'_, '_>, parts: &Parts<'a>, operands: &[Operand]) -> Place<'a> {
     let words = split_word(parts.words).1;
     let (rest, failed) = walk(Asked::Present, known, operands, words);
     if let Some(wanted) = failed {

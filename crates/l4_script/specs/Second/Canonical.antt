@@ -3,6 +3,7 @@ use Rattle.std.specs.Prelude.{ℕ, ◌^◌, ◌≡◌, ◌≤◌, Bool, true, fa
 use Rattle.std.specs.List.{list_all}
 use Rattle.l4_model.specs.Words.{Format, same_format, is_word_in, is_global_in, has_word_in, last_register, label_limit_in}
 use Rattle.l4_model.specs.Machine.{FromWord, Assign, Instr, Run, Vs, Ipc, IdFrom, Fixed, Last, InRegister, Ask, Delete, OnLabel, OnWord, OnFrom, Declaration, Machine, most_processors, most_threads, most_instructions}
+use Rattle.l4_core_model.specs.Runs.{IsMachine}
 use Rattle.l4_words.specs.Lines.{line_of_words}
 use Rattle.l4_script.specs.Canonical.{words_of_instruction, words_of_thread, words_of_format, can_be_written, is_register, has_time, are_apart}
 use Rattle.l4_script.specs.Versions.{machine_of_text}
@@ -66,8 +67,13 @@ pub record HasSecondText (f : Format) (m : Machine) : Type 0 where
   pub apart : are_apart m.threads ≡ true
   pub each : list_all (second_can_be_declared f m.cpus) m.threads ≡ true
 
--- What is to be proved of it: it is read back, unless it is too long.
+-- It is read back, unless it is too long.
 abbrev pub IsSecondReadBack : Type 0
 IsSecondReadBack = (f : Format) (m : Machine) → HasSecondText f m →
     length (second_canonical_text f m) ≤ 0x100000 →
     machine_of_text (second_canonical_text f m) ≡ Ok m
+
+-- Every machine that a text declares, whatever the version of its scripts, has such a text.
+abbrev pub EachHasSecondText : Type 0
+EachHasSecondText = (text : List ℕ) (m : Machine) → machine_of_text text ≡ Ok m →
+    IsMachine m × ((f : Format) × HasSecondText f m)

@@ -1,11 +1,12 @@
 //! Lines of scripts of version 2.
-ghost use Rattle.std.specs.Prelude.{◌≡◌, []};
+ghost use Rattle.std.specs.Prelude.{◌≡◌, [], true, None, Some, Ok};
 ghost use Rattle.std.specs.Option.{option_map};
 ghost use Rattle.l4_script.specs.Judged.{Returns};
 ghost use Rattle.l4_script.specs.Second.Lines.{ends_with_byte, without_last, without_return};
 ghost use Rattle.l4_script.specs.Second.Lines.{is_blank, without_first_blanks, without_last_blanks};
 ghost use Rattle.l4_script.specs.Second.Lines.{said_in, comment_in, is_clean, first_of, others_of};
-ghost use Rattle.l4_script.specs.Second.Lines.{words_of, judged_said, second_line_of};
+ghost use Rattle.l4_words.specs.Words.{words_in};
+ghost use Rattle.l4_script.specs.Second.Lines.{said, words_of, judged_said, second_line_of};
 ghost use Rattle.l4_script.specs.Inner.Second.{said_of};
 
 use super::super::fault::TextFaultKind;
@@ -150,9 +151,43 @@ fn judged_said(line: &[u8]) -> Result<Said<'_>, TextFaultKind>
     Ok(Said { label, words })
 }
 
+// Whether all bytes of a line are printable, no word is empty, and there is neither `;` nor `:`. So
+// the line has words alone.
+#[inline(always)]
+fn is_simple(line: &[u8]) -> bool
+    ensures { result ≡ true → second_line_of line.now ≡ Ok (Some (said None (words_in line.now))) }
+{
+    let mut begins = true;
+    for byte in line {
+        if matches!(byte, b'!'..=b'9' | b'<'..=b'~') {
+            begins = false;
+        } else if *byte == b' ' && !begins {
+            begins = true;
+        } else {
+            return false;
+        }
+    }
+    !begins
+}
+
 /// What a line says, or nothing. `BadLine` where a byte is not printable, or a word is empty.
-#[tactic(auto, unfolding(crate::specs::Second::Lines::second_line_of))]
+#[inline(always)]
 pub fn line_said(line: &[u8]) -> Result<Option<Said<'_>>, TextFaultKind>
+    ensures { Returns (option_map said_of) result (second_line_of line.now) }
+{
+    if !is_simple(line) {
+        return any_line_said(line);
+    }
+    Ok(Some(Said {
+        label: None,
+        words: Words::of(line),
+    }))
+}
+
+// The same, whatever the line has.
+#[inline(never)]
+#[tactic(auto, unfolding(crate::specs::Second::Lines::second_line_of))]
+fn any_line_said(line: &[u8]) -> Result<Option<Said<'_>>, TextFaultKind>
     ensures { Returns (option_map said_of) result (second_line_of line.now) }
 {
     let (said, comment) = split_comment(without_return(line));

@@ -135,7 +135,10 @@ pub fn is_name(word: &[u8]) -> bool
 pub(super) fn id_under(names: &[Named<'_>], name: &[u8]) -> Option<ThreadId>
     ensures { result ≡ id_under names.now name.now }
 {
-    names.iter().find(|named| named.name == name).map(|named| named.id)
+    names
+        .iter()
+        .find(|named| named.name == name)
+        .map(|named| named.id)
 }
 
 // The id that a word names which spells none.
@@ -153,11 +156,7 @@ fn id_by_name(names: &[Named<'_>], word: &[u8]) -> Result<ThreadId, TextFaultKin
 
 /// An id as version 1 spells it, or by a name.
 #[tactic(auto, unfolding(crate::specs::Second::Names::id_named))]
-pub fn id_named(
-    format: Format,
-    names: &[Named<'_>],
-    word: &[u8],
-) -> Result<ThreadId, TextFaultKind>
+pub fn id_named(format: Format, names: &[Named<'_>], word: &[u8]) -> Result<ThreadId, TextFaultKind>
     ensures { result ≡ id_named (format_of format) names.now word.now }
 {
     match id(format, word) {
@@ -177,6 +176,8 @@ pub fn thread_named(
 {
     match thread_in(format, word) {
         Some(id) => Ok(id),
-        None => id_by_name(names, word)?.as_global().ok_or(TextFaultKind::BadId),
+        None => id_by_name(names, word)?
+            .as_global()
+            .ok_or(TextFaultKind::BadId),
     }
 }

@@ -66,11 +66,7 @@ pub fn id_or_register(
 
 /// The same, or `last`.
 #[tactic(auto, unfolding(crate::specs::Second::Operands::id_or_last_of))]
-pub fn id_or_last(
-    format: Format,
-    names: &[Named<'_>],
-    word: &[u8],
-) -> Result<IdFrom, TextFaultKind>
+pub fn id_or_last(format: Format, names: &[Named<'_>], word: &[u8]) -> Result<IdFrom, TextFaultKind>
     ensures { Returns id_from_of result (id_or_last_of (format_of format) names.now word.now) }
 {
     match word {
@@ -149,6 +145,19 @@ fn counted(unit: u64, digits: &[u8]) -> Result<Period, TextFaultKind>
 /// them, where a time means these exactly. Else `BadNumber`.
 #[tactic(auto, unfolding(crate::specs::Second::Operands::second_time_from))]
 pub fn second_time(word: &[u8]) -> Result<Period, TextFaultKind>
+    ensures value { Returns period_of result (second_time_from word.now) }
+    ensures timely { IfOk result (λ period. IsTimely period) }
+{
+    match word.last() {
+        Some(b's') => counted_time(word),
+        _ => time(word),
+    }
+}
+
+// A time that ends with `s`.
+#[inline(never)]
+#[tactic(auto, unfolding(crate::specs::Second::Operands::second_time_from))]
+fn counted_time(word: &[u8]) -> Result<Period, TextFaultKind>
     ensures value { Returns period_of result (second_time_from word.now) }
     ensures timely { IfOk result (λ period. IsTimely period) }
 {

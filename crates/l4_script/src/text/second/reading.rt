@@ -148,7 +148,10 @@ fn keep_target<'a>(
 fn label_of(labels: &[Label<'_>], name: &[u8]) -> Option<usize>
     ensures { result ≡ label_of labels.now name.now }
 {
-    labels.iter().find(|label| label.name == name).map(|label| label.at)
+    labels
+        .iter()
+        .find(|label| label.name == name)
+        .map(|label| label.at)
 }
 
 // The place that an instruction names, if its script has such a name. A number may be too great:

@@ -1,7 +1,7 @@
 -- What an instruction, a message and a failure do to the registers of a thread, and what an
 -- instruction asks for.
 use Rattle.std.specs.Prelude.{ℕ, ◌+◌, ◌*◌, ◌/◌, ◌%◌, ◌^◌, Bool, if◌then◌else◌, ◌==◌, not, ◌&&◌, false, Option, Some, None, is_some, unwrap_or, true, ◌∷◌, ◌++◌, List, take, drop, length, slice_index, slice_set}
-use Rattle.l4_model.specs.Words.{word_limit, GlobalId, Id, NilThread, AnyThread, AnyLocalThread, LocalThread, GlobalThread, same_id, is_same, Period, word_in, id_by, tag_of_word}
+use Rattle.l4_model.specs.Words.{word_limit, GlobalId, Id, NilThread, AnyThread, AnyLocalThread, LocalThread, GlobalThread, same_id, is_same, Period, word_in, id_in, tag_of_word}
 use Rattle.l4_model.specs.Machine.{IdFrom, Fixed, Last, InRegister, OrderKind, Delete, Value, Word, Register, Sum, FromWord, Own, Assign, AssignTag, AssignVs, GoTo, GoToOnErr, GoToOnLabel, GoToOnWord, GoToOnFrom, Instr, Run, Ipc, Ask, End, Machine, is_declared, same_space, same_cpu}
 use Rattle.l4_model.specs.World.{Name, Context, Receive, Message, Send, PendingOrder, Owed}
 
@@ -99,11 +99,13 @@ abbrev pub ordered : ℕ → Context → Context
 ordered code c = advanced (record c { error = code })
 
 -- The id that an instruction names, as the registers are when it is run. `last` is the content of
--- the register `from`. What a message register has is the word of one id (manual: ThreadId).
+-- the register `from`. What a message register has is the word of one id (manual: ThreadId). In 32
+-- bits a number that is no word there counts as that of nilthread (own); no register of a text of 32
+-- bits has one.
 abbrev pub id_from : Context → IdFrom → Id
 id_from c (Fixed id) = id
 id_from c Last = c.from
-id_from c (InRegister format a) = id_by format (register c a)
+id_from c (InRegister format a) = unwrap_or (id_in format (register c a)) NilThread
 
 -- What an instruction that concerns its thread alone leaves: in the message registers, in
 -- VirtualSender, and as the place where the script goes on.

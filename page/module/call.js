@@ -1,8 +1,8 @@
 // One call of the program. Each has an instance of the module of its own, so nothing is kept between two of them.
 //
 // `words` are those of the command line behind the program's name, `files` what the names in them stand for, as texts or bytes. Names with
-// the very same bytes are of one file. `/dev/stdin` is the standard input. With `limit` no more memory than so many bytes is taken. `tell` hears
-// once a second how far a search has come, as the program says that on a terminal.
+// the very same bytes are of one file. `/dev/stdin` is the standard input. With `limit` no more memory than so many bytes is taken. With `tell` the
+// standard error is a terminal: faults are explained there, and `tell` hears once a second how far a search has come.
 async function call(compiled, words, files, limit, tell) {
     const told = (at, length) => tell(new TextDecoder().decode(new Uint8Array(memory.buffer, Number(at), Number(length))));
     const instance = await WebAssembly.instantiate(compiled, { host: { now: () => BigInt(Date.now()), tell: told } });

@@ -13,7 +13,7 @@ typedef unsigned __int128 u128;
 IMPORT(now) extern i64 host_now(void);
 // A line is told that goes over the one before it, as on a terminal.
 IMPORT(tell) extern void host_tell(const u8 *line, u64 length);
-// Whether the host asked to be told.
+// Whether the host asked to be told. Then the standard error is a terminal.
 static _Bool is_told;
 
 extern u8 __heap_base;
@@ -320,7 +320,7 @@ _Noreturn void _exit(int status) {
 EXPORT(l4_room) u8 *l4_room(u64 n) { return take(n); }
 // No more memory than so many bytes is asked for.
 EXPORT(l4_limit) void l4_limit(u64 bytes) { most = bytes; }
-// The host is told how far a search has come, once a second. Nothing else changes by that.
+// The standard error is a terminal from now on: as on one, a fault is explained, and the host is told how far a search has come, once a second.
 EXPORT(l4_tell) void l4_tell(void) { is_told = 1; }
 // Runs the command of these words over these files, and ends by a trap. Its standard input is the file /dev/stdin, or nothing.
 EXPORT(l4_call) int l4_call(const u8 *w, u64 words_length, const u8 *f, u64 files_length) {

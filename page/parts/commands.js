@@ -6,9 +6,12 @@ for (const word of ["deadlock", "circle", "stuck", "stimeout", "snobody", "scanc
 
 let printed = "";
 
+// The text at the left is m.l4 to the program, unless somebody types another name.
+const namedAsHere = ({ faults }) => faults.replace(/^m\.l4:(?=\d+:\d+: )/m, `${doc.name}:`);
+
 // Shows what a command printed: its faults, then its output.
 function print(made) {
-    printed = made.faults + made.out;
+    printed = namedAsHere(made) + made.out;
     const lines = linesOf(printed);
     $("printedby").textContent = `${counted(lines.length, "line")}, status ${STATUS[made.status] ?? made.status}`;
     if (lines.length > MOST_COLOURED) $("out").textContent = printed;

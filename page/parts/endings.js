@@ -1,5 +1,6 @@
-// The tab Endings: a search of all orders, and a card for each ending. Where the program searches whatever the scheduler does, an ending
-// has a trace, which is asked for by its number. Where it searches turns as the processors take them, an ending has the list of items.
+// The tab Endings: a search of all orders, and a card for each ending; and whether some lines of a report can hold at one moment on the way. Where
+// the program searches whatever the scheduler does, an ending has a trace, which is asked for by its number. Where it searches turns as the
+// processors take them, an ending has the list of items.
 
 let searched = null; // the text that was searched last
 // What was found in a text that is no longer at the left is pale.
@@ -19,32 +20,28 @@ async function askForSearches() {
 }
 
 // The words of a search: of which kind, and within which limits.
-function searchWords() {
-    const isPlaced = !$("turnsonly").hidden && $("placed").checked;
-    return ["endings", "m.l4", ...(isPlaced ? ["--placed"] : []), "--depth", $("depth").value, "--states", $("states").value];
-}
+const isPlaced = () => !$("turnsonly").hidden && $("placed").checked;
+const limitWords = () => ["--depth", $("depth").value, "--states", $("states").value];
+const searchWords = () => ["endings", "m.l4", ...(isPlaced() ? ["--placed"] : []), ...limitWords()];
 
-// Opens an ending that a search with these words found, at its end; or where a thread comes to be stuck for ever.
-async function openEnding({ number, list, id }, words, text) {
+// Opens an ending that a search with these words found, at its end; where a thread comes to be stuck for ever; or a moment in which lines hold.
+async function openEnding({ number, list, id, condition }, words, text) {
     if (list) {
         tab("steps");
         await begin(new Schedule(program, text, list));
         return;
     }
     const [made] = await program.perform("long", { "m.l4": text }, [...words, "--trace", number]);
-    if (isFault(made)) throw new Error(made.faults.trim());
+    if (isFault(made)) throw new Error(faultOf(made));
     const trace = new Trace(program, text, stepsOf(made.out));
     if (id) trace.forever = { id, at: trace.at };
+    if (condition) trace.moment = { condition, at: trace.at };
     tab("steps");
     await begin(trace);
 }
 
-async function search(isStuckOnly) {
-    $("onlystuck").checked = isStuckOnly;
-    const asked = searchWords();
-    if (isStuckOnly) asked.push("--stuck");
-    for (const name of ["with", "never"]) if ($(name).value.trim()) asked.push(`--${name}`, $(name).value.trim());
-    const words = [...asked, "--waits"];
+// Searches the text at the left by these words. Nothing where it has a fault, which is said then.
+async function searchedBy(words) {
     const { text } = editor;
     searched = text;
     showWhetherOld();
@@ -61,17 +58,80 @@ async function search(isStuckOnly) {
         throw trap;
     }
     print(made);
-    if (isFault(made)) {
-        sayFault("found", made, text);
-    } else {
-        const found = endingsOf(made.out);
-        const isPart = asked.includes("--with") || asked.includes("--never");
-        sayIn("found", searchText({ ...found, isStuckOnly, isPart, took: made.took }));
-        $("count").textContent = found.endings.length + found.forever.length;
-        showEndings(found, (ending) => openEnding(ending, asked, text));
-        tellCommand(made, [], found.last);
-    }
     document.body.dataset.searched = text;
+    if (!isFault(made)) return { made, text };
+    sayFault("found", made, text);
+    return null;
+}
+
+let searchAgain = () => {};
+async function search(isStuckOnly) {
+    searchAgain = () => search($("onlystuck").checked);
+    $("onlystuck").checked = isStuckOnly;
+    const asked = searchWords();
+    if (isStuckOnly) asked.push("--stuck");
+    if ($("oneisenough").checked) asked.push("--none");
+    for (const name of ["with", "never"]) if ($(name).value.trim()) asked.push(`--${name}`, $(name).value.trim());
+    const answer = await searchedBy([...asked, "--waits"]);
+    if (!answer) return;
+    const { made, text } = answer;
+    const found = endingsOf(made.out);
+    const isPart = asked.includes("--with") || asked.includes("--never");
+    sayIn("found", searchText({ ...found, isStuckOnly, isPart, took: made.took }));
+    const count = found.endings.length + found.forever.length;
+    if (!count && / cut$/.test(found.last) && !isPlaced() && !$("oneisenough").checked) offerWalks(isStuckOnly);
+    $("count").textContent = count;
+    showEndings(found, (ending) => openEnding(ending, asked, text));
+    tellCommand(made, [], found.last);
+}
+
+// A search that was cut and found nothing may have looked at too little: a walk at random goes far at once.
+function offerWalks(isStuckOnly) {
+    const walk = button("Look for one by walks at random", () => {
+        $("oneisenough").checked = true;
+        return search(isStuckOnly);
+    });
+    walk.className = "inline";
+    $("found").append(el("p", {}, walk));
+}
+
+// Whether lines of a report can hold at one moment, in whatever order and time.
+async function askForMoment() {
+    searchAgain = askForMoment;
+    const condition = $("together").value.trim();
+    const asked = ["endings", "m.l4", ...limitWords(), "--always", `never ${condition}`];
+    const answer = await searchedBy(asked);
+    if (!answer) return;
+    const { made, text } = answer;
+    const moment = momentOf(made.out);
+    sayIn("found", momentText({ ...moment, took: made.took }));
+    const cards = moment.isMet ? [momentCard(moment, () => openEnding({ number: "1", condition }, asked, text))] : [];
+    $("count").textContent = cards.length;
+    $("endinglist").replaceChildren(...cards);
+    tellCommand(made, [], moment.last);
+}
+
+// What a line may say of a thread, in words.
+const LINES = {
+    "is ready": (id) => `thread ${id} ready ..`,
+    "is sending": (id) => `thread ${id} sending ..`,
+    "is receiving": (id) => `thread ${id} receiving ..`,
+    "has ended": (id) => `thread ${id} ended ..`,
+    "is deleted": (id) => `thread ${id} deleted ..`,
+    "has a send that is undecided": (id) => `waiting ${id}#* *`,
+};
+function offerLines() {
+    const ids = machineOf(editor.text).threads.map(({ id }) => id);
+    const chosen = $("lineof").value;
+    $("lineof").replaceChildren(...ids.map((id) => el("option", { value: id, textContent: id })));
+    if (ids.includes(chosen)) $("lineof").value = chosen;
+    if (!$("linesays").length) $("linesays").append(...Object.keys(LINES).map((says) => el("option", { value: says, textContent: says })));
+}
+function writeLine(id) {
+    const line = LINES[$("linesays").value]($("lineof").value);
+    const before = id === "together" ? $(id).value.trim() : "";
+    $(id).value = before ? `${before} & ${line}` : line;
+    $(id).focus();
 }
 
 function showEndings({ endings, forever }, open) {
@@ -79,7 +139,8 @@ function showEndings({ endings, forever }, open) {
     const cards = endings.slice(0, MOST_CARDS).map((ending) => endingCard(ending, differs, () => open(ending)));
     const more = endings.length - cards.length;
     const rest = more > 0 ? [el("p", { className: "none", textContent: `${more} more are in the tab Output.` })] : [];
-    const head = forever.length ? [el("h3", { textContent: "Stuck for ever, whatever the others do" })] : [];
+    const note = el("small", { textContent: "A card opens where that begins; the others may go on behind it." });
+    const head = forever.length ? [el("h3", {}, "Stuck for ever, whatever the others do ", note)] : [];
     const threads = forever.slice(0, MOST_CARDS).map((thread) => foreverCard(thread, () => open(thread)));
     $("endinglist").replaceChildren(...cards, ...rest, ...head, ...threads);
 }
@@ -108,24 +169,28 @@ function differences(endings) {
     return (id, name) => values.get(`${id} ${name}`)?.size > 1;
 }
 
-function endingCard({ number, list, steps, report }, differs, open) {
-    const rows = report.threads.map((thread) => endingRow(thread, differs));
+// The rows of a card, or of many threads those that matter.
+function rowsOf(threads, differs) {
+    const rows = threads.map((thread) => endingRow(thread, differs));
     const told = rows.length <= MOST_THREADS ? rows : rows.filter(({ matters }) => matters).slice(0, MOST_THREADS);
     const more = rows.length - told.length;
+    return [...told.map(({ row }) => row), more > 0 && el("span", { className: "small", textContent: `and ${counted(more, "thread")} more` })];
+}
+
+function endingCard({ number, list, steps, report }, differs, open) {
     const isBad = report.threads.some((thread) => thread.isStuck);
     const deadlocks = report.deadlocks.map((ids) => el("span", { className: "circle", textContent: `deadlock of ${ids.join(", ")}` }));
     const length = el("small", { textContent: list ? counted(list.length, "item") : counted(steps, "step") });
     const by = list && el("span", { className: "by", title: list.join(","), textContent: list.join(",") || "nothing happens" });
     const name = el("span", { className: "name" }, el("b", { textContent: `Ending ${number}` }), isBad ? "somebody is stuck" : "", length);
-    return el(
-        "button",
-        { className: `ending ${isBad ? "bad" : "good"}`, onclick: opens(open) },
-        name,
-        ...deadlocks,
-        ...told.map(({ row }) => row),
-        more > 0 && el("span", { className: "small", textContent: `and ${counted(more, "thread")} more` }),
-        by,
-    );
+    return el("button", { className: `ending ${isBad ? "bad" : "good"}`, onclick: opens(open) }, name, ...deadlocks, ...rowsOf(report.threads, differs), by);
+}
+
+// A moment in which lines of a report hold.
+function momentCard({ steps, report }, open) {
+    const length = el("small", { textContent: `after ${counted(steps, "step")}` });
+    const name = el("span", { className: "name" }, el("b", { textContent: "Such a moment" }), length);
+    return el("button", { className: "ending bad", onclick: opens(open) }, name, ...rowsOf(report.threads, () => false));
 }
 
 // A thread of an ending: its state, for whom it waits, and what is not the same in all endings.

@@ -22,7 +22,8 @@ async function judge(isOfAll) {
     const files = isOfAll ? { "m.l4": text, wanted } : { ...session.files(session.at), wanted };
     const words = isOfAll ? searchWords() : session.command("--report");
     const [made] = await program.perform("long", files, [...words, "--expect", "wanted"]);
-    sayIn("judged", judgement(made, isOfAll));
+    if (isFault(made)) sayFault("judged", made, isOfAll ? text : session.text);
+    else sayIn("judged", judgement(made, isOfAll));
     const missing = made.status === 4 ? linesOf(made.faults).slice(0, MOST_MISSING) : [];
     const open = (ending) => openEnding(ending, words, text);
     $("missing").replaceChildren(...missing.map((line) => el("li", {}, missingLine(line, wanted, open))));
@@ -32,7 +33,6 @@ async function judge(isOfAll) {
 }
 
 function judgement(made, isOfAll) {
-    if (isFault(made)) return { tone: "bad", head: made.faults.trim(), lines: [] };
     if (made.status === 4) {
         const lines = linesOf(made.faults);
         const unmet = lines.filter((line) => line.startsWith("line ")).length;

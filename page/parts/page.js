@@ -443,7 +443,11 @@ function wireTabs() {
         if (by) tab(TABS[(TABS.indexOf(doc.tab) + by + TABS.length) % TABS.length], true);
     });
     onSubmit("only", () => search($("onlystuck").checked));
-    on("searchagain", "click", () => search($("onlystuck").checked));
+    on("searchagain", "click", () => searchAgain());
+    onSubmit("moments", askForMoment);
+    for (const name of ["focus", "pointerdown"]) on("lineof", name, offerLines);
+    on("bylines", "toggle", offerLines);
+    for (const it of document.querySelectorAll("[data-line]")) it.addEventListener("click", () => writeLine(it.dataset.line));
     onSubmit("command", () => command($("words").value));
     on("copy", "click", () => copied(printed, "output copied"));
     on("saveout", "click", () => saved(`${stem()}.txt`, printed));

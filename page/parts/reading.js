@@ -13,6 +13,8 @@ const STATUS = { 0: "0, ended", 1: "1, a fault", 2: "2, wrong usage", 3: "3, mor
 
 // A status of a command whose output is no answer.
 const isFault = (made) => made.status === 1 || made.status === 2;
+// The line of a fault, behind which lines may explain it.
+const faultOf = (made) => made.faults.split("\n")[0];
 
 const linesOf = (out) => out.split("\n").slice(0, -1);
 
@@ -107,9 +109,10 @@ function headOf(line) {
 }
 
 // The endings that a search printed, and its last line. `isEndless`: nothing ends at all. `forever`: the threads that may be stuck for ever,
-// whether or not the others come to rest, of a program that looks for them; their numbers count on behind those of the endings.
+// whether or not the others come to rest, of a program that looks for them; their numbers count on behind those of the endings. `isByWalk`: a walk at
+// random came to an ending, and no other was looked for.
 function endingsOf(out) {
-    const found = { endings: [], forever: [], isForeverCut: false, last: "", isEndless: false };
+    const found = { endings: [], forever: [], isForeverCut: false, last: "", isEndless: false, isByWalk: false };
     for (const line of linesOf(out)) {
         const head = headOf(line);
         const [, id, steps] = line.match(/^stuck (\S+) for ever, steps (\d+)$/) ?? [];
@@ -118,10 +121,23 @@ function endingsOf(out) {
         else if (line === "stuck for ever: cut") found.isForeverCut = true;
         else if (/^(states|worlds) /.test(line)) found.last = line;
         else if (line.startsWith("no ending")) found.isEndless = true;
+        else if (line.startsWith("found by a walk")) Object.assign(found, { isByWalk: true, last: line });
         else found.endings.at(-1)?.lines.push(line);
     }
     for (const ending of found.endings) ending.report = reportOf(ending.lines.join("\n"));
     return found;
+}
+
+// Whether a world on the way has all lines that were asked for, and such a world: what threads are in, and to whom they send.
+function momentOf(out) {
+    const [head, ...lines] = linesOf(out);
+    const [, steps, orFewer] = head.match(/^met, steps (\d+)( or fewer)?$/) ?? [];
+    const report = reportOf(lines.join("\n"));
+    for (const line of lines) {
+        const [, id, to] = line.match(/^waiting (\S+)#\d+ (\S+)$/) ?? [];
+        if (id && report.byId.has(id)) report.byId.get(id).wait = { to, phase: "send" };
+    }
+    return { isMet: steps !== undefined, steps: Number(steps), isLeast: !orFewer, isCut: head === "not met: cut", report, last: lines.at(-1) ?? "" };
 }
 
 // The marks of `lint`: each has a line, a column, a word and what may stand there, or what is doubtful.
@@ -138,6 +154,11 @@ function marksOf(out) {
             hint,
             isDoubt: kind === "always" || kind === "perhaps",
         }));
+}
+// The mark of a fault of the text, as the program explains it on a terminal.
+function faultMarkOf({ faults }) {
+    const [, line, column, said] = faults.match(/^m\.l4:(\d+):(\d+): (.*)$/m) ?? [];
+    return line && marksOf(`line ${line} column ${column}: ${said}\n`)[0];
 }
 function markText({ kind, word, hint, isDoubt }) {
     const named = word ? `\`${word}\`: ` : "";

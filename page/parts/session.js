@@ -1,11 +1,12 @@
 // A text and what happens in it, a list that is stepped through: what the program says of each beginning of the list. The list has the
 // items of a schedule, which a replay takes, or the steps of a trace, which an audit judges. `forever` is a thread of which a search has told
-// that it is stuck for ever behind so many steps, and on.
+// that it is stuck for ever behind so many steps, and on; `moment` are lines of which one has told that they all hold behind so many.
 class Session {
     static KEPT = 64; // states that are remembered
 
     constructor(program, text, list = [], at = list.length) {
-        Object.assign(this, { program, text, list, at, machine: machineOf(text), states: new Map(), nexts: new Map(), whole: null, forever: null });
+        Object.assign(this, { program, text, list, at, machine: machineOf(text), states: new Map(), nexts: new Map(), whole: null });
+        Object.assign(this, { forever: null, moment: null });
     }
 
     // What is done.
@@ -20,6 +21,7 @@ class Session {
         made.nexts = this.nexts;
         // Who is stuck for ever stays so, whatever follows.
         if (this.forever?.at <= this.at) made.forever = this.forever;
+        if (this.moment?.at <= this.at) made.moment = this.moment;
         return made;
     }
 
@@ -104,7 +106,7 @@ class Schedule extends Session {
     async rested(turns) {
         const words = this.command("--then-rest", "--turns", turns, "--record", "rest");
         const [made] = await this.program.perform("long", this.files(this.at), words);
-        if (isFault(made)) throw new Error(made.faults.trim());
+        if (isFault(made)) throw new Error(faultOf(made));
         const rested = this.with(listOf(made.recorded).slice(this.at));
         rested.isCut = made.status === 3;
         return rested;

@@ -89,6 +89,7 @@ function showVerdict(shown, now, lines) {
         $("verdict").style.setProperty("--wide", `${picture.getAttribute("width")}px`);
         $("verdict").style.setProperty("--tall", `${picture.getAttribute("height")}px`);
     }
+    if (shown.moment?.at === at) $("verdict").append(el("p", {}, "Here all of these hold: ", el("code", { textContent: shown.moment.condition })));
     if (said.tone === "good" && hasOtherOrders(machine)) askForOthers();
     if (at === 0 && !list.length) offerHelp();
 }
@@ -142,17 +143,17 @@ function showFault(made) {
     sayFault("verdict", made, session.text);
 }
 
-// Says in the place of this id which fault the text or the list has: of the text at the left as lint says it, with a way there.
+// Says in the place of this id which fault the text or the list has: of the text at the left with a way there, of another one with the line itself
+// and marks below it, as the program shows that on a terminal.
 function sayFault(id, made, text) {
-    const line = made.faults.trim();
-    const number = Number(line.match(/^l4run: line (\d+): /)?.[1]);
-    const mark = editor.text === text ? editor.marks.find((it) => it.line === number && !it.isDoubt) : undefined;
+    const mark = faultMarkOf(made);
     const because = made.out.match(/^because .*/m) ?? [];
-    sayIn(id, { tone: "bad", head: mark ? `Line ${number}: ${markText(mark)}` : line || "a fault", lines: [...because] });
+    sayIn(id, { tone: "bad", head: mark ? `Line ${mark.line}: ${markText(mark)}` : faultOf(made) || "a fault", lines: [...because] });
     $(id).firstChild.replaceChildren(...withCode($(id).firstChild.textContent));
-    if (!number) return;
-    const go = Object.assign(button(`go to line ${number}`, () => editor.goTo(number, mark?.column)), { className: "inline" });
-    $(id).append(" ", go);
+    if (!mark) return;
+    const go = Object.assign(button(`go to line ${mark.line}`, () => editor.goTo(mark.line, mark.column)), { className: "inline" });
+    const shown = () => el("pre", { textContent: linesOf(made.faults).slice(2).join("\n") });
+    $(id).append(" ", editor.text === text ? go : shown());
 }
 
 // A run takes one order; what of the others?

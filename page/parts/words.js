@@ -49,24 +49,42 @@ function verdictOf({ report, told }, isBeginning, cutAt) {
     return { tone: "", head: `It goes on: ${counted(told.length.toLocaleString("en"), "step")} so far.`, lines: [] };
 }
 
-// What a search for endings came to: of all, of the stuck ones, or of those with or without a line.
-function searchText({ endings, forever, isForeverCut, last, isEndless, isStuckOnly, isPart, took }) {
+// How far a search went, as its last line says, and of which runs it knows.
+function sizeOf(last, took) {
     const [found, ...known] = last.split(", ");
     const [kind, number, , depth, whole] = found.split(" ");
     const isWhole = whole === "whole";
-    const bad = endings.filter(({ report }) => report.threads.some((thread) => thread.isStuck)).length;
-    const quiet = isEndless ? "" : "good";
-    const tone = bad || forever.length ? "bad" : isWhole && !isForeverCut ? quiet : "fair";
     const [one, part] = kind === "states" ? ["state", "item"] : ["world", "step"];
     const size = `${sizeText(number, one)}, up to ${counted(depth, part)}, in ${timeText(took)}`;
     const all = kind === "states" ? "All orders of the processors were searched" : "All orders of any scheduler were searched, whatever time passes";
     const searched = isWhole ? `${all}: ${size}.` : `Cut off: ${size}. There may be more; Limits has the numbers.`;
+    return { isWhole, lines: [searched, ...limitsText(known)] };
+}
+
+// What a search for endings came to: of all, of the stuck ones, or of those with or without a line.
+function searchText({ endings, forever, isForeverCut, last, isEndless, isByWalk, isStuckOnly, isPart, took }) {
+    const walked = [`Found by a walk at random, in ${timeText(took)}: there may be shorter ways there, and others were not looked for.`];
+    const { isWhole, lines } = isByWalk ? { isWhole: false, lines: walked } : sizeOf(last, took);
+    const bad = endings.filter(({ report }) => report.threads.some((thread) => thread.isStuck)).length;
+    const quiet = isEndless ? "" : "good";
+    const tone = bad || forever.length ? "bad" : isWhole && !isForeverCut ? quiet : "fair";
     const choose = endings.length + forever.length ? ["Each card opens step by step."] : [];
     const head = isEndless ? endlessText(forever) : endingsText(endings.length, bad, isStuckOnly, isPart, forever);
     const others = isForeverCut ? ["The search for threads that are stuck for ever was cut off: there may be more of them."] : [];
-    const isTwice = new Set(endings.map(({ lines }) => lines.join("\n"))).size < endings.length;
+    const isTwice = new Set(endings.map(({ lines: told }) => told.join("\n"))).size < endings.length;
     const same = isTwice ? ["Some have the same report: they differ in what a report does not show."] : [];
-    return { tone, head, lines: [searched, ...limitsText(known), ...others, ...same, ...choose] };
+    return { tone, head, lines: [...lines, ...others, ...same, ...choose] };
+}
+
+// Whether lines that must not hold at once may do so.
+function momentText({ isMet, steps, isLeast, isCut, last, took }) {
+    const { lines } = sizeOf(last, took);
+    if (isMet) {
+        const head = `These lines can all hold at one moment, after ${counted(steps, "step")}${isLeast ? "" : ", or fewer"}.`;
+        return { tone: "bad", head, lines: ["The card opens step by step."] };
+    }
+    if (isCut) return { tone: "fair", head: "No such moment was found.", lines };
+    return { tone: "good", head: "Never: there is no moment in which all of these lines hold.", lines };
 }
 const stuckText = (forever) => `${among(forever.map(({ id }) => id), 6).join(", ")} can get stuck for ever`;
 const endlessText = (forever) => `No ending: it goes on for ever${forever.length ? `, and ${stuckText(forever)}` : ""}.`;

@@ -1,17 +1,22 @@
-// What the program prints: a command with its files in a folder of its own.
+// What the program prints: commands, each with its files in a folder of its own.
 const { spawnSync } = require("child_process");
 const fs = require("fs");
 const os = require("os");
 const path = require("path");
 
-function printedBy(program, { words, files }) {
+function filledFolder(files) {
     const folder = fs.mkdtempSync(path.join(os.tmpdir(), "page-case-"));
+    for (const [name, text] of Object.entries(files)) {
+        if (path.isAbsolute(name) || name.startsWith("..")) continue;
+        fs.mkdirSync(path.dirname(path.join(folder, name)), { recursive: true });
+        fs.writeFileSync(path.join(folder, name), text);
+    }
+    return folder;
+}
+
+function printedBy(program, { words, files }) {
+    const folder = filledFolder(files);
     try {
-        for (const [name, text] of Object.entries(files)) {
-            if (path.isAbsolute(name) || name.startsWith("..")) continue;
-            fs.mkdirSync(path.dirname(path.join(folder, name)), { recursive: true });
-            fs.writeFileSync(path.join(folder, name), text);
-        }
         const env = { ...process.env };
         for (const name of ["COLUMNS", "TERM"]) delete env[name];
         // Its usage names it as it was called.
@@ -25,7 +30,27 @@ function printedBy(program, { words, files }) {
     }
 }
 
+// How far a search has come is told once a second, and wiped at its end: when, depends on the host.
+const PROGRESS = /\r(looked at \d+ states, depth \d+, \d+ s, \d+ a second|\x1b\[K)/g;
+
+// What the program prints of each of these commands where its faults go to a terminal, but how far a search has come.
+function printedOnTerminal(program, commands) {
+    const folders = commands.map(({ files }) => filledFolder(files));
+    try {
+        const inputOf = (files) => Buffer.from(files["/dev/stdin"] ?? "").toString("base64");
+        const asked = commands.map(({ words, files }, place) => ({ words, folder: folders[place], input: inputOf(files) }));
+        const how = { input: JSON.stringify(asked), maxBuffer: 2 ** 30 };
+        const { stdout, stderr } = spawnSync("python3", ["-B", path.join(__dirname, "terminal.py"), path.resolve(program)], how);
+        if (stderr.length) throw new Error(`${stderr}`);
+        const bytes = (text) => Buffer.from(text, "base64");
+        const untold = (faults) => Buffer.from(faults.toString("latin1").replace(PROGRESS, ""), "latin1");
+        return JSON.parse(stdout).map(({ status, out, faults }) => ({ status, out: bytes(out), faults: untold(bytes(faults)) }));
+    } finally {
+        for (const folder of folders) fs.rmSync(folder, { recursive: true });
+    }
+}
+
 const isSame = (one, other) =>
     one.status === other.status && Buffer.from(one.out).equals(other.out) && Buffer.from(one.faults).equals(other.faults);
 
-module.exports = { printedBy, isSame };
+module.exports = { printedBy, printedOnTerminal, isSame };

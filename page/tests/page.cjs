@@ -6,7 +6,7 @@ const path = require("path");
 const zlib = require("zlib");
 const { Chromium, Firefox, sleep } = require("./browsers.cjs");
 const { allCommands } = require("./cases.cjs");
-const { printedBy, isSame } = require("./native.cjs");
+const { printedBy, printedOnTerminal, isSame } = require("./native.cjs");
 const { ring, loop, locksInRing, lostReply, lost, answered, beside } = require("./texts.cjs");
 
 const [, , name, page, program, top, pictures] = process.argv;
@@ -74,7 +74,7 @@ function hands(browser) {
     return it;
 }
 
-// Every command of all cases, in the page's own worker.
+// Every command of all cases, in the page's own worker. The page is a terminal to the program: so it is for the program that is compared.
 async function comparesCases(browser, { run, go }) {
     await go("#example=first.l4");
     const { commands, left } = allCommands(top);
@@ -95,8 +95,9 @@ async function comparesCases(browser, { run, go }) {
             }
             return all;`);
         inPage += Date.now() - began;
+        const wanted = printedOnTerminal(program, part);
         made.forEach(([status, out, faults], place) => {
-            if (isSame({ status, out, faults }, printedBy(program, part[place]))) return;
+            if (isSame({ status, out, faults }, wanted[place])) return;
             others += 1;
             console.log(`${name}: other: ${part[place].name}: ${part[place].words.join(" ").slice(0, 200)}: status ${status}`);
         });

@@ -34,11 +34,15 @@ class Chart {
         const picture = new DOMParser().parseFromString(svg, "image/svg+xml").documentElement;
         picture.querySelector("style")?.remove();
         // What threads are in behind the last step has rows too, without a number.
-        const rows = [...picture.querySelectorAll("g.row")].filter((row) => row.querySelector("text.number"));
+        const drawn = [...picture.querySelectorAll("g.row")];
+        const rows = drawn.filter((row) => row.querySelector("text.number"));
+        const states = drawn.filter((row) => !rows.includes(row));
         this.numbers = rows.map((row) => Number(row.querySelector("text.number").textContent));
         this.total = told.length;
-        this.lines = el("div", { className: "lines" }, ...rows.map((row, place) => this.line(row, this.numbers[place], told)));
-        for (const row of rows) for (const text of row.querySelectorAll("text")) text.remove();
+        this.rows = drawn.length;
+        const steps = rows.map((row, place) => this.line(row, this.numbers[place], told));
+        this.lines = el("div", { className: "lines" }, ...steps, ...states.map(Chart.state));
+        for (const row of drawn) for (const text of row.querySelectorAll("text:not(.time)")) text.remove();
 
         const bands = [...picture.querySelectorAll("rect.band")].map((it) => [Number(it.getAttribute("x")), Number(it.getAttribute("width"))]);
         const left = Math.min(...bands.map(([x]) => x)) - 6;
@@ -84,7 +88,14 @@ class Chart {
         return made;
     }
 
-    // Marks the rows of the steps from `since` to `row`; those behind are yet to come.
+    // What a thread is in behind the last row, or who waits for each other there.
+    static state(row) {
+        const title = row.querySelector("title").textContent;
+        const className = `state${row.classList.contains("circle") ? " failure" : ""}`;
+        return el("div", { title, className, textContent: title.replace(/ \(line .*\)$/, "") });
+    }
+
+    // Marks the rows of the steps from `since` to `row`; those behind are yet to come, and so is what is behind the last.
     choose(row, since = row) {
         Object.assign(this, { row, since });
         if (!this.numbers.length) return;
@@ -95,7 +106,7 @@ class Chart {
         this.now.style.top = `${HEAD + start * ROW}px`;
         this.now.style.height = `${(end - start) * ROW}px`;
         this.later.style.top = `${HEAD + end * ROW}px`;
-        this.later.style.height = `${(this.numbers.length - end) * ROW}px`;
+        this.later.style.height = `${end === this.numbers.length ? 0 : (this.rows - end) * ROW}px`;
         this.showRow(end);
         if (end > start) this.showColumn(this.marks[end - 1]);
     }

@@ -1,6 +1,6 @@
 // The tab Endings: a search of all orders, and a card for each ending; and whether some lines of a report can hold at one moment on the way. Where
-// the program searches whatever the scheduler does, an ending has a trace, which is asked for by its number. Where it searches turns as the
-// processors take them, an ending has the list of items.
+// it is whatever the scheduler does, an ending has a trace, which is asked for by its number. Of turns as the processors take them it has the list of
+// items.
 
 let searched = null; // the text that was searched last
 // What was found in a text that is no longer at the left is pale.
@@ -13,16 +13,9 @@ function showWhetherOld() {
 const MOST_CARDS = 300;
 const MOST_THREADS = 14; // on a card
 
-// Asks the program whether it knows both searches. One that does not has that of the processors' turns alone.
-async function askForSearches() {
-    const [help] = await program.perform("lint", {}, ["help", "endings"]);
-    $("turnsonly").hidden = !help.out.includes("--placed");
-}
-
 // The words of a search: of which kind, and within which limits.
-const isPlaced = () => !$("turnsonly").hidden && $("placed").checked;
 const limitWords = () => ["--depth", $("depth").value, "--states", $("states").value];
-const searchWords = () => ["endings", "m.l4", ...(isPlaced() ? ["--placed"] : []), ...limitWords()];
+const searchWords = () => ["endings", "m.l4", ...($("placed").checked ? ["--placed"] : []), ...limitWords()];
 
 // Opens an ending that a search with these words found, at its end; where a thread comes to be stuck for ever; or a moment in which lines hold.
 async function openEnding({ number, list, id, condition }, words, text) {
@@ -79,10 +72,10 @@ async function search(isStuckOnly) {
     const isPart = asked.includes("--with") || asked.includes("--never");
     sayIn("found", searchText({ ...found, isStuckOnly, isPart, took: made.took }));
     const count = found.endings.length + found.forever.length;
-    if (!count && / cut$/.test(found.last) && !isPlaced() && !$("oneisenough").checked) offerWalks(isStuckOnly);
+    if (!count && / cut$/.test(found.last) && !$("placed").checked && !$("oneisenough").checked) offerWalks(isStuckOnly);
     $("count").textContent = count;
     showEndings(found, (ending) => openEnding(ending, asked, text));
-    tellCommand(made, [], found.last);
+    tellCommand(made, [], found.last.split(",")[0]);
 }
 
 // A search that was cut and found nothing may have looked at too little: a walk at random goes far at once.

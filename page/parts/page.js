@@ -539,7 +539,6 @@ async function start() {
     const module = await bytesThrough(bytesOf64($("packed").textContent), new DecompressionStream("gzip"));
     const limit = () => Math.max(16, Number($("memory").value) || 3072) * 2 ** 20;
     program = new Program(await WebAssembly.compile(module), { onBusy, onTold, limit });
-    await guarded(askForSearches);
     await guarded(follow);
     document.body.dataset.ready = "yes";
 }

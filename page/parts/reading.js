@@ -109,8 +109,8 @@ function headOf(line) {
 }
 
 // The endings that a search printed, and its last line. `isEndless`: nothing ends at all. `forever`: the threads that may be stuck for ever,
-// whether or not the others come to rest, of a program that looks for them; their numbers count on behind those of the endings. `isByWalk`: a walk at
-// random came to an ending, and no other was looked for.
+// whether or not the others come to rest; their numbers count on behind those of the endings. `isByWalk`: a walk at random came to an ending, and no
+// other was looked for.
 function endingsOf(out) {
     const found = { endings: [], forever: [], isForeverCut: false, last: "", isEndless: false, isByWalk: false };
     for (const line of linesOf(out)) {

@@ -157,7 +157,7 @@ function sayFault(id, made, text) {
 }
 
 // A run takes one order; what of the others?
-const hasOtherOrders = ({ cpus, threads }) => ($("turnsonly").hidden ? cpus > 1 : threads.length > 1);
+const hasOtherOrders = ({ threads }) => threads.length > 1;
 function askForOthers() {
     const ask = button("Is somebody stuck in another order?", () => verb("stuck"));
     ask.className = "inline";

@@ -7,7 +7,7 @@ const zlib = require("zlib");
 const { Chromium, Firefox, sleep } = require("./browsers.cjs");
 const { allCommands } = require("./cases.cjs");
 const { printedBy, printedOnTerminal, isSame } = require("./native.cjs");
-const { ring, loop, locksInRing, lostReply, lost, answered, beside } = require("./texts.cjs");
+const { ring, loop, locksInRing, lostReply, lost, beside } = require("./texts.cjs");
 
 const [, , name, page, program, top, pictures] = process.argv;
 let good = 0;
@@ -128,7 +128,7 @@ async function runsExamples(browser, hand) {
         check(`${example} has no fault`, (await hand.count("#lint .fault")) === 0);
         await liesUnderItsText(hand, example);
         await hand.verb("run");
-        const rows = await hand.count("#chart .lines > div");
+        const rows = await hand.count("#chart .lines [data-step]");
         const [all, last] = await hand.run("return [session.whole.length, chart.numbers.at(-1)]");
         check(`${example}: its chart has its steps`, rows > 0 && last === all && (rows === all || all > 250), [rows, last, all]);
         await hand.verb("stuck");
@@ -159,6 +159,8 @@ async function findsDeadlock(browser, hand) {
     await hand.run("document.activeElement.blur();");
     check("the text shows who waits where", (await hand.count(".paint b.stuck")) === 3);
     check("three threads are stuck", (await hand.count(".card.stuck")) === 3);
+    const below = await hand.run("return [...document.querySelectorAll('#chart .state')].map((it) => it.textContent).join('; ')");
+    check("so says the chart below its steps", below === "1.1 receiving from 9.1; 9.1 receiving from 8.1; 8.1 sending to 1.1; deadlock 1.1 9.1 8.1", below);
     await hand.picture("callback-1200");
 }
 
@@ -176,6 +178,10 @@ async function marksFaults(browser, hand) {
     await hand.picture("fault-1200");
     await hand.verb("stuck");
     check("a search says the same", /Line 4: 64: .*1 to 63/.test(await hand.text("found")), await hand.text("found"));
+    const explained = "l4run: line 4: BadNumber\nfirst.l4:4:5: BadNumber: `64`: wanted: a register, 1 to 63\n    set 64 10\n        ^^\n";
+    check("the output explains it as on a terminal", (await hand.run("return printed")) === explained, await hand.run("return printed"));
+    await hand.click("#tab-output");
+    await hand.picture("explained-1200");
     await hand.click("#tab-steps");
     await hand.click("#lint button");
     check("a mark leads to its word", (await hand.run("const at = document.getElementById('text'); return at.value.slice(at.selectionStart, at.selectionEnd)")) === "64");
@@ -226,30 +232,9 @@ async function findsStuckEnding(browser, hand) {
     check("searched again", (await hand.count("#endinglist.old")) === 0 && (await hand.count(".ending")) === 2, await hand.count(".ending"));
 }
 
-// What a search whatever the scheduler does prints of the lost reply, for a page whose program does not have that search yet.
-function printedOfLostReply() {
-    const cards = [answered, lost].map((trace, place) => {
-        const files = { "m.l4": lostReply, "m.trace": trace.map((step) => `${step}\n`).join("") };
-        const said = printedBy(program, { words: ["audit", "m.l4", "m.trace", "--report", "--waits"], files }).out.toString();
-        return said.replace(/^passed \d+ quiet\n/, `ending ${place + 1} steps ${trace.length}\n`);
-    });
-    return `${cards.join("")}worlds 23 steps 13 whole\n`;
-}
-
 // The reply that is lost, found whatever the scheduler does, stepped through and drawn.
 async function findsLostReply(browser, hand) {
     await hand.go(linkOf({ n: "lost.l4", t: lostReply }));
-    if (await hand.run("return document.getElementById('turnsonly').hidden")) {
-        const traces = [answered, lost].map((trace) => trace.map((step) => `${step}\n`).join(""));
-        await hand.run(`
-            const all = ${quoted(printedOfLostReply())};
-            const traces = ${quoted(traces)};
-            const perform = program.perform.bind(program);
-            const printed = (words) => (words.includes("--trace") ? traces[words.at(-1) - 1] : all);
-            program.perform = async (lane, files, ...commands) =>
-                commands[0][0] === "endings" ? [{ words: commands[0], status: 0, out: printed(commands[0]), faults: "", took: 1 }] : perform(lane, files, ...commands);
-            document.getElementById("turnsonly").hidden = false;`);
-    }
     await hand.verb("endings");
     check("two endings of the lost reply", (await hand.count(".ending")) === 2, await hand.count(".ending"));
     check("of any scheduler", /any scheduler/.test(await hand.text("found")), await hand.text("found"));
@@ -258,26 +243,16 @@ async function findsLostReply(browser, hand) {
     await hand.click(".ending.bad");
     check("its trace opens", (await hand.text("where")).startsWith("step 13 of 13"), await hand.text("where"));
     check("who is stuck", /1.1 waits for a message from 9.1/.test(await hand.text("verdict")), await hand.text("verdict"));
-    check("its chart has its steps", (await hand.count("#chart .lines > div")) === 13);
+    check("its chart has its steps", (await hand.count("#chart .lines [data-step]")) === 13);
     await hand.picture("any-trace-1200");
     await browser.size(400, 860, true);
     await hand.picture("any-trace-400");
     await browser.size(1200, 800);
 }
 
-// A thread that can never go on though others do. For a page whose program does not look for such threads, what one prints that does.
+// A thread that can never go on though others do.
 async function findsStuckForEver(browser, hand) {
     await hand.go(linkOf({ n: "beside.l4", t: beside }));
-    const words = ["endings", "m.l4", "--stuck"];
-    if (!/^stuck /m.test(printedBy(program, { words, files: { "m.l4": beside } }).out.toString())) {
-        await hand.run(`
-            const all = "stuck 1.1 for ever, steps 13\\nstuck for ever: cut\\nno ending: it goes on for ever\\nworlds 77 steps 17 whole\\n";
-            const trace = ${quoted(lost.map((step) => `${step}
-`).join(""))};
-            const perform = program.perform.bind(program);
-            program.perform = async (lane, files, ...commands) =>
-                commands[0][0] === "endings" ? [{ words: commands[0], status: 0, out: commands[0].includes("--trace") ? trace : all, faults: "", took: 1 }] : perform(lane, files, ...commands);`);
-    }
     await hand.verb("stuck");
     const found = await hand.text("found");
     check("what a search found is of the text", await hand.run("return document.getElementById('oldsearch').hidden"));
@@ -294,6 +269,63 @@ async function findsStuckForEver(browser, hand) {
     check("nor can it behind that", /1.1 can never go on/.test(await hand.text("verdict")), await hand.text("verdict"));
     await hand.click("#first");
     check("and at the beginning it could", !/can never go on/.test(await hand.text("verdict")), await hand.text("verdict"));
+}
+
+// One ending is enough: where a search of a large text finds nothing, a walk at random comes to a deadlock at once.
+async function findsOneByWalk(browser, hand) {
+    await hand.go(linkOf({ n: "five.l4", t: locksInRing(5) }));
+    await hand.fill("states", "20000");
+    await hand.verb("stuck");
+    check("a search that was cut says so", /Cut off: 20,000 worlds/.test(await hand.text("found")), await hand.text("found"));
+    check("and finds none", (await hand.count(".ending")) === 0, await hand.count(".ending"));
+    await hand.picture("cut-1200");
+    await hand.click("#found button");
+    const found = await hand.text("found");
+    check("a walk finds one", /1 ending in which somebody waits for ever.*Found by a walk at random/s.test(found), found);
+    check("one is enough then", await hand.run("return document.getElementById('oneisenough').checked"));
+    await hand.picture("walk-1200");
+    await hand.click(".ending.bad");
+    check("it opens step by step", /^step \d+ of \d+/.test(await hand.text("where")) && /threads wait for ever/.test(await hand.text("verdict")), await hand.text("verdict"));
+}
+
+// What must never be at one moment: lines are written by a choice, and asked for.
+async function asksForMoments(browser, hand) {
+    await hand.go("#example=locks.l4");
+    await hand.click("#tab-endings");
+    await hand.run("document.getElementById('bylines').open = true;");
+    await hand.idle();
+    const writes = async (id, says) => {
+        await hand.run(`document.getElementById("lineof").value = "${id}"; document.getElementById("linesays").value = "${says}";`);
+        await hand.click("[data-line=together]");
+    };
+    const asks = async () => {
+        await hand.run("delete document.body.dataset.searched; document.querySelector('#moments button').click();");
+        await browser.until("document.body.dataset.searched !== undefined");
+        await hand.idle();
+    };
+    await writes("1.1", "has a send that is undecided");
+    await writes("2.1", "has a send that is undecided");
+    check("lines are written", (await hand.run("return document.getElementById('together').value")) === "waiting 1.1#* * & waiting 2.1#* *");
+    await asks();
+    check("such a moment is told", /hold at one moment, after 2 steps/.test(await hand.text("found")), await hand.text("found"));
+    check("as a card", (await hand.count(".ending.bad")) === 1 && /1\.1\s+sending\s+sends to 11\.1/.test(await hand.text("endinglist")), await hand.text("endinglist"));
+    await hand.picture("moment-1200");
+    await hand.click(".ending.bad");
+    check("which opens there", (await hand.text("where")).startsWith("step 2 of 2"), await hand.text("where"));
+    check("and says what holds", /all of these hold: waiting 1\.1#\* \* & waiting 2\.1#\* \*/.test(await hand.text("verdict")), await hand.text("verdict"));
+    await hand.picture("moment-trace-1200");
+    await hand.click("#back");
+    check("but not before", !/all of these hold/.test(await hand.text("verdict")));
+    await hand.fill("together", "waiting 1.1#* 21.1 & waiting 2.1#* 12.1");
+    await asks();
+    check("what never is", /Never: there is no moment/.test(await hand.text("found")) && (await hand.count(".ending")) === 0, await hand.text("found"));
+    await hand.type(`${await hand.run("return editor.text")}; changed\n`);
+    await hand.click("#searchagain");
+    await hand.idle();
+    check("asked again of another text", /Never: there is no moment/.test(await hand.text("found")) && (await hand.count("#found.old")) === 0, await hand.text("found"));
+    await hand.fill("together", "ending quiet");
+    await asks();
+    check("what can't be asked for is a fault", /condition line 1/.test(await hand.text("found")), await hand.text("found"));
 }
 
 // Any step that may happen, whatever scheduler takes it: the reply is lost by hand. A link has the trace, and a file has one.
@@ -633,6 +665,8 @@ const PARTS = [
     findsStuckEnding,
     findsLostReply,
     findsStuckForEver,
+    findsOneByWalk,
+    asksForMoments,
     stepsByAny,
     steps,
     worksByKeys,

@@ -25,12 +25,12 @@ ipc last any never never
 jump 1
 `;
 
-// Four who each take two locks in a ring, each with a processor: its search takes long.
-function locksInRing() {
-    const lines = ["l4 1 64", "cpus 4"];
-    for (let place = 0; place < 4; place += 1) {
+// Some who each take two locks in a ring, each with a processor: its search takes long.
+function locksInRing(count = 4) {
+    const lines = ["l4 1 64", `cpus ${count}`];
+    for (let place = 0; place < count; place += 1) {
         const first = 10 * (place + 1);
-        const second = 10 * (((place + 1) % 4) + 1);
+        const second = 10 * (((place + 1) % count) + 1);
         lines.push(`thread ${place + 1}.1 cpu ${place} space ${place + 1}`);
         for (const to of [first + 1, second + 1, second + 2, first + 2]) lines.push(`ipc ${to}.1 nil never never`);
         lines.push(`thread ${first + 1}.1 cpu ${place} space 9`, "ipc nil any never never", `ipc nil ${first + 2}.1 never never`, "jump 0");
@@ -55,7 +55,6 @@ jump 1
 `;
 const asked = ["local 1.1", "local 1.1", "wait 9.1", "begin 1.1#1", "queue 1.1#1", "deliver 1.1#1 9.1 1.1 1.1 10001 5", "local 9.1"];
 const lost = [...asked, "begin 9.1#1", "stimeout 9.1#1", "wait 1.1", "local 9.1", "local 9.1", "wait 9.1"];
-const answered = [...asked, "wait 1.1", "begin 9.1#1", "queue 9.1#1", "deliver 9.1#1 1.1 9.1 9.1 10001 69", "local 1.1"];
 
 // The same beside a thread that sleeps again and again: there is no ending, and who lost its answer can never go on.
 const beside = `${lostReply}thread 18.1 cpu 0 space 1
@@ -63,4 +62,4 @@ ipc nil 18.1 never 5
 jump 0
 `;
 
-module.exports = { ring, loop, locksInRing, lostReply, lost, answered, beside };
+module.exports = { ring, loop, locksInRing, lostReply, lost, beside };

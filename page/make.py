@@ -27,7 +27,6 @@ import module  # noqa: E402
 WORKER = ["../module/call.js", "reading.js", "possible.js", "worker.js"]
 SCRIPT = [
     "reading.js",
-    "places.js",
     "words.js",
     "circle.js",
     "address.js",

@@ -27,6 +27,23 @@ function toldOf(out) {
     });
 }
 
+// The steps of a trace, each with what the rows of its chart tell of it: the line of the instruction that it runs, or 0, and where a send goes to. A
+// step that is refused has no row.
+function toldOfChart(steps, svg) {
+    const titles = [...svg.matchAll(/<g class="row[^"]*"><title>([^<]*)<\/title>.*<text class="number"/g)].map(([, title]) => title);
+    return steps.map((step, place) => {
+        const [, to, line = 0] = titles[place]?.match(/^\S+ \S+(?: to (\S+))?.*?(?:\(line (\d+)[^()]*\))?$/) ?? [];
+        return { step, line: Number(line), to };
+    });
+}
+
+// The line of the instruction that each thread is in, or ran last; 0 of one that ran none.
+function placesOf(machine, told) {
+    const lines = new Map(machine.threads.map(({ id }) => [id, 0]));
+    for (const { step, line } of told) if (line) lines.set(step.split(" ")[1].split("#")[0], line);
+    return [...lines].map(([id, line]) => ({ id, line }));
+}
+
 // Processors, and threads with their scripts by lines. A text with a fault is read as far as it goes.
 function machineOf(text) {
     const machine = { cpus: 0, threads: [], byId: new Map() };

@@ -129,8 +129,9 @@ class Trace extends Session {
     }
 
     async stateAt(place) {
-        const [made] = await this.program.perform("step", this.files(place), this.command("--report", "--waits", "--explain"));
-        return { made, report: reportOf(made.out), told: toldByScripts(this.machine, this.list.slice(0, place)) };
+        const chart = ["chart", "m.l4", "m.trace", "--svg"];
+        const [made, drawn] = await this.program.perform("step", this.files(place), this.command("--report", "--waits", "--explain"), chart);
+        return { made, report: reportOf(made.out), told: toldOfChart(this.list.slice(0, place), drawn.out) };
     }
 
     found() {

@@ -99,7 +99,8 @@ function limitsText(known) {
 function endingsText(all, bad, isStuckOnly, isPart, forever) {
     const such = isPart ? "such " : "";
     if (isStuckOnly && !all && forever.length) return `No ${such}ending in which somebody waits for ever, but ${stuckText(forever)} while others go on.`;
-    if (isStuckOnly) return all ? `${counted(all, `${such}ending`)} in which somebody waits for ever.` : `No ${such}ending in which somebody waits for ever.`;
+    const threads = forever.length ? `, and ${counted(forever.length, "thread")} that can never go on` : "";
+    if (isStuckOnly) return `${all ? counted(all, `${such}ending`) : `No ${such}ending`} in which somebody waits for ever${threads}.`;
     const some = bad ? `, ${bad} of them with somebody who waits for ever` : "";
     return all ? `${counted(all, `${such}ending`)}${some}.` : `No ${such}ending.`;
 }

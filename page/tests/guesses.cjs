@@ -1,8 +1,8 @@
 // node guesses.cjs MODULE.wasm|PROGRAM TOP [EACH]: what the page works out for itself, against what the program says.
 //
 // Of each example: is each item of the shortest schedule of its first ending offered at its place, with the steps that it tells, and is each of
-// these steps? Of the examples and of each case: is the line that the page finds for each step of a trace that which the program tells of the step
-// in a list of items, and does the line at which a thread is shown agree with its state? With EACH every so manyth place alone is tried.
+// these steps? Of the examples and of each case: does the chart of a trace tell of each step the line and the receiver that the program tells of the
+// step in a list of items, and does the line at which a thread is shown agree with its state? With EACH every so manyth place alone is tried.
 const fs = require("fs");
 const path = require("path");
 const vm = require("vm");
@@ -12,11 +12,11 @@ const { printedBy } = require("./native.cjs");
 const [, , source, top, each = "1"] = process.argv;
 const MOST_ITEMS = 20; // of a list
 
-const NAMES = ["machineOf", "reportOf", "endingsOf", "linesOf", "toldOf", "listOf", "placesOf", "toldByScripts", "nextOf", "possibleOf"];
+const NAMES = ["machineOf", "reportOf", "endingsOf", "linesOf", "toldOf", "listOf", "placesOf", "toldOfChart", "nextOf", "possibleOf"];
 const scope = vm.createContext({ console });
-const parts = ["reading.js", "places.js", "possible.js"].map((name) => fs.readFileSync(path.join(__dirname, "..", "parts", name), "utf8"));
+const parts = ["reading.js", "possible.js"].map((name) => fs.readFileSync(path.join(__dirname, "..", "parts", name), "utf8"));
 vm.runInContext(`${parts.join("\n")}\nglobalThis.parts = { ${NAMES.join(", ")} };`, scope);
-const { machineOf, reportOf, endingsOf, linesOf, toldOf, listOf, placesOf, toldByScripts, nextOf, possibleOf } = scope.parts;
+const { machineOf, reportOf, endingsOf, linesOf, toldOf, listOf, placesOf, toldOfChart, nextOf, possibleOf } = scope.parts;
 
 const folder = path.join(top, "crates", "l4_cases", "data");
 const textsOf = (at) => fs.readdirSync(at).filter((name) => name.endsWith(".l4")).sort().map((name) => path.join(at, name));
@@ -59,7 +59,7 @@ async function main() {
         // An example that goes on for ever has no ending: its items are those of the run.
         const [ending] = examples.includes(file) ? endingsOf((await perform(endings)).out).endings : [];
         const list = ending ? ending.list : listOf(run.recorded);
-        await triesLines({ list: listOf(run.recorded), name, text, ask, counts });
+        await triesLines({ list: listOf(run.recorded), name, ask, askTrace, counts });
         for (let place = 0; place <= Math.min(list.length, MOST_ITEMS); place += Number(each)) {
             const tried = { list, place, before: list.slice(0, place), name, text, ask, askTrace, counts };
             await triesPlaces(tried);
@@ -69,7 +69,7 @@ async function main() {
     }
     console.log(`${counts.items} items of endings: ${counts.missed} not offered with their steps`);
     console.log(`${counts.steps} steps of endings: ${counts.impossible} not among those that are offered`);
-    console.log(`${counts.told} steps of traces: ${counts.other} with another line than the program tells`);
+    console.log(`${counts.told} steps of traces: ${counts.other} with another line or receiver in their chart`);
     console.log(`${counts.places} threads at lines: ${counts.wrong} do not fit their state`);
     const { items, missed, steps, impossible, told, other, wrong } = counts;
     process.exitCode = missed || impossible || other || wrong || !items || !steps || !told ? 1 : 0;
@@ -105,16 +105,19 @@ async function triesNext({ list, place, before, name, ask, counts }) {
     console.log(`${name}: not offered: ${item} behind ${before.join(",") || "nothing"}; offered: ${offered.map((it) => it.item).join(" ")}`);
 }
 
-// The objects of a replay tell its trace; and of that trace alone the page finds the same lines.
-async function triesLines({ list, name, text, ask, counts }) {
+// The objects of a replay tell its trace; and the chart of that trace tells the same lines and receivers.
+async function triesLines({ list, name, ask, askTrace, counts }) {
     const steps = linesOf((await ask(replay, list)).out);
     const told = toldOf((await ask([...replay, "--json"], list)).out);
-    const found = toldByScripts(machineOf(text), steps);
+    const found = toldOfChart(steps, (await askTrace(["chart", "m.l4", "m.trace", "--svg"], steps)).out);
     counts.told += steps.length;
     for (let at = 0; at < Math.max(steps.length, told.length); at += 1) {
-        if (told[at]?.step === steps[at] && told[at].line === found[at].line) continue;
+        const { step, line, to } = told[at] ?? {};
+        const drawn = found[at] ?? {};
+        // The chart tells of a send that fails where it went to, too.
+        if (step === steps[at] && line === drawn.line && (to ?? drawn.to) === drawn.to) continue;
         counts.other += 1;
-        console.log(`${name}: step ${at + 1}: ${steps[at]}: the program tells ${told[at]?.step} at line ${told[at]?.line}, and the page finds ${found[at]?.line}`);
+        console.log(`${name}: step ${at + 1}: ${steps[at]}: a replay tells ${step}, ${line}, ${to}, and the chart ${drawn.line}, ${drawn.to}`);
     }
 }
 

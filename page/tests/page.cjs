@@ -159,7 +159,7 @@ async function findsDeadlock(browser, hand) {
     await hand.run("document.activeElement.blur();");
     check("the text shows who waits where", (await hand.count(".paint b.stuck")) === 3);
     check("three threads are stuck", (await hand.count(".card.stuck")) === 3);
-    const below = await hand.run("return [...document.querySelectorAll('#chart .state')].map((it) => it.textContent).join('; ')");
+    const below = await hand.run("return [...document.querySelectorAll('#chart .lines .state')].map((it) => it.textContent).join('; ')");
     check("so says the chart below its steps", below === "1.1 receiving from 9.1; 9.1 receiving from 8.1; 8.1 sending to 1.1; deadlock 1.1 9.1 8.1", below);
     await hand.picture("callback-1200");
 }

@@ -28,6 +28,7 @@ WORKER = ["../module/call.js", "reading.js", "possible.js", "worker.js"]
 SCRIPT = [
     "reading.js",
     "words.js",
+    "meaning.js",
     "circle.js",
     "address.js",
     "program.js",

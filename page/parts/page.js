@@ -119,11 +119,13 @@ async function lint() {
     document.body.dataset.linted = `${mine}`;
 }
 
-// Tells what stands at the line of the caret.
+// Tells what stands at the line of the caret: its marks, or what it says where the text has no fault.
 function tellLine(line) {
     const marks = editor.marks.filter((mark) => mark.line === line);
-    const all = editor.marks.length ? `; ${counted(editor.marks.length, "mark")} in all` : "; no fault, no doubt";
-    const text = `line ${line}${marks.length ? `: ${marks.map(({ hint }) => hint).join("; ")}` : all}`;
+    const all = editor.marks.length ? counted(editor.marks.length, "mark") : "no fault, no doubt";
+    const meaning = editor.marks.every(({ isDoubt }) => isDoubt) ? lineMeaning(editor.text, line) : "";
+    const said = [...(meaning ? [meaning] : []), ...marks.map(({ hint }) => hint)].join("; ");
+    const text = said ? `line ${line}: ${said}` : `line ${line}; ${all}. Click a line to read what it says.`;
     $("atline").className = `atline ${marks.length ? Editor.tone(marks[0]) : ""}`;
     if ($("atline").textContent !== text) $("atline").textContent = text;
 }

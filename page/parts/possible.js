@@ -39,9 +39,3 @@ function ticksBehind({ cpus, threads }, list) {
         return { cpu, item: step, kind: "tick", steps: [step] };
     });
 }
-
-// How long a finite time is, in microseconds: ten bits times two to the power of the next five. Of other words it is 0.
-function periodOf(time) {
-    const word = Number(time) || 0;
-    return word === 1024 ? 0 : (word & 1023) * 2 ** ((word >> 10) & 31);
-}

@@ -63,6 +63,12 @@ function machineOf(text) {
     return machine;
 }
 
+// How long a finite time is, in microseconds: ten bits times two to the power of the next five. Of other words it is 0.
+function periodOf(time) {
+    const word = Number(time) || 0;
+    return word === 1024 ? 0 : (word & 1023) * 2 ** ((word >> 10) & 31);
+}
+
 // Threads, who waits for whom, circles and deadlocks, and how it ended.
 function reportOf(out) {
     const report = { threads: [], byId: new Map(), circles: [], deadlocks: [], ending: "" };

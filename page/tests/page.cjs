@@ -156,6 +156,7 @@ async function findsDeadlock(browser, hand) {
     check("a picture shows the circle", (await hand.count("#verdict .circle rect")) === 3 && (await hand.count("#verdict .circle .point")) === 3);
     await hand.click("#verdict li:nth-of-type(3) button");
     check("a line is gone to", (await hand.run("return editor.line()")) === 22, await hand.run("return editor.line()"));
+    check("and what it says is told", (await hand.text("atline")) === "line 22: sends to 1.1, then waits for a message from 1.1", await hand.text("atline"));
     await hand.run("document.activeElement.blur();");
     check("the text shows who waits where", (await hand.count(".paint b.stuck")) === 3);
     check("three threads are stuck", (await hand.count(".card.stuck")) === 3);

@@ -70,12 +70,19 @@ async function search(isStuckOnly) {
     const { made, text } = answer;
     const found = endingsOf(made.out);
     const isPart = asked.includes("--with") || asked.includes("--never");
+    if (isPart) $("bylines").open = true;
     sayIn("found", searchText({ ...found, isStuckOnly, isPart, took: made.took }));
     const count = found.endings.length + found.forever.length;
     if (!count && / cut$/.test(found.last) && !$("placed").checked && !$("oneisenough").checked) offerWalks(isStuckOnly);
     $("count").textContent = count;
     showEndings(found, (ending) => openEnding(ending, asked, text));
     tellCommand(made, [], found.last.split(",")[0]);
+}
+
+// What the buttons at the top ask: not for one ending alone.
+function searchAll(isStuckOnly) {
+    $("oneisenough").checked = false;
+    return search(isStuckOnly);
 }
 
 // A search that was cut and found nothing may have looked at too little: a walk at random goes far at once.
@@ -90,8 +97,12 @@ function offerWalks(isStuckOnly) {
 
 // Whether lines of a report can hold at one moment, in whatever order and time.
 async function askForMoment() {
-    searchAgain = askForMoment;
     const condition = $("together").value.trim();
+    if (!condition) {
+        sayIn("found", { tone: "fair", head: "Write lines first: the choice below the field does so.", lines: [] });
+        return;
+    }
+    searchAgain = askForMoment;
     const asked = ["endings", "m.l4", ...limitWords(), "--always", `never ${condition}`];
     const answer = await searchedBy(asked);
     if (!answer) return;

@@ -314,8 +314,8 @@ const VERBS = {
         tab("steps");
         await run();
     },
-    stuck: () => search(true),
-    endings: () => search(false),
+    stuck: () => searchAll(true),
+    endings: () => searchAll(false),
     report,
 };
 const verb = (name) =>

@@ -147,8 +147,9 @@ function showFault(made) {
 // and marks below it, as the program shows that on a terminal.
 function sayFault(id, made, text) {
     const mark = faultMarkOf(made);
-    const because = made.out.match(/^because .*/m) ?? [];
-    sayIn(id, { tone: "bad", head: mark ? `Line ${mark.line}: ${markText(mark)}` : faultOf(made) || "a fault", lines: [...because] });
+    const because = [...(made.out.match(/^because .*/m) ?? [])];
+    if (/condition line/.test(made.faults)) because.push("A line is one of a report that says `thread` or `waiting`, as the choice above writes it.");
+    sayIn(id, { tone: "bad", head: mark ? `Line ${mark.line}: ${markText(mark)}` : faultOf(made) || "a fault", lines: because.map(withCode) });
     $(id).firstChild.replaceChildren(...withCode($(id).firstChild.textContent));
     if (!mark) return;
     const go = Object.assign(button(`go to line ${mark.line}`, () => editor.goTo(mark.line, mark.column)), { className: "inline" });

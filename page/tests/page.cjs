@@ -311,6 +311,12 @@ async function asksForMoments(browser, hand) {
     check("such a moment is told", /hold at one moment, after 2 steps/.test(await hand.text("found")), await hand.text("found"));
     check("as a card", (await hand.count(".ending.bad")) === 1 && /1\.1\s+sending\s+sends to 11\.1/.test(await hand.text("endinglist")), await hand.text("endinglist"));
     await hand.picture("moment-1200");
+    for (const isDark of [true, false]) {
+        await browser.dark(isDark);
+        await sleep(100);
+        const found = await pale(hand);
+        check(`each word of it stands out, ${isDark ? "dark" : "light"}`, found.length === 0, found);
+    }
     await hand.click(".ending.bad");
     check("which opens there", (await hand.text("where")).startsWith("step 2 of 2"), await hand.text("where"));
     check("and says what holds", /all of these hold: waiting 1\.1#\* \* & waiting 2\.1#\* \*/.test(await hand.text("verdict")), await hand.text("verdict"));
@@ -620,7 +626,7 @@ async function pale({ run }) {
 async function standsOut(browser, hand) {
     for (const isDark of [false, true]) {
         await browser.dark(isDark);
-        for (const hash of ["#example=first.l4", "#example=callback.l4&do=run", "#example=locks.l4&do=endings", "#example=timeout.l4&do=report", "#text=l4%201%2065%0A"]) {
+        for (const hash of ["#example=first.l4", "#example=callback.l4&do=run", "#example=callback.l4&do=stuck", "#example=locks.l4&do=endings", "#example=timeout.l4&do=report", "#text=l4%201%2065%0A"]) {
             await hand.go(hash);
             const found = await pale(hand);
             check(`${hash}, ${isDark ? "dark" : "light"}: each word stands out`, found.length === 0, found);

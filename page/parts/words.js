@@ -62,14 +62,15 @@ function sizeOf(last, took) {
 }
 
 // What a search for endings came to: of all, of the stuck ones, or of those with or without a line.
-function searchText({ endings, forever, isForeverCut, last, isEndless, isByWalk, isStuckOnly, isPart, took }) {
+function searchText(found) {
+    const { endings, forever, isForeverCut, last, isEndless, isByWalk, took } = found;
     const walked = [`Found by a walk at random, in ${timeText(took)}: there may be shorter ways there, and others were not looked for.`];
     const { isWhole, lines } = isByWalk ? { isWhole: false, lines: walked } : sizeOf(last, took);
     const bad = endings.filter(({ report }) => report.threads.some((thread) => thread.isStuck)).length;
     const quiet = isEndless ? "" : "good";
     const tone = bad || forever.length ? "bad" : isWhole && !isForeverCut ? quiet : "fair";
     const choose = endings.length + forever.length ? ["Each card opens step by step."] : [];
-    const head = isEndless ? endlessText(forever) : endingsText(endings.length, bad, isStuckOnly, isPart, forever);
+    const head = isEndless ? endlessText(forever) : endingsText(found, bad, isWhole);
     const others = isForeverCut ? ["The search for threads that are stuck for ever was cut off: there may be more of them."] : [];
     const isTwice = new Set(endings.map(({ lines: told }) => told.join("\n"))).size < endings.length;
     const same = isTwice ? ["Some have the same report: they differ in what a report does not show."] : [];
@@ -96,11 +97,13 @@ function limitsText(known) {
     };
     return known.map((word) => texts[word] ?? word);
 }
-function endingsText(all, bad, isStuckOnly, isPart, forever) {
+function endingsText({ endings, forever, isStuckOnly, isPart }, bad, isWhole) {
+    const all = endings.length;
+    const waits = isStuckOnly ? " in which somebody waits for ever" : "";
     const such = isPart ? "such " : "";
-    if (isStuckOnly && !all && forever.length) return `No ${such}ending in which somebody waits for ever, but ${stuckText(forever)} while others go on.`;
+    const none = `No ${such}ending${waits}${isWhole ? "" : " was found"}`;
+    if (!isStuckOnly) return all ? `${counted(all, `${such}ending`)}${bad ? `, ${bad} of them with somebody who waits for ever` : ""}.` : `${none}.`;
+    if (!all && forever.length) return `${none}, but ${stuckText(forever)} while others go on.`;
     const threads = forever.length ? `, and ${counted(forever.length, "thread")} that can never go on` : "";
-    if (isStuckOnly) return `${all ? counted(all, `${such}ending`) : `No ${such}ending`} in which somebody waits for ever${threads}.`;
-    const some = bad ? `, ${bad} of them with somebody who waits for ever` : "";
-    return all ? `${counted(all, `${such}ending`)}${some}.` : `No ${such}ending.`;
+    return `${all ? counted(all, `${such}ending`) + waits : none}${threads}.`;
 }

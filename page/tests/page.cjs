@@ -277,7 +277,7 @@ async function findsOneByWalk(browser, hand) {
     await hand.go(linkOf({ n: "five.l4", t: locksInRing(5) }));
     await hand.fill("states", "20000");
     await hand.verb("stuck");
-    check("a search that was cut says so", /Cut off: 20,000 worlds/.test(await hand.text("found")), await hand.text("found"));
+    check("a search that was cut says so", /was found.*Cut off: 20,000 worlds/s.test(await hand.text("found")), await hand.text("found"));
     check("and finds none", (await hand.count(".ending")) === 0, await hand.count(".ending"));
     await hand.picture("cut-1200");
     await hand.click("#found button");

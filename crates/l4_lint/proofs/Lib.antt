@@ -1,6 +1,7 @@
 pub mod Changes
 pub mod Doubting
 pub mod First
+pub mod Foreign
 pub mod Named
 pub mod Never
 pub mod Silent

@@ -72,7 +72,7 @@ ask_declared m caller (GlobalThread t) what order h = by (is_admitted m caller t
     by true is h = ap (λ (o : PendingOrder). is_declared m o.target) (sym (some_is _ order h)) ∙ admitted_declared m caller t what is
     by false is h = cc
 
-ipc_orders_nothing : (m : Machine) (id : GlobalId) (now : ℕ) (c : Context) (to : Id) (period : Period) (receive : Option Receive) →
+pub ipc_orders_nothing : (m : Machine) (id : GlobalId) (now : ℕ) (c : Context) (to : Id) (period : Period) (receive : Option Receive) →
     order_of (ipc_act m id now c to period receive) ≡ None
 ipc_orders_nothing m id now c NilThread period None = refl
 ipc_orders_nothing m id now c NilThread period (Some receive) = refl

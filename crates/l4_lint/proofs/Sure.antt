@@ -19,11 +19,12 @@ use Rattle.l4_script.specs.Numbers.{time_from}
 use Rattle.l4_script.specs.Texts.{machine_of_text}
 use Rattle.l4_script.specs.declared.text.fault.TextFault.{TextFault}
 use Rattle.l4_script.proofs.AcceptedTexts.{each_has_text}
-use Rattle.l4_lint.specs.declared.doubts.Doubt.TheVariants.{NoThread, NoLimit, NotSent, NotPropagated}
-use Rattle.l4_lint.specs.Always.{names_thread, delivers_register, delivers_propagated, thread_on, IsAlwaysSo, AreAlwaysSo}
+use Rattle.l4_lint.specs.declared.doubts.Doubt.TheVariants.{NoThread, NoLimit, NotSent, NotPropagated, OtherSpace, ToItself, FromItself, NoDestination, LongTime}
+use Rattle.l4_lint.specs.Always.{cancels, names_thread, delivers_register, delivers_propagated, thread_on, IsAlwaysSo, AreAlwaysSo}
 use Rattle.l4_lint.specs.Bytes.{behind, word_of}
-use Rattle.l4_lint.specs.Doubts.{Doubtful, doubted, doubtful_at, doubts_from, doubts_of, doubts_on, begun_behind, id_doubts, answer_doubts, ipc_doubts, write_doubts, tag_doubts, script_doubts, line_doubts, lines_of, thread_after, is_no_thread, is_endless, is_one_of_ids, is_write, uses, number_in, asks_to_propagate, names_originator}
+use Rattle.l4_lint.specs.Doubts.{Doubtful, doubted, doubtful_at, doubts_from, doubts_of, doubts_on, begun_behind, id_doubts, answer_doubts, ipc_doubts, write_doubts, tag_doubts, script_doubts, line_doubts, lines_of, thread_after, from_doubts, is_any, is_foreign, is_long, is_own, order_doubts, time_doubts, to_doubts, is_no_thread, is_endless, is_one_of_ids, is_write, uses, number_in, asks_to_propagate, names_originator}
 use Rattle.l4_lint.specs.Reading.{begins_script}
+use Rattle.l4_lint.proofs.Foreign.{never_cancels}
 use Rattle.l4_lint.proofs.Named.{never_named}
 use Rattle.l4_lint.proofs.Never.{IsPlaced, never_delivers_register, never_delivers_propagated}
 
@@ -118,21 +119,66 @@ script_so f m lines h number line (Some d) read history on =
     all_cond P (is_write (word_of line)) _ _ (write_so f m lines h number line (behind line) d read history on)
     (all_cond P (bytes_eq (word_of line) (codes "tag")) _ _ (tag_so f m lines h number line (behind line) d read history on) tt)
 
-ipc_so : (m : Machine) (lines : List (List ℕ)) (h : List Step) (number : ℕ) (line to : List ℕ) → IsHistory m h →
-    AllByRecursion (IsAlwaysSo m lines h) (ipc_doubts m number line to)
-ipc_so m lines h number line to history =
+to_so : (m : Machine) (lines : List (List ℕ)) (h : List Step) (d : Option Declaration) (number : ℕ) (line to : List ℕ) → IsHistory m h →
+    AllByRecursion (IsAlwaysSo m lines h) (to_doubts m d number line to)
+to_so m lines h d number line to history =
     let P = IsAlwaysSo m lines h in
-    all_append P (id_doubts m number line to ++ id_doubts m number line (behind to)) (answer_doubts number line to (behind (behind to)))
-    (all_append P (id_doubts m number line to) (id_doubts m number line (behind to)) (id_so m lines h number line to history) (id_so m lines h number line (behind to) history))
-    (answer_so m lines h number line to (behind (behind to)))
+    let own = is_own d (thread_of (word_of to)) in
+    all_append P (id_doubts m number line to ++ doubted own (doubtful_at number line to ToItself)) _
+    (all_append P (id_doubts m number line to) _ (id_so m lines h number line to history) (doubted_so P own (doubtful_at number line to ToItself) (λ own is_always. cc)))
+    (doubted_so P (is_any (word_of to)) (doubtful_at number line to NoDestination) (λ any is_always. cc))
+
+from_so : (m : Machine) (lines : List (List ℕ)) (h : List Step) (d : Option Declaration) (number : ℕ) (line from : List ℕ) → IsHistory m h →
+    AllByRecursion (IsAlwaysSo m lines h) (from_doubts m d number line from)
+from_so m lines h d number line from history =
+    let P = IsAlwaysSo m lines h in
+    all_append P (id_doubts m number line from) _ (id_so m lines h number line from history)
+    (doubted_so P (is_own d (thread_of (word_of from)) && is_endless (time_from (word_of (behind (behind from))))) (doubtful_at number line from FromItself)
+    (λ own is_always. cc))
+
+time_so : (m : Machine) (lines : List (List ℕ)) (h : List Step) (number : ℕ) (line time : List ℕ) →
+    AllByRecursion (IsAlwaysSo m lines h) (time_doubts number line time)
+time_so m lines h number line time =
+    doubted_so (IsAlwaysSo m lines h) (is_long (word_of time)) (doubtful_at number line time LongTime) (λ long is_always. cc)
+
+ipc_so : (m : Machine) (lines : List (List ℕ)) (h : List Step) (d : Option Declaration) (number : ℕ) (line to : List ℕ) → IsHistory m h →
+    AllByRecursion (IsAlwaysSo m lines h) (ipc_doubts m d number line to)
+ipc_so m lines h d number line to history =
+    let P = IsAlwaysSo m lines h in
+    let times = behind (behind to) in
+    let ids = to_doubts m d number line to ++ from_doubts m d number line (behind to) in
+    let answer = answer_doubts number line to times in
+    all_append P (ids ++ answer ++ time_doubts number line times) _
+    (all_append P (ids ++ answer) _
+    (all_append P ids _
+    (all_append P (to_doubts m d number line to) _ (to_so m lines h d number line to history) (from_so m lines h d number line (behind to) history))
+    (answer_so m lines h number line to times)) (time_so m lines h number line times)) (time_so m lines h number line (behind times))
+
+-- An order, or a `vs`
+
+order_so : (m : Machine) (lines : List (List ℕ)) (h : List Step) (number : ℕ) (line : List ℕ) (d : Option Declaration) → IsHistory m h →
+    thread_on m lines number ≡ d → AllByRecursion (IsAlwaysSo m lines h) (order_doubts m d number line)
+order_so m lines h number line d history on =
+    let P = IsAlwaysSo m lines h in
+    let word = word_of (behind line) in
+    all_append P (id_doubts m number line (behind line)) _ (id_so m lines h number line (behind line) history)
+    (doubted_so P (bytes_eq (word_of line) (codes "exregs") && is_foreign m d (thread_of word)) (doubtful_at number line (behind line) OtherSpace)
+    (λ doubted is_always.
+    subst (λ (o : Option Declaration). IsSomeAnd o (λ d. IsSomeAnd (thread_of word) (λ t. list_any (cancels d.id t) h ≡ false))) (sym on)
+    (by d (thread_of word) (and_parts _ _ doubted).1)))
+  where
+    by : (d : Option Declaration) (t : Option GlobalId) → is_foreign m d t ≡ true → IsSomeAnd d (λ d. IsSomeAnd t (λ t. list_any (cancels d.id t) h ≡ false))
+    by None t foreign = cc
+    by (Some d) None foreign = cc
+    by (Some d) (Some t) foreign = never_cancels m d t h history.0 foreign history.1
 
 line_so : (f : Format) (m : Machine) (lines : List (List ℕ)) (h : List Step) (number : ℕ) (line : List ℕ) (d : Option Declaration) → IsRead f m → IsHistory m h →
     thread_on m lines number ≡ d → AllByRecursion (IsAlwaysSo m lines h) (line_doubts m d number line)
 line_so f m lines h number line d read history on =
     let P = IsAlwaysSo m lines h in
-    all_cond P (bytes_eq (word_of line) (codes "ipc")) (ipc_doubts m number line (behind line)) _ (ipc_so m lines h number line (behind line) history)
-    (all_cond P (is_one_of_ids (word_of line)) (id_doubts m number line (behind line)) (script_doubts m d number line)
-    (id_so m lines h number line (behind line) history) (script_so f m lines h number line d read history on))
+    all_cond P (bytes_eq (word_of line) (codes "ipc")) (ipc_doubts m d number line (behind line)) _ (ipc_so m lines h d number line (behind line) history)
+    (all_cond P (is_one_of_ids (word_of line)) (order_doubts m d number line) (script_doubts m d number line)
+    (order_so m lines h number line d history on) (script_so f m lines h number line d read history on))
 
 -- A text
 

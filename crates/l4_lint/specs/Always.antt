@@ -1,16 +1,16 @@
 -- What a doubt that is marked `always` says. It holds in every history of the machine that the text
 -- declares.
-use Rattle.std.specs.Prelude.{ℕ, ◌≡◌, ◌-◌, Bool, false, not, ◌&&◌, ◌||◌, nat_lt, nat_le, Option, Ok, unwrap_or, IsSomeAnd, List, [], ◌∷◌, length, take}
+use Rattle.std.specs.Prelude.{ℕ, ◌≡◌, ◌-◌, Bool, true, false, not, ◌&&◌, ◌||◌, nat_lt, nat_le, Option, Ok, unwrap_or, IsSomeAnd, List, [], ◌∷◌, length, take}
 use Rattle.std.specs.List.{AllByRecursion, count_by, list_any}
 use Rattle.l4_model.specs.Words.{GlobalId, same_id}
-use Rattle.l4_model.specs.Machine.{Declaration, Machine}
+use Rattle.l4_model.specs.Machine.{Declaration, Delete, Machine, OrderKind}
 use Rattle.l4_model.specs.Steps.{Step, Deliver, Order, Tick, OfThread, OfSend}
 use Rattle.l4_model.specs.History.{IsHistory}
 use Rattle.l4_words.specs.Threads.{thread_of}
 use Rattle.l4_script.specs.Numbers.{number_of}
 use Rattle.l4_script.specs.Texts.{machine_of_text}
 use Rattle.l4_lint.specs.declared.doubts.Doubt.{Doubt}
-use Rattle.l4_lint.specs.declared.doubts.Doubt.TheVariants.{NoThread, NoLimit, NotSent, NotPropagated}
+use Rattle.l4_lint.specs.declared.doubts.Doubt.TheVariants.{NoThread, NotSent, NotPropagated, OtherSpace}
 use Rattle.l4_lint.specs.declared.doubts.Mark.TheVariants.{Always}
 use Rattle.l4_lint.specs.Doubts.{Doubtful, asks_to_propagate, lines_of, marked, thread_after}
 use Rattle.l4_lint.specs.Reading.{begins_script}
@@ -43,14 +43,28 @@ delivers_propagated sender _ = false
 abbrev pub NoStep : (Step → Bool) → List Step → Type 0
 NoStep test h = list_any test h ≡ false
 
+-- An order of this thread to cancel what that one does.
+
+abbrev pub is_deletion : OrderKind → Bool
+is_deletion Delete = true
+is_deletion _ = false
+
+abbrev pub cancels : (caller target : GlobalId) → Step → Bool
+cancels caller target (Order c t what) =
+    same_id caller c && (same_id target t && not (is_deletion what))
+cancels caller target _ = false
+
 -- Of an id: no step names the thread. Of a register that is written: no delivered message of the
--- script's thread has it. Of a tag: none is propagated. Of an answer nothing is certain.
+-- script's thread has it. Of a tag: none is propagated. Of a thread of another space: no order of the
+-- script's thread cancels what it does. Of the others nothing is certain.
 abbrev pub Says : Doubt → (word : List ℕ) → Option Declaration → List Step → Type 0
 Says NoThread word thread h = IsSomeAnd (thread_of word) (λ t. NoStep (names_thread t) h)
 Says NotSent word thread h =
     IsSomeAnd thread (λ d. NoStep (delivers_register (unwrap_or (number_of word) 0) d.id) h)
 Says NotPropagated word thread h = IsSomeAnd thread (λ d. NoStep (delivers_propagated d.id) h)
-Says NoLimit word thread h = ⊥
+Says OtherSpace word thread h =
+    IsSomeAnd thread (λ d. IsSomeAnd (thread_of word) (λ t. NoStep (cancels d.id t) h))
+Says _ word thread h = ⊥
 
 -- The thread in whose script a line of this number stands.
 abbrev pub thread_on : Machine → (lines : List (List ℕ)) → (number : ℕ) → Option Declaration

@@ -1,8 +1,8 @@
 -- What is doubtful in a text that declares a machine. Each doubtful word may be intended.
-use Rattle.std.specs.Prelude.{ℕ, ◌+◌, ◌-◌, ◌/◌, ◌%◌, ◌^◌, ◌==◌, Bool, true, false, not, ◌&&◌, ◌||◌, nat_le, if◌then◌else◌, Option, Some, None, is_none, is_some, unwrap_or, Result, Ok, Err, List, [], ◌∷◌, ◌++◌, codes, flat_map, length, slice_get}
-use Rattle.std.specs.List.{list_any}
+use Rattle.std.specs.Prelude.{ℕ, ◌+◌, ◌-◌, ◌/◌, ◌%◌, ◌^◌, ◌==◌, Bool, true, false, not, ◌&&◌, ◌||◌, nat_le, nat_lt, if◌then◌else◌, Option, Some, None, is_none, is_some, unwrap_or, Result, Ok, Err, List, [], ◌∷◌, ◌++◌, codes, flat_map, length, slice_get}
+use Rattle.std.specs.List.{list_all, list_any}
 use Rattle.std.specs.Str.{bytes_eq}
-use Rattle.l4_model.specs.Words.{GlobalId, Id, NilThread, Period}
+use Rattle.l4_model.specs.Words.{GlobalId, Id, NilThread, GlobalThread, Period, same_id}
 use Rattle.l4_model.specs.Machine.{Declaration, Instr, Copy, Tag, Vs, Ipc, Machine, place_of}
 use Rattle.l4_model.specs.Rules.{permitted}
 use Rattle.l4_words.specs.Lines.{parts_of}
@@ -12,7 +12,7 @@ use Rattle.l4_script.specs.Numbers.{number_of, time_from}
 use Rattle.l4_script.specs.Texts.{machine_of_text}
 use Rattle.l4_script.specs.declared.text.fault.TextFault.{TextFault}
 use Rattle.l4_lint.specs.declared.doubts.Doubt.{Doubt}
-use Rattle.l4_lint.specs.declared.doubts.Doubt.TheVariants.{NoThread, NoLimit, NotSent, NotPropagated}
+use Rattle.l4_lint.specs.declared.doubts.Doubt.TheVariants.{NoThread, NoLimit, NotSent, NotPropagated, OtherSpace, ToItself, FromItself, NoDestination, LongTime}
 use Rattle.l4_lint.specs.declared.doubts.Mark.{Mark}
 use Rattle.l4_lint.specs.declared.hints.Operand.{Operand}
 use Rattle.l4_lint.specs.declared.hints.Operand.TheVariants as operand
@@ -20,6 +20,7 @@ use Rattle.l4_lint.specs.Commands.{first_operand}
 use Rattle.l4_lint.specs.declared.doubts.Mark.TheVariants.{Always, Perhaps}
 use Rattle.l4_lint.specs.Bytes.{behind, word_of}
 use Rattle.l4_lint.specs.Faults.{faults_of}
+use Rattle.l4_lint.specs.Judging.{is_digit}
 use Rattle.l4_lint.specs.Reading.{begins_script}
 use Rattle.l4_lint.specs.Spelling.{faults_text, place_text}
 
@@ -46,6 +47,10 @@ abbrev pub doubted : Bool → Doubtful → List Doubtful
 doubted false d = []
 doubted true d = d ∷ []
 
+-- The number that a rest of a line begins with.
+abbrev pub number_in : (rest : List ℕ) → ℕ
+number_in rest = unwrap_or (number_of (word_of rest)) 0
+
 -- An id that no thread has, so a send to it or a receive from it is refused.
 
 abbrev pub is_no_thread : Machine → Option GlobalId → Bool
@@ -68,10 +73,55 @@ answer_doubts number line to time =
     doubted (bytes_eq (word_of to) (codes "last") && is_endless (time_from (word_of time)))
     (doubtful_at number line time NoLimit)
 
-abbrev pub ipc_doubts : Machine → (number : ℕ) → (line to : List ℕ) → List Doubtful
-ipc_doubts m number line to =
-    id_doubts m number line to ++ id_doubts m number line (behind to)
+-- A thread that sends to itself does not receive meanwhile. One that receives from itself waits for
+-- nobody else: where that has no time limit, only a cancellation ends it.
+
+abbrev pub is_own : Option Declaration → Option GlobalId → Bool
+is_own None t = false
+is_own (Some d) None = false
+is_own (Some d) (Some t) = same_id d.id t
+
+-- Anythread and anylocalthread name no destination.
+
+abbrev pub is_any : (word : List ℕ) → Bool
+is_any word = bytes_eq word (codes "any") || bytes_eq word (codes "anylocal")
+
+abbrev pub to_doubts : Machine → Option Declaration → (number : ℕ) → (line to : List ℕ) →
+    List Doubtful
+to_doubts m d number line to =
+    id_doubts m number line to
+    ++ doubted (is_own d (thread_of (word_of to))) (doubtful_at number line to ToItself)
+    ++ doubted (is_any (word_of to)) (doubtful_at number line to NoDestination)
+
+abbrev pub from_doubts : Machine → Option Declaration → (number : ℕ) → (line from : List ℕ) →
+    List Doubtful
+from_doubts m d number line from =
+    id_doubts m number line from
+    ++ doubted
+    (is_own d (thread_of (word_of from))
+    && is_endless (time_from (word_of (behind (behind from)))))
+    (doubtful_at number line from FromItself)
+
+-- A time above 1023 in decimal is no number of microseconds.
+
+abbrev pub is_decimal : (word : List ℕ) → Bool
+is_decimal word = list_all is_digit word
+
+abbrev pub is_long : (word : List ℕ) → Bool
+is_long word = is_decimal word && nat_lt 1023 (number_in word)
+
+abbrev pub time_doubts : (number : ℕ) → (line time : List ℕ) → List Doubtful
+time_doubts number line time =
+    doubted (is_long (word_of time)) (doubtful_at number line time LongTime)
+
+abbrev pub ipc_doubts : Machine → Option Declaration → (number : ℕ) → (line to : List ℕ) →
+    List Doubtful
+ipc_doubts m d number line to =
+    to_doubts m d number line to
+    ++ from_doubts m d number line (behind to)
     ++ answer_doubts number line to (behind (behind to))
+    ++ time_doubts number line (behind (behind to))
+    ++ time_doubts number line (behind (behind (behind to)))
 
 -- A register that is written, but neither sent by a tag of the script nor copied. A script that
 -- receives may send as many registers as its last message had.
@@ -85,9 +135,6 @@ uses register (Tag word) = nat_le register (word % 64)
 uses register (Copy to from) = from == register
 uses register (Ipc to from send_period receive_period) = receives from
 uses register _ = false
-
-abbrev pub number_in : (rest : List ℕ) → ℕ
-number_in rest = unwrap_or (number_of (word_of rest)) 0
 
 abbrev pub write_doubts : Declaration → (number : ℕ) → (line rest : List ℕ) → List Doubtful
 write_doubts d number line rest =
@@ -116,6 +163,23 @@ abbrev pub is_one_of_ids : (word : List ℕ) → Bool
 is_one_of_ids word =
     bytes_eq word (codes "exregs") || bytes_eq word (codes "delete") || bytes_eq word (codes "vs")
 
+-- A thread of another address space. An order to cancel what it does is not given.
+
+abbrev pub is_foreign : Machine → Option Declaration → Option GlobalId → Bool
+is_foreign m None t = false
+is_foreign m (Some d) None = false
+is_foreign m (Some d) (Some t) =
+    is_some (place_of m t) && not (is_some (permitted m d.id (GlobalThread t)))
+
+abbrev pub order_doubts : Machine → Option Declaration → (number : ℕ) → (line : List ℕ) →
+    List Doubtful
+order_doubts m d number line =
+    id_doubts m number line (behind line)
+    ++ doubted
+    (bytes_eq (word_of line) (codes "exregs")
+    && is_foreign m d (thread_of (word_of (behind line))))
+    (doubtful_at number line (behind line) OtherSpace)
+
 -- A line that writes a register names it first.
 
 abbrev pub names_register : Option Operand → Bool
@@ -136,8 +200,8 @@ script_doubts m (Some d) number line =
 abbrev pub line_doubts : Machine → Option Declaration → (number : ℕ) → (line : List ℕ) →
     List Doubtful
 line_doubts m d number line =
-    if bytes_eq (word_of line) (codes "ipc") then ipc_doubts m number line (behind line)
-    else if is_one_of_ids (word_of line) then id_doubts m number line (behind line)
+    if bytes_eq (word_of line) (codes "ipc") then ipc_doubts m d number line (behind line)
+    else if is_one_of_ids (word_of line) then order_doubts m d number line
     else script_doubts m d number line
 
 -- The lines of a text: what stands behind the last line end of a text without a fault is empty.
@@ -176,7 +240,12 @@ abbrev pub marked : Doubt → Mark
 marked NoThread = Always
 marked NotSent = Always
 marked NotPropagated = Always
+marked OtherSpace = Always
 marked NoLimit = Perhaps
+marked ToItself = Perhaps
+marked FromItself = Perhaps
+marked NoDestination = Perhaps
+marked LongTime = Perhaps
 
 abbrev pub mark_word : Mark → List ℕ
 mark_word Always = codes "always"
@@ -190,6 +259,13 @@ doubt_text NoLimit = codes "an answer has no time limit; a server that must not 
 doubt_text NotSent = codes "this register is never delivered, and nothing copies it"
 doubt_text NotPropagated =
     codes "vs names no thread of this address space, so no message is propagated"
+doubt_text OtherSpace =
+    codes "this thread is of another address space, so exregs cancels nothing of it"
+doubt_text ToItself = codes "a send to the thread itself; it can't receive it meanwhile"
+doubt_text FromItself = codes "a receive from the thread itself that only a cancellation ends"
+doubt_text NoDestination = codes "no destination; the send fails with ErrorCode 4"
+doubt_text LongTime =
+    codes "above 1023 this is no number of microseconds: E * 1024 + N is N * 2^E of them"
 
 abbrev pub doubt_line : (file : Option (List ℕ)) → Doubtful → List ℕ
 doubt_line file d =

@@ -1,8 +1,8 @@
 -- Whether a word is right in its place.
 use Rattle.std.specs.Prelude.{ℕ, ◌/◌, ◌%◌, ◌^◌, ◌-◌, Bool, true, false, not, ◌&&◌, ◌||◌, ◌==◌}
-use Rattle.std.specs.Prelude.{nat_eq, if◌then◌else◌, Option, Some, None, is_some, Result, Ok, Err}
-use Rattle.std.specs.Prelude.{is_ok, List, length, codes}
-use Rattle.std.specs.List.{starts_with, before_first, after_first}
+use Rattle.std.specs.Prelude.{nat_le, nat_lt, if◌then◌else◌, Option, Some, None, is_some, Result}
+use Rattle.std.specs.Prelude.{Ok, Err, is_ok, List, length, codes, drop}
+use Rattle.std.specs.List.{before_first, after_first, list_all, list_any, position}
 use Rattle.std.specs.Str.{bytes_eq}
 use Rattle.l4_model.specs.Words.{last_register}
 use Rattle.l4_model.specs.Machine.{most_processors}
@@ -73,8 +73,83 @@ id_hint wanted word =
     else (if has_no_thread word then hints.Version
     else hints.Wanted wanted)
 
+-- Digits of a hexadecimal number, in either case, and those that are letters.
+
+abbrev pub is_digit : (byte : ℕ) → Bool
+is_digit byte = nat_le 48 byte && nat_le byte 57
+
+abbrev pub is_capital_digit : (byte : ℕ) → Bool
+is_capital_digit byte = nat_le 65 byte && nat_le byte 70
+
+abbrev pub is_letter_digit : (byte : ℕ) → Bool
+is_letter_digit byte = is_capital_digit byte || nat_le 97 byte && nat_le byte 102
+
+abbrev pub are_digits : (word : List ℕ) → Bool
+are_digits word = list_all (λ byte. is_digit byte || is_letter_digit byte) word
+
+abbrev pub has_letter : (word : List ℕ) → Bool
+has_letter word = list_any is_letter_digit word
+
+abbrev pub has_capital : (word : List ℕ) → Bool
+has_capital word = list_any is_capital_digit word
+
+-- A word that may be meant as a hexadecimal number: digits with a letter among them and no prefix,
+-- or with `0x` before a capital letter, or with `0X`.
+
+abbrev pub is_x : (byte : ℕ) → Bool
+is_x byte = byte == 120
+
+abbrev pub is_capital_x : (byte : ℕ) → Bool
+is_capital_x byte = byte == 88
+
+abbrev pub lacks_prefix : (word : List ℕ) → Bool
+lacks_prefix word = are_digits word && has_letter word
+
+abbrev pub has_capitals : (front behind : List ℕ) → Bool
+has_capitals front behind =
+    bytes_eq front (codes "0") && (are_digits behind && has_capital behind)
+
+abbrev pub has_capital_prefix : (front behind : List ℕ) → Bool
+has_capital_prefix front behind =
+    bytes_eq front (codes "0") && (are_digits behind && not (length behind == 0))
+
+abbrev pub is_like_hexadecimal : (word : List ℕ) → Bool
+is_like_hexadecimal word =
+    lacks_prefix word
+    || (has_capitals (before_first is_x word) (after_first is_x word)
+    || has_capital_prefix (before_first is_capital_x word) (after_first is_capital_x word))
+
+-- A time with a unit: decimal digits, and `us`, `ms` or `s` behind them.
+
+abbrev pub is_unit : (word : List ℕ) → Bool
+is_unit word =
+    bytes_eq word (codes "us") || (bytes_eq word (codes "ms") || bytes_eq word (codes "s"))
+
+-- Where the decimal digits end.
+abbrev pub number_end : (word : List ℕ) → Option ℕ
+number_end word = position (λ byte. not (is_digit byte)) word
+
+abbrev pub unit_at : (word : List ℕ) → (end : Option ℕ) → Bool
+unit_at word None = false
+unit_at word (Some end) = nat_lt 0 end && is_unit (drop end word)
+
+abbrev pub has_unit : (word : List ℕ) → Bool
+has_unit word = unit_at word (number_end word)
+
+abbrev pub is_time : Operand → Bool
+is_time operand.Time = true
+is_time other = false
+
+-- The hint for a word that is no number, or is out of range.
+abbrev pub number_hint : Operand → (word : List ℕ) → Hint
+number_hint wanted word =
+    if is_like_hexadecimal word then hints.Hexadecimal
+    else (if is_time wanted && has_unit word then hints.TimeUnit
+    else hints.Wanted wanted)
+
 -- The hint for a word in the place of this operand, by the kind of its fault.
 abbrev pub operand_hint : TextFaultKind → Operand → (word : List ℕ) → Hint
 operand_hint kinds.TypedItems wanted word = hints.TypedItems
 operand_hint kinds.BadId wanted word = id_hint wanted word
+operand_hint kinds.BadNumber wanted word = number_hint wanted word
 operand_hint other wanted word = hints.Wanted wanted

@@ -65,6 +65,9 @@ hint_text hints.OtherComment = codes "a comment begins with ;"
 hint_text hints.CommentBehind = codes "a comment stands on a line of its own"
 hint_text hints.Surplus = codes "a word too many"
 hint_text (hints.Wanted what) = operand_text what
+hint_text hints.Hexadecimal = codes "a hexadecimal number is 0x and lower-case digits"
+hint_text hints.TimeUnit =
+    codes "a time has no unit: N below 1024 is N microseconds, E * 1024 + N is N * 2^E of them"
 hint_text hints.Last = codes "last stands only where an ipc sends to"
 hint_text hints.Version = codes "no thread has this version; its low six bits are not all zero"
 hint_text hints.TypedItems = codes "t, bits 6 to 11 of a tag, is not zero"

@@ -12,7 +12,9 @@ ghost use Rattle.l4_lint.specs.Doubts.{doubted, doubts_text, lines_of};
 ghost use Rattle.l4_lint.specs.Doubts.{doubtful_at, doubts_from, doubts_of, id_doubts, ipc_doubts};
 ghost use Rattle.l4_lint.specs.Doubts.{is_endless, is_no_thread, is_one_of_ids, is_write};
 ghost use Rattle.l4_lint.specs.Doubts.{line_doubts, mark_word, marked, names_originator, number_in};
-ghost use Rattle.l4_lint.specs.Doubts.{receives};
+ghost use Rattle.l4_lint.specs.Doubts.{from_doubts, is_decimal, is_foreign, is_long, is_own};
+ghost use Rattle.l4_lint.specs.Doubts.{order_doubts};
+ghost use Rattle.l4_lint.specs.Doubts.{receives, time_doubts, to_doubts};
 ghost use Rattle.l4_lint.specs.Doubts.{script_doubts, tag_doubts, thread_after, uses, write_doubts};
 ghost use Rattle.l4_lint.specs.Reading.{begins_script};
 ghost use Rattle.l4_lint.specs.Inner.Views.{doubtful_of};
@@ -20,6 +22,7 @@ ghost use Rattle.l4_lint.specs.Inner.Views.{doubtful_of};
 use crate::bytes::split_word;
 use crate::commands::first_operand;
 use crate::hints::Operand;
+use crate::judging::is_digit;
 use crate::spelling::push_place;
 use l4_script::instructions::Instr;
 use l4_script::machine::{Declaration, Machine};
@@ -30,6 +33,9 @@ use l4_types::times::Period;
 use l4_words::lines::split_line;
 use l4_words::threads::thread;
 use std::alloc::Global;
+
+// The greatest time that is a number of microseconds.
+const MOST_MICROSECONDS: u64 = 1023;
 
 /// How sure a doubt is.
 #[derive(Clone, Copy, Debug, PartialEq, Eq)]
@@ -55,6 +61,17 @@ pub enum Doubt {
     /// A tag asks for propagation in a script that receives nothing and names no thread of its
     /// address space by `vs`. No delivered message of the thread is propagated.
     NotPropagated,
+    /// A cancellation of a thread of another address space. No step of any history is an order of
+    /// this thread to cancel what that one does.
+    OtherSpace,
+    /// A thread sends to itself. It can't receive meanwhile.
+    ToItself,
+    /// A thread receives from itself without time limit. Nobody else is waited for.
+    FromItself,
+    /// A send to anythread or anylocalthread. These ids name no destination.
+    NoDestination,
+    /// A time above 1023 in decimal. It is no number of microseconds.
+    LongTime,
 }
 
 impl Doubt {
@@ -63,8 +80,14 @@ impl Doubt {
         ensures { result ≡ marked self }
     {
         match self {
-            Doubt::NoThread | Doubt::NotSent | Doubt::NotPropagated => Mark::Always,
-            Doubt::NoLimit => Mark::Perhaps,
+            Doubt::NoThread | Doubt::NotSent | Doubt::NotPropagated | Doubt::OtherSpace => {
+                Mark::Always
+            }
+            Doubt::NoLimit
+            | Doubt::ToItself
+            | Doubt::FromItself
+            | Doubt::NoDestination
+            | Doubt::LongTime => Mark::Perhaps,
         }
     }
 }
@@ -171,23 +194,151 @@ fn push_answer<'a>(
     )
 }
 
-// Appends the doubts of an ipc.
-fn push_ipc<'a>(
+// Whether an id is that of the thread itself.
+fn is_own(declared: Option<&Declaration>, thread: Option<GlobalId>) -> bool
+    ensures { result ≡ is_own (option_copied declared.entry) thread }
+{
+    match (declared, thread) {
+        (Some(declared), Some(thread)) => declared.id() == thread,
+        _ => false,
+    }
+}
+
+// Appends the doubts of whom an ipc sends to.
+fn push_to<'a>(
     machine: &Machine,
+    declared: Option<&Declaration>,
     number: usize,
     line: &'a [u8],
     to: &'a [u8],
     found: &mut Vec<Doubtful<'a>>,
 ) -> Result<(), NoMemory>
     requires { length to.now ≤ length line.now }
+    ensures { OnOk result (map doubtful_of found.new.items ≡ map doubtful_of found.old.items ++
+        to_doubts machine.now (option_copied declared.entry) number line.now to.now) }
+{
+    let word = split_word(to).0;
+    push_id(machine, number, line, to, found)?;
+    push(
+        found,
+        is_own(declared, thread(word)),
+        doubtful_at(number, line, to, Doubt::ToItself),
+    )?;
+    push(
+        found,
+        is(word, b"any") || is(word, b"anylocal"),
+        doubtful_at(number, line, to, Doubt::NoDestination),
+    )
+}
+
+// Appends the doubts of whom an ipc receives from.
+fn push_from<'a>(
+    machine: &Machine,
+    declared: Option<&Declaration>,
+    number: usize,
+    line: &'a [u8],
+    from: &'a [u8],
+    found: &mut Vec<Doubtful<'a>>,
+) -> Result<(), NoMemory>
+    requires { length from.now ≤ length line.now }
+    ensures { OnOk result (map doubtful_of found.new.items ≡ map doubtful_of found.old.items ++
+        from_doubts machine.now (option_copied declared.entry) number line.now from.now) }
+{
+    let (word, times) = split_word(from);
+    push_id(machine, number, line, from, found)?;
+    push(
+        found,
+        is_own(declared, thread(word)) && is_endless(split_word(split_word(times).1).0),
+        doubtful_at(number, line, from, Doubt::FromItself),
+    )
+}
+
+fn is_decimal(word: &[u8]) -> bool
+    ensures { result ≡ is_decimal word.now }
+{
+    word.iter().all(|byte| is_digit(*byte))
+}
+
+// Whether a word is a decimal number above the times that are numbers of microseconds.
+fn is_long(word: &[u8]) -> bool
+    ensures { result ≡ is_long word.now }
+{
+    is_decimal(word) && number_in(word) > MOST_MICROSECONDS
+}
+
+// Appends the doubt of a time.
+fn push_time<'a>(
+    number: usize,
+    line: &'a [u8],
+    time: &'a [u8],
+    found: &mut Vec<Doubtful<'a>>,
+) -> Result<(), NoMemory>
+    requires { length time.now ≤ length line.now }
     ensures { OnOk result (map doubtful_of found.new.items ≡
-        map doubtful_of found.old.items ++ ipc_doubts machine.now number line.now to.now) }
+        map doubtful_of found.old.items ++ time_doubts number line.now time.now) }
+{
+    push(
+        found,
+        is_long(split_word(time).0),
+        doubtful_at(number, line, time, Doubt::LongTime),
+    )
+}
+
+// Appends the doubts of an ipc.
+fn push_ipc<'a>(
+    machine: &Machine,
+    declared: Option<&Declaration>,
+    number: usize,
+    line: &'a [u8],
+    to: &'a [u8],
+    found: &mut Vec<Doubtful<'a>>,
+) -> Result<(), NoMemory>
+    requires { length to.now ≤ length line.now }
+    ensures { OnOk result (map doubtful_of found.new.items ≡ map doubtful_of found.old.items ++
+        ipc_doubts machine.now (option_copied declared.entry) number line.now to.now) }
 {
     let from = split_word(to).1;
     let time = split_word(from).1;
-    push_id(machine, number, line, to, found)?;
-    push_id(machine, number, line, from, found)?;
-    push_answer(number, line, to, time, found)
+    push_to(machine, declared, number, line, to, found)?;
+    push_from(machine, declared, number, line, from, found)?;
+    push_answer(number, line, to, time, found)?;
+    push_time(number, line, time, found)?;
+    push_time(number, line, split_word(time).1, found)
+}
+
+// Whether a thread is there, and is of another address space than this one.
+fn is_foreign(machine: &Machine, declared: Option<&Declaration>, thread: Option<GlobalId>) -> bool
+    ensures { result ≡ is_foreign machine.now (option_copied declared.entry) thread }
+{
+    match (declared, thread) {
+        (Some(declared), Some(thread)) => {
+            machine.place_of(thread).is_some()
+                && !machine.may_show(declared.id(), ThreadId::from(thread))
+        }
+        _ => false,
+    }
+}
+
+// Appends the doubts of the id of an order, or of a `vs`.
+fn push_order<'a>(
+    machine: &Machine,
+    declared: Option<&Declaration>,
+    number: usize,
+    line: &'a [u8],
+    found: &mut Vec<Doubtful<'a>>,
+) -> Result<(), NoMemory>
+    ensures { OnOk result (map doubtful_of found.new.items ≡ map doubtful_of found.old.items ++
+        order_doubts machine.now (option_copied declared.entry) number line.now) }
+{
+    let (word, rest) = split_word(line);
+    push_id(machine, number, line, rest, found)?;
+    let is_doubted = is(word, b"exregs")
+        && is_foreign(machine, declared, thread(split_word(rest).0));
+    push(
+        found,
+        is_doubted,
+        doubtful_at(number, line, rest, Doubt::OtherSpace),
+    )
 }
 
 fn receives(from: ThreadId) -> bool
@@ -344,10 +495,10 @@ fn push_line<'a>(
 {
     let (word, rest) = split_word(line);
     if is(word, b"ipc") {
-        return push_ipc(machine, number, line, rest, found);
+        return push_ipc(machine, declared, number, line, rest, found);
     }
     if is_one_of_ids(word) {
-        return push_id(machine, number, line, rest, found);
+        return push_order(machine, declared, number, line, found);
     }
     push_of_script(machine, declared, number, line, found)
 }
@@ -422,6 +573,15 @@ fn doubt_text(doubt: Doubt) -> &'static str
         Doubt::NotSent => "this register is never delivered, and nothing copies it",
         Doubt::NotPropagated => {
             "vs names no thread of this address space, so no message is propagated"
+        }
+        Doubt::OtherSpace => {
+            "this thread is of another address space, so exregs cancels nothing of it"
+        }
+        Doubt::ToItself => "a send to the thread itself; it can't receive it meanwhile",
+        Doubt::FromItself => "a receive from the thread itself that only a cancellation ends",
+        Doubt::NoDestination => "no destination; the send fails with ErrorCode 4",
+        Doubt::LongTime => {
+            "above 1023 this is no number of microseconds: E * 1024 + N is N * 2^E of them"
         }
     }
 }

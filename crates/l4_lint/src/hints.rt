@@ -79,6 +79,10 @@ pub enum Hint {
     Surplus,
     /// This may stand there.
     Wanted(Operand),
+    /// A hexadecimal number without `0x`, or in upper case.
+    Hexadecimal,
+    /// A time with a unit.
+    TimeUnit,
     /// `last`, elsewhere than where an ipc sends to.
     Last,
     /// A version that no thread has: its low six bits are zero.

@@ -82,6 +82,10 @@ fn hint_text(hint: Hint) -> &'static str
         Hint::CommentBehind => "a comment stands on a line of its own",
         Hint::Surplus => "a word too many",
         Hint::Wanted(operand) => operand_text(operand),
+        Hint::Hexadecimal => "a hexadecimal number is 0x and lower-case digits",
+        Hint::TimeUnit => {
+            "a time has no unit: N below 1024 is N microseconds, E * 1024 + N is N * 2^E of them"
+        }
         Hint::Last => "last stands only where an ipc sends to",
         Hint::Version => "no thread has this version; its low six bits are not all zero",
         Hint::TypedItems => "t, bits 6 to 11 of a tag, is not zero",

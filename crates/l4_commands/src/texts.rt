@@ -145,7 +145,7 @@ prints these steps, which `l4run audit` and `l4run chart` read. The last line sa
 were looked at, how
 many steps deep, and whether that is the `whole` or was `cut`: then there may be more endings, and \
 the status is 3.
-Of `--memory` 64 bytes are counted for each world or state, and 8 for each thread of the text.
+Of `--memory` 128 bytes are counted for each world or state, and 8 for each thread of the text.
 Where there is none at all, `no ending: it goes on for ever` stands before it. With `--none`, walks \
 at random are tried
 before a long search: what one finds is told alone, `found by a walk`.

@@ -28,7 +28,7 @@ question_fault q =
 
 -- So many bytes are counted for a state or a world of a machine.
 abbrev pub state_bytes : Machine → ℕ
-state_bytes m = 64 + 8 * length m.threads
+state_bytes m = 128 + 8 * length m.threads
 
 -- For so many of them the memory is enough.
 abbrev pub states_in : (memory : ℕ) → Machine → ℕ

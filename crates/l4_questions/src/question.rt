@@ -43,7 +43,7 @@ pub struct Question<'a> {
     /// The greatest number of worlds or states that are looked at, 1 to 100,000,000. Any other
     /// number is the fault `States`.
     pub states: u64,
-    /// The most memory for them in MiB, 1 to 1,048,576: so many bytes are counted for each, 64 and 8
+    /// The most memory for them in MiB, 1 to 1,048,576: so many bytes are counted for each, 128 and 8
     /// for each thread of the machine. Any other number is the fault `Memory`.
     pub memory: u64,
     /// Only endings in which a send waits, or a thread receives from one thread alone.
@@ -127,9 +127,9 @@ impl<'a> Question<'a> {
 fn state_bytes(machine: &Machine) -> u64
     ensures value { result ≡ state_bytes machine.now }
     ensures some { 0 < result }
-    ensures few { result ≤ 8256 }
+    ensures few { result ≤ 8320 }
 {
-    64 + 8 * machine.threads().len() as u64
+    128 + 8 * machine.threads().len() as u64
 }
 
 fn is_out_of_range(most: u64, number: u64) -> bool

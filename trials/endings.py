@@ -1,7 +1,7 @@
 """Prints what `l4run endings` says of a machine, as a second emulator finds it, and ends with the same status.
 
-    python3 -B trials/endings.py FILE [--placed] [--depth N] [--states N] [--stuck] [--with LINE] [--never LINE] [--none or --some] [--waits] [--expect NAME]
-    python3 -B trials/endings.py FILE --always 'never LINE & LINE' [--depth N] [--states N]
+    python3 -B trials/endings.py FILE [--placed] [--depth N] [--states N] [--memory N] [--stuck] [--with LINE] [--never LINE] [--none or --some] [--waits] [--expect NAME]
+    python3 -B trials/endings.py FILE --always 'never LINE & LINE' [--depth N] [--states N] [--memory N]
     python3 -B trials/endings.py FILE --trace N [..]
 
 Each ending, a world in which nothing but clocks can go on, is printed once with its report, the shortest first: whatever the scheduler does and whatever time passes, with the
@@ -20,8 +20,9 @@ import sys
 from second import expectations, invariants, machines, model, searches, sets, traces, waits, words, worlds
 from second.expectations import ANY_WORD, ANY_WORDS, fits, is_name, split_lines
 
-DEPTH, STATES = 1_000, 100_000
-LEAST, MOST = 1, 1_000_000
+DEPTH, STATES, MEMORY = 1_000, 1_000_000, 2_048
+DEEPEST, MOST_STATES, MOST_MEMORY = 1_000_000, 100_000_000, 1_048_576
+MIB, STATE_BYTES, THREAD_BYTES = 1_048_576, 128, 8
 WHOLE, FAULT, USAGE, CUT, FOUND, UNMET, MISSED = 0, 1, 2, 3, 4, 4, 4
 OPEN = (words.ANY, words.ANY_LOCAL)
 BEGINNINGS = ("thread", "waiting", "ending", ANY_WORD)
@@ -107,8 +108,13 @@ def stuck_text(stuck):
     return "".join(lines) + ("" if stuck.is_whole else "stuck for ever: cut\n")
 
 
+def most_looked(machine, asked):
+    """How many worlds or states a search looks at at most: no more than the memory is counted for."""
+    return min(asked.states, asked.memory * MIB // (STATE_BYTES + THREAD_BYTES * len(machine.threads)))
+
+
 def found_placed(machine, asked, chooser):
-    found = searches.search(machine, asked.depth, asked.states, chooser)
+    found = searches.search(machine, asked.depth, most_looked(machine, asked), chooser)
     endings = [Ending(machine, searches.walk(machine, state.choices).history, ",".join(map(str, state.choices))) for state in found.endings()]
     last = f"states {len(found.states)} depth {found.depth} {whole_of_placed(machine) if found.is_whole else 'cut'}\n"
     return Found(endings, last, found.is_whole, lambda: NO_STUCK)
@@ -121,7 +127,7 @@ def whole_of_placed(machine):
 
 
 def found_anywhere(machine, asked):
-    limits = asked.depth, asked.states, worlds.Reduction(machine)
+    limits = asked.depth, most_looked(machine, asked), worlds.Reduction(machine)
     found = worlds.search(machine, *limits)
     endings = [Ending(machine, ending.history(), f"steps {ending.steps}") for ending in found.endings()]
     last = "" if endings or not found.is_whole else "no ending: it goes on for ever\n"
@@ -143,7 +149,7 @@ def full_answer(text, asked, expected):
 
 
 def verdict_of(machine, asked):
-    verdict = invariants.verdict(machine, invariants.Condition(asked.always), asked.depth, asked.states)
+    verdict = invariants.verdict(machine, invariants.Condition(asked.always), asked.depth, most_looked(machine, asked))
     if asked.trace is not None:
         return trace_answer([] if verdict.history is None else [verdict.history], asked.trace)
     return verdict.lines, "", verdict.status
@@ -186,11 +192,14 @@ def status_of(asked, endings, stuck, is_whole):
     return WHOLE if is_whole and stuck.is_whole else CUT
 
 
-def number(word):
-    value = int(word)
-    if not LEAST <= value <= MOST:
-        raise argparse.ArgumentTypeError("out of range")
-    return value
+def number_to(most):
+    def number(word):
+        value = int(word)
+        if not 1 <= value <= most:
+            raise argparse.ArgumentTypeError("out of range")
+        return value
+
+    return number
 
 
 def line(word):
@@ -209,8 +218,9 @@ def condition(word):
 def question(arguments):
     reader = argparse.ArgumentParser()
     reader.add_argument("file", type=pathlib.Path)
-    reader.add_argument("--depth", type=number, default=DEPTH)
-    reader.add_argument("--states", type=number, default=STATES)
+    reader.add_argument("--depth", type=number_to(DEEPEST), default=DEPTH)
+    reader.add_argument("--states", type=number_to(MOST_STATES), default=STATES)
+    reader.add_argument("--memory", type=number_to(MOST_MEMORY), default=MEMORY)
     reader.add_argument("--stuck", action="store_true")
     reader.add_argument("--with", type=line, dest="with_line")
     reader.add_argument("--never", type=line)

@@ -16,7 +16,7 @@ TURNS = "300"
 # How far it is is told after so many of each.
 PROGRESS = 5_000
 KINDS = "BadLine|BadNumber|BadId|BadCpu|TypedItems|DoubleId|TooManyThreads|TooManyInstructions|BadTarget|TooLong"
-FAULTS = re.compile(rf"l4run: (line \d+: (?:{KINDS})|schedule item \d+|(?:turns|depth|states|ending) out of range|expectation line \d+: (?:BadLine|Unknown|BadWord|Deleted|Number)|trace line \d+|threads item \d+|refused at step \d+)\n")
+FAULTS = re.compile(rf"l4run: (line \d+: (?:{KINDS})|schedule item \d+|(?:turns|depth|states|memory|ending) out of range|expectation line \d+: (?:BadLine|Unknown|BadWord|Deleted|Number)|trace line \d+|threads item \d+|refused at step \d+)\n")
 # A line for each fault of a text, or for each doubt, and one for each thread that waits, each circle and each thread's counts.
 LINT = re.compile(rf"line (\d+) column \d+: ({KINDS})(?:: `[ -~]*`)?: [ -~]+".encode())
 DOUBT = re.compile(rb"line \d+ column \d+: (?:always|perhaps): `[ -~]*`: [ -~]+")
@@ -119,7 +119,9 @@ def list_file(dice):
 
 def question(dice):
     """The words behind `endings FILE`."""
-    words = [f"--depth={dice.choice([0, 1, 3, 6, 6, 6, 1000001])}", f"--states={dice.choice([0, 1, 50, 200, 200, 200, 1000001])}"]
+    words = [f"--depth={dice.choice([0, 1, 3, 6, 6, 6, 1000001])}", f"--states={dice.choice([0, 1, 50, 200, 200, 200, 100000001])}"]
+    if dice.random() < 0.2:
+        words.append(f"--memory={dice.choice([0, 1, 1, 2048, 1048576, 1048577])}")
     for name in ("--with", "--never"):
         if dice.random() < 0.3:
             line = dice.choice(["thread 1.1 *", "thread * ended ..", "waiting ..", "thread 1.1 deleted 0", "ending quiet", "thread 2.1 sending 0 nil nil 0", "..", ""])

@@ -42,7 +42,7 @@ let busySince = 0;
 let clock = 0;
 // How far a search has come, as the program says that on a terminal: once a second, and at its end nothing.
 function onTold(line) {
-    const [, number, depth] = line.match(/looked at (\d+) states, depth (\d+)/) ?? [];
+    const [, number, depth] = line.match(/looked at (\d+) states, \d+ wait, depth (\d+)/) ?? [];
     if (number) $("sofar").textContent = `${sizeText(number, "state")} so far, ${depth} deep`;
 }
 function onBusy(isBusy) {

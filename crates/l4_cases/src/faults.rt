@@ -35,6 +35,7 @@ fn faults(alloc: Global) -> Result<Vec<Fault<'static>>, AllocError> {
         Fault::Turns,
         Fault::Depth,
         Fault::States,
+        Fault::Memory,
         Fault::Ending,
         Fault::Schedule(1),
         Fault::Threads(2),

@@ -185,6 +185,7 @@ pub record IsSearchOf (rows : List Row) (search : EndingsJob) : Type 0 where
   pub scheduler : search.scheduler ≡ scheduler_by (has_flag (codes "placed") rows)
   pub depth : Some search.depth ≡ number_in (codes "depth") rows
   pub states : Some search.states ≡ number_in (codes "states") rows
+  pub memory : Some search.memory ≡ number_in (codes "memory") rows
   pub stuck : search.stuck ≡ has_flag (codes "stuck") rows
   pub with_line : option_copied search.with_line ≡ first_of (codes "with") rows
   pub never : option_copied search.never ≡ first_of (codes "never") rows

@@ -91,7 +91,8 @@ abbrev pub endings_rules : List Rule
 endings_rules =
     place (codes "file")
     ∷ number (codes "depth") (codes "1000" ∷ [])
-    ∷ number (codes "states") (codes "100000" ∷ [])
+    ∷ number (codes "states") (codes "1000000" ∷ [])
+    ∷ number (codes "memory") (codes "2048" ∷ [])
     ∷ value (codes "with")
     ∷ value (codes "never")
     ∷ flag (codes "stuck")

@@ -257,6 +257,7 @@ fn endings_job<'a>(matches: &ArgMatches<'a>) -> Option<EndingsJob<'a>>
         scheduler: scheduler_by(has_flag(matches, "placed")),
         depth: number(matches, "depth")?,
         states: number(matches, "states")?,
+        memory: number(matches, "memory")?,
         stuck: has_flag(matches, "stuck"),
         with_line: text(matches, "with"),
         never: text(matches, "never"),

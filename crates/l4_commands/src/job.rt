@@ -81,9 +81,11 @@ pub struct EndingsJob<'a> {
     /// The greatest number of steps but ticks of a history, or of entries of a schedule, 1 to
     /// 1,000,000. Any other number is the fault `Depth`.
     pub depth: u64,
-    /// The greatest number of worlds, or of states, that are looked at, 1 to 1,000,000. Any other
+    /// The greatest number of worlds, or of states, that are looked at, 1 to 100,000,000. Any other
     /// number is the fault `States`.
     pub states: u64,
+    /// The most memory for them in MiB, 1 to 1,048,576. Any other number is the fault `Memory`.
+    pub memory: u64,
     /// Whether to search only for endings in which a thread waits for ever.
     pub stuck: bool,
     /// A line that the report of an ending must have, where there is one.

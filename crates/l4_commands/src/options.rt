@@ -302,10 +302,18 @@ const ENDINGS_ARGUMENTS: &[Argument] = &[
     Argument {
         name: "states",
         takes: Takes::Number {
-            default: Some("100000"),
+            default: Some("1000000"),
             is_told: true,
         },
-        help: "Looks at N worlds or states at most, 1 to 1000000",
+        help: "Looks at N worlds or states at most, 1 to 100000000",
+    },
+    Argument {
+        name: "memory",
+        takes: Takes::Number {
+            default: Some("2048"),
+            is_told: true,
+        },
+        help: "Looks at no more of them than N MiB are counted for, 1 to 1048576",
     },
     Argument {
         name: "with",

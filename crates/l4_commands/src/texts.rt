@@ -145,6 +145,7 @@ prints these steps, which `l4run audit` and `l4run chart` read. The last line sa
 were looked at, how
 many steps deep, and whether that is the `whole` or was `cut`: then there may be more endings, and \
 the status is 3.
+Of `--memory` 128 bytes are counted for each world or state, and 8 for each thread of the text.
 Where there is none at all, `no ending: it goes on for ever` stands before it. With `--none`, walks \
 at random are tried
 before a long search: what one finds is told alone, `found by a walk`.
@@ -167,9 +168,9 @@ Status 4: `--none` found one, `--some` found that there is none, a world meets w
 names, or an ending does
 not meet `--expect`. 0: nothing of these, and the search was whole, or `--some` found one. 2: wrong \
 usage. 1: a fault as
-of `run`, or `l4run: depth out of range`, `l4run: states out of range`, `l4run: ending out of \
-range`, `l4run: condition
-line N`. docs/FORMATS.md (Endings) tells each line.";
+of `run`, or `l4run: depth out of range`, `l4run: states out of range`, `l4run: memory out of \
+range`, `l4run: ending out
+of range`, `l4run: condition line N`. docs/FORMATS.md (Endings) tells each line.";
 
 pub const LINT_EXAMPLE: &str =
     "Example: `l4run lint ping.l4`, with the machine text that `l4run help run` shows but the line \

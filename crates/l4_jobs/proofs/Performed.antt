@@ -63,6 +63,7 @@ same_line true file read all (fault.Text line kind) same = ap (λ more. fault_li
 same_line true file read all fault.Turns same = refl
 same_line true file read all fault.Depth same = refl
 same_line true file read all fault.States same = refl
+same_line true file read all fault.Memory same = refl
 same_line true file read all fault.Ending same = refl
 same_line true file read all (fault.Schedule number) same = refl
 same_line true file read all (fault.Threads number) same = refl

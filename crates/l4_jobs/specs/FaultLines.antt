@@ -33,6 +33,7 @@ fault_words (fault.Text line kind) = codes "line " ++ decimal line ++ codes ": "
 fault_words fault.Turns = codes "turns out of range"
 fault_words fault.Depth = codes "depth out of range"
 fault_words fault.States = codes "states out of range"
+fault_words fault.Memory = codes "memory out of range"
 fault_words fault.Ending = codes "ending out of range"
 fault_words (fault.Schedule number) = codes "schedule item " ++ decimal number
 fault_words (fault.Threads number) = codes "threads item " ++ decimal number

@@ -40,6 +40,7 @@ abbrev pub question_of : EndingsJob → Question
 question_of e = record {
   depth = e.depth;
   states = e.states;
+  memory = e.memory;
   stuck = e.stuck;
   with_line = e.with_line;
   never = e.never;
@@ -125,6 +126,7 @@ abbrev pub fault_of_question : QuestionFault → Fault
 fault_of_question question.NoMemory = fault.NoMemory
 fault_of_question question.Depth = fault.Depth
 fault_of_question question.States = fault.States
+fault_of_question question.Memory = fault.Memory
 
 abbrev pub fault_of_limits : EndingsJob → Option Fault
 fault_of_limits e = option_map fault_of_question (question_fault (question_of e))

@@ -44,9 +44,12 @@ pub enum Fault<'a> {
     /// The depth of a search is 0 or above 1,000,000.
     #[error("depth out of range")]
     Depth,
-    /// The number of worlds or states of a search is 0 or above 1,000,000.
+    /// The number of worlds or states of a search is 0 or above 100,000,000.
     #[error("states out of range")]
     States,
+    /// The memory for them is 0 or above 1,048,576 MiB.
+    #[error("memory out of range")]
+    Memory,
     /// No ending that is asked for has the number whose trace is asked for.
     #[error("ending out of range")]
     Ending,
@@ -155,6 +158,7 @@ impl From<QuestionFault> for Fault<'_> {
             QuestionFault::NoMemory => Fault::NoMemory,
             QuestionFault::Depth => Fault::Depth,
             QuestionFault::States => Fault::States,
+            QuestionFault::Memory => Fault::Memory,
         }
     }
 }
@@ -242,6 +246,7 @@ fn put_fault<E: Sink>(faults: &mut E, fault: &Fault<'_>) -> Result<(), NotWritte
         Fault::Turns => put_line(faults, "turns out of range", "", "", ""),
         Fault::Depth => put_line(faults, "depth out of range", "", "", ""),
         Fault::States => put_line(faults, "states out of range", "", "", ""),
+        Fault::Memory => put_line(faults, "memory out of range", "", "", ""),
         Fault::Ending => put_line(faults, "ending out of range", "", "", ""),
         Fault::Schedule(item) => put_line(faults, "schedule item ", digits.format(*item), "", ""),
         Fault::Threads(item) => put_line(faults, "threads item ", digits.format(*item), "", ""),

@@ -47,6 +47,7 @@ pub(crate) fn question_of<'a>(search: &EndingsJob<'a>) -> Question<'a>
     Question {
         depth: search.depth,
         states: search.states,
+        memory: search.memory,
         stuck: search.stuck,
         with_line: search.with_line,
         never: search.never,

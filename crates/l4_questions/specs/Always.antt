@@ -11,7 +11,7 @@ use Rattle.l4_futures.specs.Endings.{length_of}
 use Rattle.l4_futures.specs.Traces.{trace_along}
 use Rattle.l4_trace.specs.Lines.{has_line, trace_of}
 use Rattle.l4_questions.specs.Answers.{numbered, worlds_line}
-use Rattle.l4_questions.specs.Limits.{question_fault}
+use Rattle.l4_questions.specs.Limits.{most_looked, question_fault}
 use Rattle.l4_questions.specs.Printed.{status_of_search}
 use Rattle.l4_questions.specs.declared.question.Question.{Question}
 
@@ -51,7 +51,7 @@ pub record IsAlwaysAnswer (m : Machine) (q : Question) (asked : List (List ℕ))
     (lines unmet : List ℕ) (status : ℕ) : Type 0 where
   pub lawful : question_fault q ≡ None
   pub verdict : Verdict
-  pub is : IsVerdict m asked q.depth q.states verdict
+  pub is : IsVerdict m asked q.depth (most_looked m q) verdict
   pub told :
       lines
       ≡ verdict_text m verdict.met verdict.is_whole
@@ -69,7 +69,7 @@ pub record IsAlwaysTrace (m : Machine) (q : Question) (asked : List (List ℕ)) 
     (lines : Option (List ℕ)) : Type 0 where
   pub lawful : question_fault q ≡ None
   pub verdict : Verdict
-  pub is : IsVerdict m asked q.depth q.states verdict
+  pub is : IsVerdict m asked q.depth (most_looked m q) verdict
   pub told : lines ≡ option_map trace_of (numbered number (met_traces m verdict.met))
   -- each step of the trace has a line of its own
   pub spelled : (trace : List Step) → numbered number (met_traces m verdict.met) ≡ Some trace →

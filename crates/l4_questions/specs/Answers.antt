@@ -18,7 +18,7 @@ use Rattle.l4_waits.specs.Lines.{waits_text}
 use Rattle.l4_words.specs.Lines.{line_of_words}
 use Rattle.l4_questions.specs.Asked.{asks, is_asked}
 use Rattle.l4_questions.specs.Endings.{Ending}
-use Rattle.l4_questions.specs.Limits.{question_fault}
+use Rattle.l4_questions.specs.Limits.{most_looked, question_fault}
 use Rattle.l4_questions.specs.Printed.{IsTold}
 use Rattle.l4_questions.specs.Stuck.{is_any, stuck_lines, stuck_status, stuck_traces, AreAskedStuck}
 use Rattle.l4_stuck.specs.Stuck.{Stuck}
@@ -97,7 +97,7 @@ last_lines endings worlds depth is_whole =
 pub record AreFound (m : Machine) (q : Question) (traces : List (List Step)) (worlds depth : ℕ)
     (is_whole : Bool) : Type 0 where
   pub all : AreAllEndings m traces depth is_whole
-  pub looked : HasLooked m q.depth q.states worlds depth is_whole
+  pub looked : HasLooked m q.depth (most_looked m q) worlds depth is_whole
 
 -- These lines and this status are the answer: those of all endings that the question asks for, and of
 -- the threads that may get stuck for ever. It may also ask for a chart of the history that leads to each

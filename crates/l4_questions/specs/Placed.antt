@@ -11,7 +11,7 @@ use Rattle.l4_words.specs.Lines.{line_of_words}
 use Rattle.l4_questions.specs.Answers.{ending_after}
 use Rattle.l4_questions.specs.Asked.{is_asked}
 use Rattle.l4_questions.specs.Endings.{Ending}
-use Rattle.l4_questions.specs.Limits.{question_fault}
+use Rattle.l4_questions.specs.Limits.{most_looked, question_fault}
 use Rattle.l4_questions.specs.Printed.{IsTold}
 use Rattle.l4_questions.specs.declared.question.Question.{Question}
 use Rattle.l4_questions.specs.Beside.{Shown}
@@ -74,8 +74,8 @@ states_line m states depth is_whole =
 pub record ArePlaced (m : Machine) (q : Question) (endings : List (List Entry)) (states depth : ℕ)
     (is_whole : Bool) : Type 0 where
   pub all : AreAllEndings m endings depth is_whole
-  pub found : AreEndings m endings states q.depth q.states depth is_whole
-  pub few : states ≤ q.states
+  pub found : AreEndings m endings states q.depth (most_looked m q) depth is_whole
+  pub few : states ≤ most_looked m q
   pub whole : is_whole ≡ true → depth < q.depth
 
 -- These lines and this status are the answer: those of all endings that the question asks for. It

@@ -115,7 +115,7 @@ fn verdict_status(verdict: &Verdict) -> u8
 /// does and whatever time passes. Of the question it has the limits alone. `progress` hears how far
 /// the search has come.
 ///
-/// `Depth`, `States` and `NoMemory` as of `answer`.
+/// `Depth`, `States`, `Memory` and `NoMemory` as of `answer`.
 pub fn always_answer<P: Progress>(
     alloc: Global,
     machine: &Machine,
@@ -128,7 +128,7 @@ pub fn always_answer<P: Progress>(
     ensures err { IfErr result (λ fault. (fault ≡ OutOfMemory) ⊎
         (question_fault question.now ≡ Some fault)) }
 {
-    let (depth, most) = question.limits()?;
+    let (depth, most) = question.limits(machine)?;
     let verdict = verdict_of(alloc, machine, condition, depth, most, progress)?;
     Ok(Answer {
         lines: all_lines(alloc, machine, &verdict)?,
@@ -158,7 +158,7 @@ fn numbered(
 /// steps: it has the number 1. None where no such world was found, or the number is another one.
 /// `progress` hears how far the search has come.
 ///
-/// `Depth`, `States` and `NoMemory` as of `answer`.
+/// `Depth`, `States`, `Memory` and `NoMemory` as of `answer`.
 pub fn always_trace<P: Progress>(
     alloc: Global,
     machine: &Machine,
@@ -172,7 +172,7 @@ pub fn always_trace<P: Progress>(
     ensures err { IfErr result (λ fault. (fault ≡ OutOfMemory) ⊎
         (question_fault question.now ≡ Some fault)) }
 {
-    let (depth, most) = question.limits()?;
+    let (depth, most) = question.limits(machine)?;
     let verdict = verdict_of(alloc, machine, condition, depth, most, progress)?;
     match numbered(alloc, machine, number, verdict.met.as_ref())? {
         None => Ok(None),

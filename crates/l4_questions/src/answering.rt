@@ -5,7 +5,7 @@ ghost use Rattle.l4_questions.specs.Answers.{last_lines, whole_word, IsAnswer};
 ghost use Rattle.l4_questions.specs.Beside.{shown_as};
 ghost use Rattle.l4_explore.specs.Tries.{deepest};
 ghost use Rattle.l4_questions.specs.Inner.Walked.{IsWalkedBy};
-ghost use Rattle.l4_questions.specs.Limits.{question_fault};
+ghost use Rattle.l4_questions.specs.Limits.{most_looked, question_fault};
 ghost use Rattle.l4_questions.specs.Walked.{IsAnyAnswer, IsWalkAnswer, walk_line};
 ghost use Rattle.l4_questions.specs.Stuck.{stuck_lines, AreAllStuck};
 ghost use Rattle.l4_stuck.specs.Stuck.{stuck_of};
@@ -82,7 +82,7 @@ fn searched_answer<P: Progress>(
 ) -> Result<Answer, NoMemory>
     requires lawful { question_fault question.now ≡ None }
     requires depth { min depth deepest ≡ question.now.depth }
-    requires most { most ≡ question.now.states }
+    requires most { most ≡ most_looked machine.now question.now }
     requires some { 0 < most }
     ensures { IfOk result (λ answer. IsAnswer machine.now question.now (shown_as beside.entry.shown)
         (option_copied beside.entry.expected) answer.lines.items answer.unmet.items answer.status) }
@@ -125,8 +125,8 @@ fn walk_answer(
 /// search. If one comes to such an ending, the answer is that ending, perhaps not by a shortest
 /// history, and it says so last.
 ///
-/// `Depth`: the depth is 0 or above 1,000,000. `States`: so is the number of worlds. `NoMemory`:
-/// memory was refused.
+/// `Depth`: the depth is 0 or above 1,000,000. `States`: the number of worlds is 0 or above
+/// 100,000,000. `Memory`: the memory is 0 or above 1,048,576 MiB. `NoMemory`: memory was refused.
 pub fn answer<P: Progress>(
     alloc: Global,
     machine: &Machine,
@@ -140,7 +140,7 @@ pub fn answer<P: Progress>(
     ensures err { IfErr result (λ fault. (fault ≡ OutOfMemory) ⊎
         (question_fault question.now ≡ Some fault)) }
 {
-    let (depth, most) = question.limits()?;
+    let (depth, most) = question.limits(machine)?;
     let answer = match walked_ending(alloc, machine, question, depth, most, progress)? {
         Some(entries) => walk_answer(alloc, machine, question, beside, entries)?,
         None => searched_answer(alloc, machine, question, beside, depth, most, progress)?,

@@ -20,8 +20,8 @@ use std::alloc::Global;
 /// shortest schedule. Only their schedules and lines are kept. `progress` hears how far the search
 /// has come.
 ///
-/// `Depth`: the depth is 0 or above 1,000,000. `States`: so is the number of states. `NoMemory`:
-/// memory was refused.
+/// `Depth`: the depth is 0 or above 1,000,000. `States`: the number of states is 0 or above
+/// 100,000,000. `Memory`: the memory is 0 or above 1,048,576 MiB. `NoMemory`: memory was refused.
 pub fn placed_answer<P: Progress>(
     alloc: Global,
     machine: &Machine,
@@ -34,7 +34,7 @@ pub fn placed_answer<P: Progress>(
     ensures err { IfErr result (λ fault. (fault ≡ OutOfMemory) ⊎
         (question_fault question.now ≡ Some fault)) }
 {
-    let (depth, most) = question.limits()?;
+    let (depth, most) = question.limits(machine)?;
     let found = endings(alloc, machine, depth, most, progress)?;
     let written = written_endings(alloc, machine, question, beside, &found.endings)?;
     let last = states_line(alloc, machine, found.states, found.depth, found.is_whole)?;

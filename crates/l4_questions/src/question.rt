@@ -1,14 +1,27 @@
 //! What is asked of the endings of a machine.
 ghost use Rattle.std.specs.Prelude.{◌≡◌, ◌⊎◌, ◌<◌, ◌≤◌, min, IfOk, IfErr, None, Some, false, ℕ};
 ghost use Rattle.l4_explore.specs.Tries.{deepest};
-ghost use Rattle.l4_questions.specs.Limits.{is_out_of_range, most_asked, question_fault};
+ghost use Rattle.l4_questions.specs.Limits.{is_out_of_range, most_looked, question_fault};
+ghost use Rattle.l4_questions.specs.Limits.{state_bytes};
 ghost use Rattle.l4_questions.specs.declared.question.QuestionFault.TheVariants.{NoMemory as OutOfMemory};
 ghost use Rattle.l4_questions.specs.declared.question.Wanted.TheVariants.{Whatever};
 
+use l4_script::machine::Machine;
 use l4_types::errors::NoMemory;
 
-/// The greatest depth, and the greatest number of states or worlds, that a question may ask for.
-pub const MOST_ASKED: u64 = 1_000_000;
+/// The greatest depth that a question may ask for.
+pub const MOST_DEEP: u64 = 1_000_000;
+
+/// The greatest number of states or worlds.
+pub const MOST_STATES: u64 = 100_000_000;
+
+/// The most memory for them, in MiB.
+pub const MOST_MEMORY: u64 = 1_048_576;
+
+/// The memory for them where nothing else is asked for, in MiB.
+pub const USUAL_MEMORY: u64 = 2_048;
+
+const MEBIBYTE: u64 = 1_048_576;
 
 /// How many of the endings that are asked for should exist.
 #[derive(Clone, Copy, Debug, PartialEq, Eq)]
@@ -27,9 +40,12 @@ pub struct Question<'a> {
     /// The greatest number of steps but ticks of a history, or of events of a core run, 1 to
     /// 1,000,000. Any other number is the fault `Depth`.
     pub depth: u64,
-    /// The greatest number of worlds or states that are looked at, 1 to 1,000,000. Any other number
-    /// is the fault `States`.
+    /// The greatest number of worlds or states that are looked at, 1 to 100,000,000. Any other
+    /// number is the fault `States`.
     pub states: u64,
+    /// The most memory for them in MiB, 1 to 1,048,576: so many bytes are counted for each, 128 and 8
+    /// for each thread of the machine. Any other number is the fault `Memory`.
+    pub memory: u64,
     /// Only endings in which a send waits, or a thread receives from one thread alone.
     pub stuck: bool,
     /// Only endings whose report has such a line.
@@ -47,8 +63,10 @@ pub enum QuestionFault {
     NoMemory,
     /// The depth is 0 or above 1,000,000.
     Depth,
-    /// The number of worlds or states is 0 or above 1,000,000.
+    /// The number of worlds or states is 0 or above 100,000,000.
     States,
+    /// The memory for them is 0 or above 1,048,576 MiB.
+    Memory,
 }
 
 impl From<NoMemory> for QuestionFault {
@@ -60,11 +78,12 @@ impl From<NoMemory> for QuestionFault {
 }
 
 impl<'a> Question<'a> {
-    /// The question for all endings.
+    /// The question for all endings, with the usual memory.
     pub fn new(depth: u64, states: u64) -> Question<'a>
         ensures { result ≡ record {
           depth = depth;
           states = states;
+          memory = 2048;
           stuck = false;
           with_line = None;
           never = None;
@@ -74,6 +93,7 @@ impl<'a> Question<'a> {
         Question {
             depth,
             states,
+            memory: USUAL_MEMORY,
             stuck: false,
             with_line: None,
             never: None,
@@ -81,26 +101,39 @@ impl<'a> Question<'a> {
         }
     }
 
-    /// The greatest depth of the search, and the greatest number of its states.
-    pub(crate) fn limits(&self) -> Result<(u32, u32), QuestionFault>
+    /// The greatest depth of a search, and the greatest number of its states or worlds.
+    pub(crate) fn limits(&self, machine: &Machine) -> Result<(u32, u32), QuestionFault>
         ensures ok { IfOk result (λ limits.
             (question_fault self.now ≡ None) × (limits.0 ≡ self.now.depth) ×
-            (limits.1 ≡ self.now.states) × (0 < limits.1) ×
+            (limits.1 ≡ most_looked machine.now self.now) × (0 < limits.1) ×
             (min limits.0 deepest ≡ self.now.depth)) }
         ensures err { IfErr result (λ fault. question_fault self.now ≡ Some fault) }
     {
-        if is_out_of_range(self.depth) {
+        if is_out_of_range(MOST_DEEP, self.depth) {
             return Err(QuestionFault::Depth);
         }
-        if is_out_of_range(self.states) {
+        if is_out_of_range(MOST_STATES, self.states) {
             return Err(QuestionFault::States);
         }
-        Ok((self.depth as u32, self.states as u32))
+        if is_out_of_range(MOST_MEMORY, self.memory) {
+            return Err(QuestionFault::Memory);
+        }
+        let enough = self.memory * MEBIBYTE / state_bytes(machine);
+        Ok((self.depth as u32, self.states.min(enough) as u32))
     }
 }
 
-fn is_out_of_range(number: u64) -> bool
-    ensures { result ≡ is_out_of_range number }
+// How many bytes are counted for a state or a world.
+fn state_bytes(machine: &Machine) -> u64
+    ensures value { result ≡ state_bytes machine.now }
+    ensures some { 0 < result }
+    ensures few { result ≤ 8320 }
 {
-    number == 0 || number > MOST_ASKED
+    128 + 8 * machine.threads().len() as u64
+}
+
+fn is_out_of_range(most: u64, number: u64) -> bool
+    ensures { result ≡ is_out_of_range most number }
+{
+    number == 0 || number > most
 }

@@ -7,7 +7,7 @@ ghost use Rattle.l4_explore.specs.Tries.{deepest};
 ghost use Rattle.l4_questions.specs.Inner.Found.{IsLed};
 ghost use Rattle.l4_questions.specs.Walked.{IsAnyTrace, IsFirstTrace};
 ghost use Rattle.l4_futures.specs.Traces.{trace_along};
-ghost use Rattle.l4_questions.specs.Limits.{question_fault};
+ghost use Rattle.l4_questions.specs.Limits.{most_looked, question_fault};
 ghost use Rattle.l4_questions.specs.declared.question.QuestionFault.TheVariants.{NoMemory as OutOfMemory};
 ghost use Rattle.l4_questions.specs.Stuck.{stuck_traces, AreAllStuck};
 ghost use Rattle.l4_stuck.specs.Stuck.{stuck_of};
@@ -86,7 +86,7 @@ fn searched_trace<P: Progress>(
 ) -> Result<Option<Vec<u8>>, NoMemory>
     requires lawful { question_fault question.now ≡ None }
     requires depth { min depth deepest ≡ question.now.depth }
-    requires most { most ≡ question.now.states }
+    requires most { most ≡ most_looked machine.now question.now }
     requires some { 0 < most }
     ensures { IfOk result (λ lines. IsTraceAnswer machine.now question.now number
         (option_map (λ l. l.items) lines)) }
@@ -130,7 +130,7 @@ fn walk_trace(
 /// history after which the thread is. None where the answer gives the number to neither. `progress`
 /// hears how far the search has come.
 ///
-/// `Depth`, `States` and `NoMemory` as of `answer`.
+/// `Depth`, `States`, `Memory` and `NoMemory` as of `answer`.
 pub fn asked_trace<P: Progress>(
     alloc: Global,
     machine: &Machine,
@@ -143,7 +143,7 @@ pub fn asked_trace<P: Progress>(
     ensures err { IfErr result (λ fault. (fault ≡ OutOfMemory) ⊎
         (question_fault question.now ≡ Some fault)) }
 {
-    let (depth, most) = question.limits()?;
+    let (depth, most) = question.limits(machine)?;
     let lines = match walked_ending(alloc, machine, question, depth, most, progress)? {
         Some(entries) => walk_trace(alloc, machine, &entries, number)?,
         None => searched_trace(alloc, machine, question, number, depth, most, progress)?,

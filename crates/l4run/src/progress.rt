@@ -8,14 +8,14 @@ use l4_jobs::streams::Sink;
 use std::fmt::Write;
 use std::time::{Clock, Instant};
 
-// A line has at most four numbers of 20 digits, and 41 other bytes.
-const MOST_BYTES: usize = 121;
+// A line has at most five numbers of 20 digits, and 48 other bytes.
+const MOST_BYTES: usize = 148;
 
 // What wipes the line.
 const WIPED: &[u8] = b"\r\x1b[K";
 
-/// A line on a terminal that says how far a search has come: `looked at 120000 states, depth 31,
-/// 4 s, 30000 a second`. From the first second on it is written once in each, over what was there,
+/// A line on a terminal that says how far a search has come: `looked at 120000 states, 30000
+/// wait, depth 31, 4 s, 30000 a second`. From the first second on it is written once in each, over what was there,
 /// and it is wiped where the search ends. It takes no memory. A write that fails is no fault.
 #[derive(Drop)]
 pub struct ProgressLine<'a, R, W> {
@@ -23,6 +23,8 @@ pub struct ProgressLine<'a, R, W> {
     out: &'a mut W,
     is_shown: bool,
     began: Option<Instant>,
+    // From so many states the search has gone on.
+    gone_on: usize,
     // The second in which it was last written. 0 where it was not.
     written: u64,
 }
@@ -35,6 +37,7 @@ impl<'a, R: Clock, W: Sink> ProgressLine<'a, R, W> {
             out,
             is_shown,
             began: None,
+            gone_on: 0,
             written: 0,
         }
     }
@@ -51,14 +54,14 @@ impl<'a, R: Clock, W: Sink> ProgressLine<'a, R, W> {
         }
     }
 
-    fn write(&mut self, states: usize, depth: usize, seconds: u64)
+    fn write(&mut self, states: usize, waiting: usize, depth: usize, seconds: u64)
         requires { 0 < seconds }
     {
         let rate = states as u64 / seconds;
         let mut line = ArrayString::<MOST_BYTES>::new();
         if write!(
             line,
-            "\rlooked at {states} states, depth {depth}, {seconds} s, {rate} a second"
+            "\rlooked at {states} states, {waiting} wait, depth {depth}, {seconds} s, {rate} a second"
         )
         .is_ok()
         {
@@ -73,8 +76,11 @@ impl<R: Clock, W: Sink> Progress for ProgressLine<'_, R, W> {
         if !self.is_shown {
             return;
         }
+        // It is told of each state from which the search goes on.
+        let waiting = states.saturating_sub(self.gone_on);
+        self.gone_on = self.gone_on.saturating_add(1);
         match self.seconds() {
-            Some(seconds) if seconds > self.written => self.write(states, depth, seconds),
+            Some(seconds) if seconds > self.written => self.write(states, waiting, depth, seconds),
             _ => {}
         }
     }
@@ -84,6 +90,7 @@ impl<R: Clock, W: Sink> Progress for ProgressLine<'_, R, W> {
             let _ = self.out.put(WIPED);
         }
         self.began = None;
+        self.gone_on = 0;
         self.written = 0;
     }
 }

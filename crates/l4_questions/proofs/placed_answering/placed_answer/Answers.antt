@@ -1,4 +1,4 @@
-use Rattle.std.proofs.Common.{ℕ, List, [], map, ap, subst, ◌∙◌, arith}
+use Rattle.std.proofs.Common.{◌≤◌, ℕ, List, [], map, ap, subst, ◌∙◌, arith}
 use Rattle.std.specs.Option.{option_copied}
 use Rattle.l4_persistent.specs.Endings.{AreEndings}
 use Rattle.l4_endings.specs.Inner.Tried.{told}
@@ -39,7 +39,7 @@ returns-clause-ok g c =
             limits.2
             (subst (λ (n : ℕ). AreEndings m endings found.states n c.in_ok-depth.most found.depth
             found.is_whole) limits.4 c.in_ok-found.ensures.found);
-        few = omega (arith, c.in_ok-found.ensures.few, limits.2);
+        few = subst (λ (n : ℕ). found.states ≤ n) limits.2 c.in_ok-found.ensures.few;
         whole = λ is. omega (arith, c.in_ok-found.ensures.whole is, limits.1);
       };
       told =

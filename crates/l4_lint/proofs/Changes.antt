@@ -1,16 +1,18 @@
 -- A fact of each thread is true of every world that a history reaches, where each change of a thread keeps it. A receive phase begins
 -- only where the instruction at hand asks for one.
-use Rattle.std.proofs.Common.{subst, ◌≡◌, ℕ, zero, suc, Some, List, [], ◌∷◌, refl, ap, sym, ◌∙◌, inl, inr, ⊎_elim}
-use Rattle.std.specs.Prelude.{slice_get, ◌⊎◌}
+use Rattle.std.proofs.Common.{subst, ◌≡◌, ℕ, zero, suc, true, None, Some, List, [], ◌∷◌, refl, ap, sym, ◌∙◌, inl, inr, ⊎_elim}
+use Rattle.std.specs.Prelude.{slice_get, slice_index, ◌⊎◌}
 use Rattle.l4_model.specs.Words.{GlobalId, Id, NilThread, AnyThread, AnyLocalThread, LocalThread, GlobalThread}
-use Rattle.l4_model.specs.Machine.{Machine, Declaration, OrderKind, instruction_at}
-use Rattle.l4_model.specs.World.{World, Thread, Send, Receive, PendingOrder, Message, changed, change, receive_now, unqueued, others_owed, Owed, Name}
+use Rattle.l4_model.specs.Machine.{Machine, Declaration, OrderKind, CancelSend, CancelReceive, CancelBoth, Delete, instruction_at}
+use Rattle.l4_model.specs.World.{World, Thread, Send, Receive, PendingOrder, Message, changed, change, is_ready, receive_now, unqueued, others_owed, Owed, Name}
 use Rattle.l4_model.specs.Rules.{receive_code, send_code, act}
 use Rattle.l4_model.specs.Conditions.{Found, found, found_by, Pending, undecided, instruction}
-use Rattle.l4_model.specs.Steps.{Step, Deliver, Order, Tick, send_of, receive_of, without_send, next, OfThread, OfSend, Runs, Waits, Fails, Obeys, Begun, Queued, Failed, Dropped, Retargeted}
+use Rattle.l4_model.specs.Steps.{Step, Deliver, Order, Tick, order_of, send_of, receive_of, without_send, next, OfThread, OfSend, Runs, Waits, Fails, Obeys, Begun, Queued, Failed, Dropped, Retargeted}
 use Rattle.l4_model.specs.Effects.{runs, begins, waits, fails, decided, refused, receives, delivered, asked, orders, obeyed, turns}
 use Rattle.l4_model.proofs.Chains.{some_is, part-changed}
+use Rattle.l4_model.specs.Reached.{ThreadFacts}
 use Rattle.l4_model.proofs.Places.{known, known_send, sender_found}
+use Rattle.l4_model.proofs.Sound.{AreSound, ready_has_none}
 use Rattle.l4_model.proofs.Inversions.{local_taken, begin_taken, queue_taken, DeliverTaken, deliver_taken, wait_taken, drop_taken, order_taken, ObeyTaken, obey_taken, tick_taken, retarget_taken, send_failed, receive_failed}
 
 -- A fact of a thread, with what is declared of it.
@@ -22,19 +24,20 @@ Each m P w = (i : ℕ) (d : Declaration) (t : Thread) → slice_get m.threads i 
 
 -- Each change of a thread keeps the fact.
 pub record IsKept (m : Machine) (P : Fact) : Type 0 where
-  pub at_run : (d : Declaration) (t : Thread) → P d t → P d (runs (instruction_at d.script t.context.place) t)
+  pub at_run : (d : Declaration) (t : Thread) → t.order ≡ None → P d t → P d (runs (instruction_at d.script t.context.place) t)
   pub at_begin : (d : Declaration) (now : ℕ) (t : Thread) (send : Send) → send_of (act m d.id now t.context (instruction_at d.script t.context.place)) ≡ Some send →
-      P d t → P d (begins send t)
+      t.order ≡ None → P d t → P d (begins send t)
   pub at_wait : (d : Declaration) (now : ℕ) (t : Thread) (receive : Receive) →
-      receive_of (act m d.id now t.context (instruction_at d.script t.context.place)) ≡ Some receive → P d t → P d (waits receive now t)
-  pub at_order : (d : Declaration) (t : Thread) (order : PendingOrder) → P d t → P d (orders order t)
+      receive_of (act m d.id now t.context (instruction_at d.script t.context.place)) ≡ Some receive → t.order ≡ None → P d t → P d (waits receive now t)
+  pub at_order : (d : Declaration) (now : ℕ) (t : Thread) (order : PendingOrder) →
+      order_of (act m d.id now t.context (instruction_at d.script t.context.place)) ≡ Some order → P d t → P d (orders order t)
   pub at_failure : (d : Declaration) (t : Thread) (code : ℕ) → P d t → P d (fails code t)
   pub at_decision : (d : Declaration) (t : Thread) → P d t → P d (decided t)
   pub at_receipt : (d : Declaration) (t : Thread) (receive : Receive) (message : Message) (tag : ℕ) → receive_now t.phase ≡ Some receive →
       P d t → P d (receives message tag t)
   pub at_delivery : (d : Declaration) (now : ℕ) (t : Thread) (send : Send) → t.send ≡ Some send → P d t → P d (delivered send now t)
   pub at_asked : (d : Declaration) (t : Thread) (what : OrderKind) → P d t → P d (asked what t)
-  pub at_obedience : (d : Declaration) (t : Thread) → P d t → P d (obeyed t)
+  pub at_obedience : (d : Declaration) (t : Thread) (order : PendingOrder) → t.order ≡ Some order → P d t → P d (obeyed t)
   pub at_turn : (d : Declaration) (t : Thread) (o : Owed) → P d t → P d (turns o t)
 
 -- The threads of a changed list.
@@ -103,56 +106,73 @@ deliver_each m P w v s receiver shown actual tag words kept k each =
     let has : x.send ≡ Some k.p.send = part-changed (λ (y : Thread). y.send) g (λ y. refl) w.threads k.r.at k.p.sender.at k.p.sender.now x sender.sender.now now ∙ sender.send in
     kept.at_delivery d k.p.sender.clock x k.p.send has h))
 
+same_order : (what : OrderKind) (t : Thread) → (asked what t).order ≡ t.order
+same_order CancelSend t = refl
+same_order CancelReceive t = refl
+same_order CancelBoth t = refl
+same_order Delete t = refl
+
+-- A thread that is ready has no undone order.
+no_order : (m : Machine) (w : World) (id : GlobalId) (t : Found) → AreSound m w → found m w id ≡ Some t → is_ready t.now.phase ≡ true → t.now.order ≡ None
+no_order m w id t sound is ready =
+    let k = known m w id t is in
+    let facts : ThreadFacts m t.declared (slice_index w.clocks t.declared.cpu) t.now = sound t.at t.declared t.now k.declared k.now in
+    (ready_has_none t.now.phase t.now.send t.now.order ready facts.suits).1
+
 obey_each : (m : Machine) (P : Fact) (w v : World) (caller : GlobalId) → IsKept m P → ObeyTaken m w v caller → Each m P w → Each m P v
 obey_each m P w v caller kept k each =
-    let u : World = change w k.target (asked k.order.what) in
-    let after : Each m P u = change_each m P w k.target (asked k.order.what) each (λ d x declared now h. kept.at_asked d x k.order.what h) in
-    subst (Each m P) k.leads_to (change_each m P u k.t.at obeyed after (λ d x declared now h. kept.at_obedience d x h))
+    let what = k.order.what in
+    let u : World = change w k.target (asked what) in
+    let after : Each m P u = change_each m P w k.target (asked what) each (λ d x declared now h. kept.at_asked d x what h) in
+    subst (Each m P) k.leads_to (change_each m P u k.t.at obeyed after (λ d x declared now h.
+    let has : x.order ≡ Some k.order = part-changed (λ (y : Thread). y.order) (asked what) (same_order what) w.threads k.target k.t.at k.t.now x (known m w caller k.t k.found).now now
+    ∙ k.ordered in
+    kept.at_obedience d x k.order has h))
 
 -- Each step keeps the fact.
-pub step_each : (m : Machine) (P : Fact) (w v : World) (step : Step) → IsKept m P → next m w step ≡ Some v → Each m P w → Each m P v
-step_each m P w v (OfThread Runs id) kept h each =
+pub step_each : (m : Machine) (P : Fact) (w v : World) (step : Step) → IsKept m P → next m w step ≡ Some v → AreSound m w → Each m P w → Each m P v
+step_each m P w v (OfThread Runs id) kept h sound each =
     let k = local_taken m w v id h in
     subst (Each m P) k.leads_to
-    (found_each m P w id k.t (runs (instruction k.t)) k.found each (kept.at_run k.t.declared k.t.now))
-step_each m P w v (OfThread Waits id) kept h each =
+    (found_each m P w id k.t (runs (instruction k.t)) k.found each (kept.at_run k.t.declared k.t.now (no_order m w id k.t sound k.found k.ready)))
+step_each m P w v (OfThread Waits id) kept h sound each =
     let k = wait_taken m w v id h in
     subst (Each m P) k.leads_to
     (found_each m P w id k.t (waits k.receive k.t.clock) k.found each
-    (kept.at_wait k.t.declared k.t.clock k.t.now k.receive k.receiving))
-step_each m P w v (OfThread (Fails why) id) kept h each =
+    (kept.at_wait k.t.declared k.t.clock k.t.now k.receive k.receiving (no_order m w id k.t sound k.found k.ready)))
+step_each m P w v (OfThread (Fails why) id) kept h sound each =
     let k = receive_failed m w v id why h in
     let code = receive_code why in
     subst (Each m P) k.leads_to
     (found_each m P w id k.t (fails code) k.found each (kept.at_failure k.t.declared k.t.now code))
-step_each m P w v (OfThread Obeys id) kept h each = obey_each m P w v id kept (obey_taken m w v id h) each
-step_each m P w v (OfSend Begun s) kept h each =
+step_each m P w v (OfThread Obeys id) kept h sound each = obey_each m P w v id kept (obey_taken m w v id h) each
+step_each m P w v (OfSend Begun s) kept h sound each =
     let k = begin_taken m w v s h in
     subst (Each m P) k.leads_to
     (found_each m P w s.thread k.t (begins k.send) k.found each
-    (kept.at_begin k.t.declared k.t.clock k.t.now k.send k.sends))
-step_each m P w v (OfSend Queued s) kept h each = subst (Each m P) (queue_taken m w v s h).leads_to each
-step_each m P w v (OfSend (Failed why) s) kept h each =
+    (kept.at_begin k.t.declared k.t.clock k.t.now k.send k.sends (no_order m w s.thread k.t sound k.found k.ready)))
+step_each m P w v (OfSend Queued s) kept h sound each = subst (Each m P) (queue_taken m w v s h).leads_to each
+step_each m P w v (OfSend (Failed why) s) kept h sound each =
     let k = send_failed m w v s why h in
     let code = send_code why in
     let from : Found = k.p.sender in
     subst (Each m P) k.leads_to
     (sender_each m P w s k.p (refused code) k.is_undecided each
     (λ x. kept.at_failure from.declared (decided from.now) code (kept.at_decision from.declared from.now x)))
-step_each m P w v (OfSend Dropped s) kept h each =
+step_each m P w v (OfSend Dropped s) kept h sound each =
     let k = drop_taken m w v s h in
     subst (Each m P) k.leads_to
     (sender_each m P w s k.p decided k.is_undecided each (kept.at_decision k.p.sender.declared k.p.sender.now))
-step_each m P w v (OfSend Retargeted s) kept h each =
+step_each m P w v (OfSend Retargeted s) kept h sound each =
     let k = retarget_taken m w v s h in
     let u : World = record w { owed = others_owed w.owed s } in
     subst (Each m P) k.leads_to
     (found_each m P u k.o.originator k.t (turns k.o) k.found each (kept.at_turn k.t.declared k.t.now k.o))
-step_each m P w v (Deliver s receiver shown actual tag words) kept h each =
+step_each m P w v (Deliver s receiver shown actual tag words) kept h sound each =
     let k = deliver_taken m w v s receiver shown actual tag words h in
     deliver_each m P w v s receiver shown actual tag words kept k each
-step_each m P w v (Order caller target what) kept h each =
+step_each m P w v (Order caller target what) kept h sound each =
     let k = order_taken m w v caller target what h in
     subst (Each m P) k.leads_to
-    (found_each m P w caller k.t (orders k.order) k.found each (kept.at_order k.t.declared k.t.now k.order))
-step_each m P w v (Tick cpu clock) kept h each = subst (Each m P) (tick_taken m w v cpu clock h).leads_to each
+    (found_each m P w caller k.t (orders k.order) k.found each (kept.at_order k.t.declared k.t.clock k.t.now k.order k.ordered))
+step_each m P w v (Tick cpu clock) kept h sound each = subst (Each m P) (tick_taken m w v cpu clock h).leads_to each

@@ -1,11 +1,11 @@
 -- The doubts of a text, line by line.
 use Rattle.std.proofs.Common.{◌≡◌, ℕ, ◌+◌, List, [], ◌∷◌, ◌++◌, length, refl, ap, sym, ◌∙◌, arith}
-use Rattle.std.specs.Prelude.{◌==◌, count_by}
+use Rattle.std.specs.Prelude.{◌==◌, Result, Ok, Err, OnOk, count_by}
 use Rattle.std.proofs.lemmas.List.{append_assoc}
 use Rattle.std.proofs.lemmas.List.Splits.{length-slice_split}
 use Rattle.l4_model.specs.Machine.{Machine}
 use Rattle.l4_words.specs.Lines.{parts_of}
-use Rattle.l4_lint.specs.Doubts.{Doubtful, begun_behind, doubts_from, line_doubts, lines_of, thread_after, without_last}
+use Rattle.l4_lint.specs.Doubts.{Doubtful, begun_behind, doubts_from, line_doubts, lines_of, place_behind, thread_after, without_last}
 
 -- The first line of a text comes before the lines of what follows it.
 first_line : (line rest text : List ℕ) → parts_of text ≡ line ∷ parts_of rest →
@@ -20,17 +20,28 @@ first_line line rest text is =
     by [] none count = absurd (omega (arith, count, ap length none))
     by (next ∷ parts) some count = refl
 
+-- Doubts are appended in two parts.
+pub in_two : {A E : Type 0} (r : Result A E) (old middle new first second : List Doubtful) →
+    middle ≡ old ++ first → OnOk r (new ≡ middle ++ second) →
+    OnOk r (new ≡ old ++ (first ++ second))
+in_two (Ok x) old middle new first second one two =
+    two ∙ ap (λ (all : List Doubtful). all ++ second) one ∙ append_assoc old first second
+in_two (Err e) old middle new first second one two = tt
+
 -- The doubts of a line are found before those of the lines that follow it.
-pub one_more : (m : Machine) (begun number : ℕ) (found new whole : List Doubtful)
+pub one_more : (m : Machine) (begun place number : ℕ) (found new whole : List Doubtful)
     (line rest text : List ℕ) → parts_of text ≡ line ∷ parts_of rest →
-    new ≡ found ++ line_doubts m (thread_after m begun) number line →
-    found ++ doubts_from m (lines_of text) begun number ≡ whole →
-    new ++ doubts_from m (lines_of rest) (begun_behind begun line) (number + 1) ≡ whole
-one_more m begun number found new whole line rest text is adds all =
-    let here = line_doubts m (thread_after m begun) number line in
-    let behind = doubts_from m (lines_of rest) (begun_behind begun line) (number + 1) in
+    new ≡ found ++ line_doubts m (thread_after m begun) place number line →
+    found ++ doubts_from m (lines_of text) begun place number ≡ whole →
+    new ++ doubts_from m (lines_of rest) (begun_behind begun line) (place_behind place line)
+    (number + 1) ≡ whole
+one_more m begun place number found new whole line rest text is adds all =
+    let here = line_doubts m (thread_after m begun) place number line in
+    let behind =
+    doubts_from m (lines_of rest) (begun_behind begun line) (place_behind place line)
+    (number + 1) in
     ap (λ (all : List Doubtful). all ++ behind) adds
     ∙ append_assoc found here behind
-    ∙ ap (λ (lines : List (List ℕ)). found ++ doubts_from m lines begun number)
+    ∙ ap (λ (lines : List (List ℕ)). found ++ doubts_from m lines begun place number)
     (sym (first_line line rest text is))
     ∙ all

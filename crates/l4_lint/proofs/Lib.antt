@@ -2,9 +2,12 @@ pub mod Changes
 pub mod Doubting
 pub mod First
 pub mod Foreign
+pub mod Itself
 pub mod Named
 pub mod Never
 pub mod Silent
 pub mod Sizes
 pub mod Steps
 pub mod Sure
+pub mod Unreached
+pub mod Ways

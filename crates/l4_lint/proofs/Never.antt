@@ -16,6 +16,7 @@ use Rattle.l4_model.proofs.Chains.{bind_then, some_is}
 use Rattle.l4_model.proofs.Inversions.{DeliverTaken, deliver_taken}
 use Rattle.l4_model.proofs.Places.{same_id_is, known_send, eqb_same}
 use Rattle.l4_model.proofs.Requests.{message_short}
+use Rattle.l4_model.proofs.Sound.{AreSound, opening_sound, step_sound}
 use Rattle.l4_script.specs.Canonical.{can_be_assigned, can_be_written, is_register}
 use Rattle.l4_lint.specs.Always.{delivers_register, delivers_propagated}
 use Rattle.l4_lint.specs.Doubts.{uses, receives, names_originator, asks_to_propagate}
@@ -41,11 +42,12 @@ its_message m C M i d w v s receiver shown actual tag words placed closed thread
 -- No step tells what no message of this fact tells.
 run_never : (m : Machine) (C : Declaration → ℕ → Id → Type 0) (M : Declaration → Message → Type 0) (tells : Step → Bool) →
     ((w v : World) (step : Step) → next m w step ≡ Some v → Each m (Silent m C M) w → tells step ≡ false) →
-    (h : List Step) (w v : World) → run m w h ≡ Some v → Each m (Silent m C M) w → list_any tells h ≡ false
-run_never m C M tells never [] w v r each = refl
-run_never m C M tells never (step ∷ h) w v r each =
+    (h : List Step) (w v : World) → run m w h ≡ Some v → AreSound m w → Each m (Silent m C M) w → list_any tells h ≡ false
+run_never m C M tells never [] w v r sound each = refl
+run_never m C M tells never (step ∷ h) w v r sound each =
     bind_then (next m w step) (λ u. run m u h) v r λ u is rest.
-    or_from _ _ (never w u step is each) (run_never m C M tells never h u v rest (step_each m (Silent m C M) w u step (is_kept m C M) is each))
+    or_from _ _ (never w u step is each)
+    (run_never m C M tells never h u v rest (step_sound m w u step is sound) (step_each m (Silent m C M) w u step (is_kept m C M) is sound each))
 
 same_or_not : (a b : GlobalId) (test : Bool) → (b ≡ a → test ≡ false) → (same_id a b && test) ≡ false
 same_or_not a b test h = by (same_id a b) refl
@@ -105,7 +107,7 @@ register_closed m f size r d some none all =
 pub never_delivers_register : (m : Machine) (f : Format) (size i r : ℕ) (d : Declaration) (h : List Step) (w : World) → IsPlaced m i d →
     list_any (uses r) d.script ≡ false → list_all (can_be_written f size) d.script ≡ true → reached m h ≡ Some w → list_any (delivers_register r d.id) h ≡ false
 never_delivers_register m f size i r d h w placed none all reach =
-    run_never m (Below r) (Short r) (delivers_register r d.id) step h (opening m) w reach (opening_silent m (Below r) (Short r))
+    run_never m (Below r) (Short r) (delivers_register r d.id) step h (opening m) w reach (opening_sound m) (opening_silent m (Below r) (Short r))
   where
     delivery : (w v : World) (s : Name) (receiver shown actual : GlobalId) (tag : ℕ) (words : List ℕ) → DeliverTaken m w v s receiver shown actual tag words →
         Each m (Silent m (Below r) (Short r)) w → s.thread ≡ d.id → (b c : Bool) → nat_lt 0 r ≡ b → nat_le r (length words) ≡ c → (b && c) ≡ false
@@ -188,7 +190,7 @@ pub never_delivers_propagated : (m : Machine) (f : Format) (size i : ℕ) (d : D
     list_any (names_originator m d.id) d.script ≡ false → list_all (can_be_written f size) d.script ≡ true → reached m h ≡ Some w →
     list_any (delivers_propagated d.id) h ≡ false
 never_delivers_propagated m f size i d h w placed none all reach =
-    run_never m (Unnamed m) IsOwn (delivers_propagated d.id) step h (opening m) w reach (opening_silent m (Unnamed m) IsOwn)
+    run_never m (Unnamed m) IsOwn (delivers_propagated d.id) step h (opening m) w reach (opening_sound m) (opening_silent m (Unnamed m) IsOwn)
   where
     delivery : (w v : World) (s : Name) (receiver shown actual : GlobalId) (tag : ℕ) (words : List ℕ) → DeliverTaken m w v s receiver shown actual tag words →
         Each m (Silent m (Unnamed m) IsOwn) w → s.thread ≡ d.id → (asks_to_propagate tag || not (same_id d.id shown)) ≡ false

@@ -180,14 +180,14 @@ turn_keeps C M t o h = by t.phase refl
 pub is_kept : (m : Machine) (C : Declaration → ℕ → Id → Type 0) (M : Declaration → Message → Type 0) → IsKept m (Silent m C M)
 is_kept m C M =
     record {
-      at_run = λ d t h closed. let s = h closed in
+      at_run = λ d t idle h closed. let s = h closed in
           record {
             context = ran_keeps m d (C d) (M d) (instruction_at d.script t.context.place) t.context closed (closed.each t.context.place) s.context;
             message = s.message;
             calls_nobody = s.calls_nobody;
             waits_not = waits_not_after (instruction_at d.script t.context.place);
           };
-      at_begin = λ d now t send sends h closed.
+      at_begin = λ d now t send sends idle h closed.
           let s = h closed in
           let asks = act_request m d.id now t.context (instruction_at d.script t.context.place) send sends in
           record {
@@ -196,9 +196,9 @@ is_kept m C M =
             calls_nobody = act_calls_nobody m d.id now t.context (C d) (instruction_at d.script t.context.place) send (closed.each t.context.place) sends;
             waits_not = refl;
           };
-      at_wait = λ d now t receive receiving h closed.
+      at_wait = λ d now t receive receiving idle h closed.
           absurd (act_waits_not m d.id now t.context (C d) (instruction_at d.script t.context.place) receive (closed.each t.context.place) receiving);
-      at_order = λ d t order h closed. let s = h closed in record { context = s.context; message = s.message; calls_nobody = s.calls_nobody; waits_not = refl };
+      at_order = λ d now t order ordered h closed. let s = h closed in record { context = s.context; message = s.message; calls_nobody = s.calls_nobody; waits_not = refl };
       at_failure = λ d t code h closed. failed_keeps m d (C d) (M d) code t closed (h closed);
       at_decision = λ d t h closed. decided_keeps (C d) (M d) t (h closed);
       at_receipt = λ d t receive message tag receiving h closed. absurd (not_both (receive_now t.phase) receive (h closed).waits_not receiving);
@@ -208,7 +208,7 @@ is_kept m C M =
           (λ alive. goes_on_keeps m d (C d) (M d) t send.receive now (no_call t.send send has s.calls_nobody) closed s)
           (λ gone. decided_keeps (C d) (M d) t s);
       at_asked = λ d t what h closed. asked_keeps (C d) (M d) t what (h closed);
-      at_obedience = λ d t h closed.
+      at_obedience = λ d t order has h closed.
           let s = h closed in
           cond_keeps (IsSilent (C d) (M d)) (is_alive t.phase) _ _
           (λ alive. record { context = s.context; message = s.message; calls_nobody = s.calls_nobody; waits_not = refl })

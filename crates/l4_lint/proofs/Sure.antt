@@ -19,14 +19,17 @@ use Rattle.l4_script.specs.Numbers.{time_from}
 use Rattle.l4_script.specs.Texts.{machine_of_text}
 use Rattle.l4_script.specs.declared.text.fault.TextFault.{TextFault}
 use Rattle.l4_script.proofs.AcceptedTexts.{each_has_text}
-use Rattle.l4_lint.specs.declared.doubts.Doubt.TheVariants.{NoThread, NoLimit, NotSent, NotPropagated, OtherSpace, ToItself, FromItself, NoDestination, LongTime}
-use Rattle.l4_lint.specs.Always.{cancels, names_thread, delivers_register, delivers_propagated, thread_on, IsAlwaysSo, AreAlwaysSo}
+use Rattle.l4_lint.specs.declared.doubts.Doubt.TheVariants.{NoThread, NoLimit, NotSent, NotPropagated, OtherSpace, ToItself, FromItself, NoDestination, LocalId, NoSender, LongTime, Unreached, LeftOut}
+use Rattle.l4_lint.specs.Always.{cancels, names_thread, delivers_register, delivers_propagated, delivers_to_itself, place_from, place_on, thread_on, IsAlwaysSo, IsElsewhere, AreAlwaysSo}
 use Rattle.l4_lint.specs.Bytes.{behind, word_of}
-use Rattle.l4_lint.specs.Doubts.{Doubtful, doubted, doubtful_at, doubts_from, doubts_of, doubts_on, begun_behind, id_doubts, answer_doubts, ipc_doubts, write_doubts, tag_doubts, script_doubts, line_doubts, lines_of, thread_after, from_doubts, is_any, is_foreign, is_long, is_own, order_doubts, time_doubts, to_doubts, is_no_thread, is_endless, is_one_of_ids, is_write, uses, number_in, asks_to_propagate, names_originator}
+use Rattle.l4_lint.specs.Doubts.{Doubtful, doubted, doubtful_at, doubts_from, doubts_of, doubts_on, begun_behind, id_doubts, answer_doubts, ipc_doubts, write_doubts, tag_doubts, script_doubts, line_doubts, lines_of, thread_after, from_doubts, is_any, is_foreign, is_long, is_own, order_doubts, time_doubts, to_doubts, is_no_thread, is_endless, is_one_of_ids, is_write, uses, number_in, asks_to_propagate, names_originator, id_pair_doubts, instruction_of, is_instruction, is_last_nil, is_left_out, is_unreached_in, operand_doubts, place_behind, unreached_doubts}
 use Rattle.l4_lint.specs.Reading.{begins_script}
+use Rattle.l4_lint.specs.Scripts.{orders_local, receives_from_local, sends_to_local}
 use Rattle.l4_lint.proofs.Foreign.{never_cancels}
+use Rattle.l4_lint.proofs.Itself.{never_to_itself}
 use Rattle.l4_lint.proofs.Named.{never_named}
 use Rattle.l4_lint.proofs.Never.{IsPlaced, never_delivers_register, never_delivers_propagated}
+use Rattle.l4_lint.proofs.Unreached.{never_there}
 
 all_append : {A : Type 0} (P : A → Type 0) (xs ys : List A) → AllByRecursion P xs → AllByRecursion P ys → AllByRecursion P (xs ++ ys)
 all_append P [] ys a b = b
@@ -36,8 +39,8 @@ doubted_so : (P : Doubtful → Type 0) (b : Bool) (d : Doubtful) → (b ≡ true
 doubted_so P true d h = (h refl, tt)
 doubted_so P false d h = tt
 
-abbrev place_on : List (List ℕ) → ℕ → ℕ
-place_on lines number = count_by begins_script (take (number - 1) lines) - 1
+abbrev slot_on : List (List ℕ) → ℕ → ℕ
+slot_on lines number = count_by begins_script (take (number - 1) lines) - 1
 
 -- An id that no thread has
 
@@ -89,21 +92,25 @@ script_written : (f : Format) (m : Machine) (i : ℕ) (d : Declaration) → IsRe
     list_all (can_be_written f (length d.script)) d.script ≡ true
 script_written f m i d read at = (and_parts _ _ (all_slot (can_be_declared f m.cpus) m.threads i d read.text.each at)).1
 
-write_so : (f : Format) (m : Machine) (lines : List (List ℕ)) (h : List Step) (number : ℕ) (line rest : List ℕ) (d : Declaration) → IsRead f m → IsHistory m h →
-    thread_on m lines number ≡ Some d → AllByRecursion (IsAlwaysSo m lines h) (write_doubts d number line rest)
-write_so f m lines h number line rest d read history on =
-    doubted_so (IsAlwaysSo m lines h) (not (list_any (uses (number_in rest)) d.script)) (doubtful_at number line rest NotSent)
+write_so : (f : Format) (m : Machine) (lines : List (List ℕ)) (h : List Step) (place number : ℕ) (line rest : List ℕ) (d : Declaration) → IsRead f m → IsHistory m h →
+    thread_on m lines number ≡ Some d → AllByRecursion (IsAlwaysSo m lines h) (write_doubts d place number line rest)
+write_so f m lines h place number line rest d read history on =
+    let P = IsAlwaysSo m lines h in
+    let unused = not (list_any (uses (number_in rest)) d.script) in
+    all_append P (doubted unused (doubtful_at number line rest NotSent)) _
+    (doubted_so P unused (doubtful_at number line rest NotSent)
     (λ unused is_always. subst (λ (o : Option Declaration). IsSomeAnd o (λ d. list_any (delivers_register (number_in rest) d.id) h ≡ false)) (sym on)
-    (never_delivers_register m f (length d.script) (place_on lines number) (number_in rest) d h history.0 (placed f m (place_on lines number) d read on) (not-true _ unused)
-    (script_written f m (place_on lines number) d read on) history.1))
+    (never_delivers_register m f (length d.script) (slot_on lines number) (number_in rest) d h history.0 (placed f m (slot_on lines number) d read on) (not-true _ unused)
+    (script_written f m (slot_on lines number) d read on) history.1)))
+    (doubted_so P (is_left_out (number_in rest) d.script place) (doubtful_at number line rest LeftOut) (λ left is_always. cc))
 
 tag_so : (f : Format) (m : Machine) (lines : List (List ℕ)) (h : List Step) (number : ℕ) (line rest : List ℕ) (d : Declaration) → IsRead f m → IsHistory m h →
     thread_on m lines number ≡ Some d → AllByRecursion (IsAlwaysSo m lines h) (tag_doubts m d number line rest)
 tag_so f m lines h number line rest d read history on =
     doubted_so (IsAlwaysSo m lines h) (asks_to_propagate (number_in rest) && not (list_any (names_originator m d.id) d.script)) (doubtful_at number line rest NotPropagated)
     (λ doubted is_always. subst (λ (o : Option Declaration). IsSomeAnd o (λ d. list_any (delivers_propagated d.id) h ≡ false)) (sym on)
-    (never_delivers_propagated m f (length d.script) (place_on lines number) d h history.0 (placed f m (place_on lines number) d read on)
-    (not-true _ (and_parts (asks_to_propagate (number_in rest)) _ doubted).1) (script_written f m (place_on lines number) d read on) history.1))
+    (never_delivers_propagated m f (length d.script) (slot_on lines number) d h history.0 (placed f m (slot_on lines number) d read on)
+    (not-true _ (and_parts (asks_to_propagate (number_in rest)) _ doubted).1) (script_written f m (slot_on lines number) d read on) history.1))
 
 -- A line
 
@@ -111,74 +118,120 @@ all_cond : (P : Doubtful → Type 0) (b : Bool) (xs ys : List Doubtful) → AllB
 all_cond P true xs ys a b = a
 all_cond P false xs ys a b = b
 
-script_so : (f : Format) (m : Machine) (lines : List (List ℕ)) (h : List Step) (number : ℕ) (line : List ℕ) (d : Option Declaration) → IsRead f m → IsHistory m h →
-    thread_on m lines number ≡ d → AllByRecursion (IsAlwaysSo m lines h) (script_doubts m d number line)
-script_so f m lines h number line None read history on = tt
-script_so f m lines h number line (Some d) read history on =
+script_so : (f : Format) (m : Machine) (lines : List (List ℕ)) (h : List Step) (place number : ℕ) (line : List ℕ) (d : Option Declaration) → IsRead f m → IsHistory m h →
+    thread_on m lines number ≡ d → AllByRecursion (IsAlwaysSo m lines h) (script_doubts m d place number line)
+script_so f m lines h place number line None read history on = tt
+script_so f m lines h place number line (Some d) read history on =
     let P = IsAlwaysSo m lines h in
-    all_cond P (is_write (word_of line)) _ _ (write_so f m lines h number line (behind line) d read history on)
+    all_cond P (is_write (word_of line)) _ _ (write_so f m lines h place number line (behind line) d read history on)
     (all_cond P (bytes_eq (word_of line) (codes "tag")) _ _ (tag_so f m lines h number line (behind line) d read history on) tt)
 
-to_so : (m : Machine) (lines : List (List ℕ)) (h : List Step) (d : Option Declaration) (number : ℕ) (line to : List ℕ) → IsHistory m h →
-    AllByRecursion (IsAlwaysSo m lines h) (to_doubts m d number line to)
-to_so m lines h d number line to history =
+-- A send to the thread itself
+itself_so : (m : Machine) (lines : List (List ℕ)) (h : List Step) (d : Option Declaration) (number : ℕ) (line to : List ℕ) → IsHistory m h →
+    thread_on m lines number ≡ d → AllByRecursion (IsAlwaysSo m lines h) (doubted (is_own d (thread_of (word_of to))) (doubtful_at number line to ToItself))
+itself_so m lines h d number line to history on =
+    doubted_so (IsAlwaysSo m lines h) (is_own d (thread_of (word_of to))) (doubtful_at number line to ToItself)
+    (λ own is_always. subst (λ (o : Option Declaration). IsSomeAnd o (λ d. list_any (delivers_to_itself d.id) h ≡ false)) (sym on) (by d (thread_of (word_of to)) own))
+  where
+    by : (d : Option Declaration) (t : Option GlobalId) → is_own d t ≡ true → IsSomeAnd d (λ d. list_any (delivers_to_itself d.id) h ≡ false)
+    by None t own = cc
+    by (Some d) None own = cc
+    by (Some d) (Some t) own = never_to_itself m d.id h history.0 history.1
+
+to_so : (m : Machine) (lines : List (List ℕ)) (h : List Step) (d : Option Declaration) (place number : ℕ) (line to : List ℕ) → IsHistory m h →
+    thread_on m lines number ≡ d → AllByRecursion (IsAlwaysSo m lines h) (to_doubts m d place number line to)
+to_so m lines h d place number line to history on =
     let P = IsAlwaysSo m lines h in
     let own = is_own d (thread_of (word_of to)) in
-    all_append P (id_doubts m number line to ++ doubted own (doubtful_at number line to ToItself)) _
-    (all_append P (id_doubts m number line to) _ (id_so m lines h number line to history) (doubted_so P own (doubtful_at number line to ToItself) (λ own is_always. cc)))
-    (doubted_so P (is_any (word_of to)) (doubtful_at number line to NoDestination) (λ any is_always. cc))
+    let first = id_doubts m number line to ++ doubted own (doubtful_at number line to ToItself) in
+    let second = first ++ doubted (is_any (word_of to)) (doubtful_at number line to NoDestination) in
+    let local = sends_to_local (instruction_of d place) in
+    all_append P (second ++ doubted local (doubtful_at number line to LocalId)) _
+    (all_append P second _
+    (all_append P first _
+    (all_append P (id_doubts m number line to) _ (id_so m lines h number line to history) (itself_so m lines h d number line to history on))
+    (doubted_so P (is_any (word_of to)) (doubtful_at number line to NoDestination) (λ any is_always. cc)))
+    (doubted_so P local (doubtful_at number line to LocalId) (λ local is_always. cc)))
+    (doubted_so P (bytes_eq (word_of to) (codes "last") && is_last_nil d place) (doubtful_at number line to NoSender) (λ nil is_always. cc))
 
-from_so : (m : Machine) (lines : List (List ℕ)) (h : List Step) (d : Option Declaration) (number : ℕ) (line from : List ℕ) → IsHistory m h →
-    AllByRecursion (IsAlwaysSo m lines h) (from_doubts m d number line from)
-from_so m lines h d number line from history =
+from_so : (m : Machine) (lines : List (List ℕ)) (h : List Step) (d : Option Declaration) (place number : ℕ) (line from : List ℕ) → IsHistory m h →
+    AllByRecursion (IsAlwaysSo m lines h) (from_doubts m d place number line from)
+from_so m lines h d place number line from history =
     let P = IsAlwaysSo m lines h in
-    all_append P (id_doubts m number line from) _ (id_so m lines h number line from history)
-    (doubted_so P (is_own d (thread_of (word_of from)) && is_endless (time_from (word_of (behind (behind from))))) (doubtful_at number line from FromItself)
-    (λ own is_always. cc))
+    let own = is_own d (thread_of (word_of from)) && is_endless (time_from (word_of (behind (behind from)))) in
+    let first = id_doubts m number line from ++ doubted own (doubtful_at number line from FromItself) in
+    all_append P first _
+    (all_append P (id_doubts m number line from) _ (id_so m lines h number line from history)
+    (doubted_so P own (doubtful_at number line from FromItself) (λ own is_always. cc)))
+    (doubted_so P (receives_from_local (instruction_of d place)) (doubtful_at number line from LocalId) (λ local is_always. cc))
 
 time_so : (m : Machine) (lines : List (List ℕ)) (h : List Step) (number : ℕ) (line time : List ℕ) →
     AllByRecursion (IsAlwaysSo m lines h) (time_doubts number line time)
 time_so m lines h number line time =
     doubted_so (IsAlwaysSo m lines h) (is_long (word_of time)) (doubtful_at number line time LongTime) (λ long is_always. cc)
 
-ipc_so : (m : Machine) (lines : List (List ℕ)) (h : List Step) (d : Option Declaration) (number : ℕ) (line to : List ℕ) → IsHistory m h →
-    AllByRecursion (IsAlwaysSo m lines h) (ipc_doubts m d number line to)
-ipc_so m lines h d number line to history =
+ipc_so : (m : Machine) (lines : List (List ℕ)) (h : List Step) (d : Option Declaration) (place number : ℕ) (line to : List ℕ) → IsHistory m h →
+    thread_on m lines number ≡ d → AllByRecursion (IsAlwaysSo m lines h) (ipc_doubts m d place number line to)
+ipc_so m lines h d place number line to history on =
     let P = IsAlwaysSo m lines h in
     let times = behind (behind to) in
-    let ids = to_doubts m d number line to ++ from_doubts m d number line (behind to) in
     let answer = answer_doubts number line to times in
-    all_append P (ids ++ answer ++ time_doubts number line times) _
-    (all_append P (ids ++ answer) _
-    (all_append P ids _
-    (all_append P (to_doubts m d number line to) _ (to_so m lines h d number line to history) (from_so m lines h d number line (behind to) history))
-    (answer_so m lines h number line to times)) (time_so m lines h number line times)) (time_so m lines h number line (behind times))
+    all_append P (id_pair_doubts m d place number line to) _
+    (all_append P (to_doubts m d place number line to) _ (to_so m lines h d place number line to history on) (from_so m lines h d place number line (behind to) history))
+    (all_append P (answer ++ time_doubts number line times) _
+    (all_append P answer _ (answer_so m lines h number line to times) (time_so m lines h number line times)) (time_so m lines h number line (behind times)))
 
 -- An order, or a `vs`
 
-order_so : (m : Machine) (lines : List (List ℕ)) (h : List Step) (number : ℕ) (line : List ℕ) (d : Option Declaration) → IsHistory m h →
-    thread_on m lines number ≡ d → AllByRecursion (IsAlwaysSo m lines h) (order_doubts m d number line)
-order_so m lines h number line d history on =
+order_so : (m : Machine) (lines : List (List ℕ)) (h : List Step) (place number : ℕ) (line : List ℕ) (d : Option Declaration) → IsHistory m h →
+    thread_on m lines number ≡ d → AllByRecursion (IsAlwaysSo m lines h) (order_doubts m d place number line)
+order_so m lines h place number line d history on =
     let P = IsAlwaysSo m lines h in
     let word = word_of (behind line) in
-    all_append P (id_doubts m number line (behind line)) _ (id_so m lines h number line (behind line) history)
-    (doubted_so P (bytes_eq (word_of line) (codes "exregs") && is_foreign m d (thread_of word)) (doubtful_at number line (behind line) OtherSpace)
+    let other = bytes_eq (word_of line) (codes "exregs") && is_foreign m d (thread_of word) in
+    let local = orders_local (instruction_of d place) in
+    all_append P (id_doubts m number line (behind line) ++ doubted other (doubtful_at number line (behind line) OtherSpace)) _
+    (all_append P (id_doubts m number line (behind line)) _ (id_so m lines h number line (behind line) history)
+    (doubted_so P other (doubtful_at number line (behind line) OtherSpace)
     (λ doubted is_always.
     subst (λ (o : Option Declaration). IsSomeAnd o (λ d. IsSomeAnd (thread_of word) (λ t. list_any (cancels d.id t) h ≡ false))) (sym on)
-    (by d (thread_of word) (and_parts _ _ doubted).1)))
+    (by d (thread_of word) (and_parts _ _ doubted).1))))
+    (doubted_so P local (doubtful_at number line (behind line) LocalId) (λ local is_always. cc))
   where
     by : (d : Option Declaration) (t : Option GlobalId) → is_foreign m d t ≡ true → IsSomeAnd d (λ d. IsSomeAnd t (λ t. list_any (cancels d.id t) h ≡ false))
     by None t foreign = cc
     by (Some d) None foreign = cc
     by (Some d) (Some t) foreign = never_cancels m d t h history.0 foreign history.1
 
-line_so : (f : Format) (m : Machine) (lines : List (List ℕ)) (h : List Step) (number : ℕ) (line : List ℕ) (d : Option Declaration) → IsRead f m → IsHistory m h →
-    thread_on m lines number ≡ d → AllByRecursion (IsAlwaysSo m lines h) (line_doubts m d number line)
-line_so f m lines h number line d read history on =
+operand_so : (f : Format) (m : Machine) (lines : List (List ℕ)) (h : List Step) (place number : ℕ) (line : List ℕ) (d : Option Declaration) → IsRead f m → IsHistory m h →
+    thread_on m lines number ≡ d → AllByRecursion (IsAlwaysSo m lines h) (operand_doubts m d place number line)
+operand_so f m lines h place number line d read history on =
     let P = IsAlwaysSo m lines h in
-    all_cond P (bytes_eq (word_of line) (codes "ipc")) (ipc_doubts m d number line (behind line)) _ (ipc_so m lines h d number line (behind line) history)
-    (all_cond P (is_one_of_ids (word_of line)) (order_doubts m d number line) (script_doubts m d number line)
-    (order_so m lines h number line d history on) (script_so f m lines h number line d read history on))
+    all_cond P (bytes_eq (word_of line) (codes "ipc")) (ipc_doubts m d place number line (behind line)) _ (ipc_so m lines h d place number line (behind line) history on)
+    (all_cond P (is_one_of_ids (word_of line)) (order_doubts m d place number line) (script_doubts m d place number line)
+    (order_so m lines h place number line d history on) (script_so f m lines h place number line d read history on))
+
+-- An instruction that is never reached
+unreached_so : (f : Format) (m : Machine) (lines : List (List ℕ)) (h : List Step) (place number : ℕ) (line : List ℕ) (d : Option Declaration) → IsRead f m → IsHistory m h →
+    thread_on m lines number ≡ d → place_on lines number ≡ place →
+    AllByRecursion (IsAlwaysSo m lines h) (unreached_doubts d place number line)
+unreached_so f m lines h place number line d read history on at =
+    doubted_so (IsAlwaysSo m lines h) (is_instruction line && is_unreached_in d place) (doubtful_at number line line Unreached)
+    (λ doubted is_always.
+    subst (λ (n : ℕ). IsSomeAnd (thread_on m lines number) (λ d. IsElsewhere m n d.id h)) (sym at)
+    (by (thread_on m lines number) refl (subst (λ (o : Option Declaration). is_unreached_in o place ≡ true) (sym on) (and_parts _ _ doubted).1)))
+  where
+    by : (o : Option Declaration) → thread_on m lines number ≡ o → is_unreached_in o place ≡ true → IsSomeAnd o (λ d. IsElsewhere m place d.id h)
+    by None is none = cc
+    by (Some x) is none = λ w t reach found.
+        let its = placed f m (slot_on lines number) x read is in
+        never_there m (slot_on lines number) place x h w t its.declared its.place none reach found
+
+line_so : (f : Format) (m : Machine) (lines : List (List ℕ)) (h : List Step) (place number : ℕ) (line : List ℕ) (d : Option Declaration) → IsRead f m → IsHistory m h →
+    thread_on m lines number ≡ d → place_on lines number ≡ place → AllByRecursion (IsAlwaysSo m lines h) (line_doubts m d place number line)
+line_so f m lines h place number line d read history on at =
+    all_append (IsAlwaysSo m lines h) (unreached_doubts d place number line) _
+    (unreached_so f m lines h place number line d read history on at) (operand_so f m lines h place number line d read history on)
 
 -- A text
 
@@ -190,8 +243,12 @@ begun_more before line =
     let all : count_by begins_script (before ++ line ∷ []) ≡ count_by begins_script before + count_by begins_script (line ∷ []) = sum_by-append f before (line ∷ []) in
     omega (arith, one, none, all)
 
+place_more : (place : ℕ) (before : List (List ℕ)) (line : List ℕ) → place_behind (place_from place before) line ≡ place_from place (before ++ line ∷ [])
+place_more place [] line = refl
+place_more place (first ∷ before) line = place_more (place_behind place first) before line
+
 lines_so : (f : Format) (m : Machine) (h : List Step) (before lines : List (List ℕ)) → IsRead f m → IsHistory m h →
-    AllByRecursion (IsAlwaysSo m (before ++ lines) h) (doubts_from m lines (count_by begins_script before) (length before + 1))
+    AllByRecursion (IsAlwaysSo m (before ++ lines) h) (doubts_from m lines (count_by begins_script before) (place_from 0 before) (length before + 1))
 lines_so f m h before [] read history = tt
 lines_so f m h before (line ∷ lines) read history =
     let whole = before ++ line ∷ lines in
@@ -199,14 +256,19 @@ lines_so f m h before (line ∷ lines) read history =
     let on : thread_on m whole (length before + 1) ≡ thread_after m (count_by begins_script before) =
     ap (λ (n : ℕ). thread_after m (count_by begins_script (take n whole))) (omega arith)
     ∙ ap (λ (xs : List (List ℕ)). thread_after m (count_by begins_script xs)) here in
+    let at : place_on whole (length before + 1) ≡ place_from 0 before =
+    ap (λ (n : ℕ). place_from 0 (take n whole)) (omega arith) ∙ ap (place_from 0) here in
+    let place = place_from 0 before in
+    let next = place_behind place line in
     let same : (before ++ line ∷ []) ++ lines ≡ whole = append_assoc before (line ∷ []) lines in
     let counted : length (before ++ line ∷ []) ≡ length before + 1 = length-append before (line ∷ []) in
-    all_append (IsAlwaysSo m whole h) (line_doubts m (thread_after m (count_by begins_script before)) (length before + 1) line) _
-    (line_so f m whole h (length before + 1) line (thread_after m (count_by begins_script before)) read history on)
-    (subst (λ (xs : List (List ℕ)). AllByRecursion (IsAlwaysSo m xs h) (doubts_from m lines (begun_behind (count_by begins_script before) line) (length before + 1 + 1))) same
-    (subst (λ (n : ℕ). AllByRecursion (IsAlwaysSo m ((before ++ line ∷ []) ++ lines) h) (doubts_from m lines n (length before + 1 + 1))) (sym (begun_more before line))
-    (subst (λ (n : ℕ). AllByRecursion (IsAlwaysSo m ((before ++ line ∷ []) ++ lines) h) (doubts_from m lines (count_by begins_script (before ++ line ∷ [])) (n + 1))) counted
-    (lines_so f m h (before ++ line ∷ []) lines read history))))
+    all_append (IsAlwaysSo m whole h) (line_doubts m (thread_after m (count_by begins_script before)) place (length before + 1) line) _
+    (line_so f m whole h place (length before + 1) line (thread_after m (count_by begins_script before)) read history on at)
+    (subst (λ (xs : List (List ℕ)). AllByRecursion (IsAlwaysSo m xs h) (doubts_from m lines (begun_behind (count_by begins_script before) line) next (length before + 1 + 1))) same
+    (subst (λ (n : ℕ). AllByRecursion (IsAlwaysSo m ((before ++ line ∷ []) ++ lines) h) (doubts_from m lines n next (length before + 1 + 1))) (sym (begun_more before line))
+    (subst (λ (n : ℕ). AllByRecursion (IsAlwaysSo m ((before ++ line ∷ []) ++ lines) h) (doubts_from m lines (count_by begins_script (before ++ line ∷ [])) n (length before + 1 + 1))) (sym (place_more 0 before line))
+    (subst (λ (n : ℕ). AllByRecursion (IsAlwaysSo m ((before ++ line ∷ []) ++ lines) h) (doubts_from m lines (count_by begins_script (before ++ line ∷ [])) (place_from 0 (before ++ line ∷ [])) (n + 1))) counted
+    (lines_so f m h (before ++ line ∷ []) lines read history)))))
 
 pub all_always_so : (text : List ℕ) → AreAlwaysSo text (doubts_of text)
 all_always_so text m h is history =
@@ -216,7 +278,7 @@ all_always_so text m h is history =
 
 -- Where the machine was read, and its doubts were found.
 pub found_so : {A E : Type 0} (text : List ℕ) (m : Machine) (doubts : A → List Doubtful) (found : Result A E) → machine_of_text text ≡ Ok m →
-    IfOk found (λ x. doubts x ≡ doubts_from m (lines_of text) 0 1) → IfOk found (λ x. AreAlwaysSo text (doubts x))
+    IfOk found (λ x. doubts x ≡ doubts_from m (lines_of text) 0 0 1) → IfOk found (λ x. AreAlwaysSo text (doubts x))
 found_so text m doubts (Err e) is all = tt
 found_so text m doubts (Ok x) is all =
     subst (AreAlwaysSo text) (ap (λ (said : Result Machine TextFault). doubts_on said (lines_of text)) is ∙ sym all) (all_always_so text)

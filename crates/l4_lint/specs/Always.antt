@@ -1,18 +1,20 @@
 -- What a doubt that is marked `always` says. It holds in every history of the machine that the text
 -- declares.
-use Rattle.std.specs.Prelude.{ℕ, ◌≡◌, ◌-◌, Bool, true, false, not, ◌&&◌, ◌||◌, nat_lt, nat_le, Option, Ok, unwrap_or, IsSomeAnd, List, [], ◌∷◌, length, take}
+use Rattle.std.specs.Prelude.{ℕ, ◌≡◌, ◌-◌, ◌==◌, Bool, true, false, not, ◌&&◌, ◌||◌, nat_lt, nat_le, Option, Some, Ok, unwrap_or, IsSomeAnd, List, [], ◌∷◌, length, take}
 use Rattle.std.specs.List.{AllByRecursion, count_by, list_any}
 use Rattle.l4_model.specs.Words.{GlobalId, same_id}
 use Rattle.l4_model.specs.Machine.{Declaration, Delete, Machine, OrderKind}
+use Rattle.l4_model.specs.World.{World}
+use Rattle.l4_model.specs.Conditions.{Found, found}
 use Rattle.l4_model.specs.Steps.{Step, Deliver, Order, Tick, OfThread, OfSend}
-use Rattle.l4_model.specs.History.{IsHistory}
+use Rattle.l4_model.specs.History.{IsHistory, reached}
 use Rattle.l4_words.specs.Threads.{thread_of}
 use Rattle.l4_script.specs.Numbers.{number_of}
 use Rattle.l4_script.specs.Texts.{machine_of_text}
 use Rattle.l4_lint.specs.declared.doubts.Doubt.{Doubt}
-use Rattle.l4_lint.specs.declared.doubts.Doubt.TheVariants.{NoThread, NotSent, NotPropagated, OtherSpace}
+use Rattle.l4_lint.specs.declared.doubts.Doubt.TheVariants.{NoThread, NotSent, NotPropagated, OtherSpace, ToItself, Unreached}
 use Rattle.l4_lint.specs.declared.doubts.Mark.TheVariants.{Always}
-use Rattle.l4_lint.specs.Doubts.{Doubtful, asks_to_propagate, lines_of, marked, thread_after}
+use Rattle.l4_lint.specs.Doubts.{Doubtful, asks_to_propagate, lines_of, marked, place_behind, thread_after}
 use Rattle.l4_lint.specs.Reading.{begins_script}
 
 -- The threads that a step names.
@@ -54,25 +56,52 @@ cancels caller target (Order c t what) =
     same_id caller c && (same_id target t && not (is_deletion what))
 cancels caller target _ = false
 
+-- A message of this thread is delivered to itself.
+abbrev pub delivers_to_itself : (thread : GlobalId) → Step → Bool
+delivers_to_itself thread (Deliver s receiver shown actual tag words) =
+    same_id thread s.thread && same_id thread receiver
+delivers_to_itself thread _ = false
+
+-- In the world that a history reaches this thread is not about to go on at this place of its
+-- script.
+abbrev pub IsElsewhere : Machine → (place : ℕ) → (thread : GlobalId) → List Step → Type 0
+IsElsewhere m place thread h =
+    (w : World) (t : Found) → reached m h ≡ Some w → found m w thread ≡ Some t →
+    (t.now.context.place == place) ≡ false
+
 -- Of an id: no step names the thread. Of a register that is written: no delivered message of the
 -- script's thread has it. Of a tag: none is propagated. Of a thread of another space: no order of the
--- script's thread cancels what it does. Of the others nothing is certain.
-abbrev pub Says : Doubt → (word : List ℕ) → Option Declaration → List Step → Type 0
-Says NoThread word thread h = IsSomeAnd (thread_of word) (λ t. NoStep (names_thread t) h)
-Says NotSent word thread h =
+-- script's thread cancels what it does. Of the thread itself: no message goes from it to itself. Of an
+-- instruction: the thread never comes to its place. Of the others nothing is certain.
+abbrev pub Says : Machine → Doubt → (word : List ℕ) → Option Declaration → (place : ℕ) →
+    List Step → Type 0
+Says m NoThread word thread place h = IsSomeAnd (thread_of word) (λ t. NoStep (names_thread t) h)
+Says m NotSent word thread place h =
     IsSomeAnd thread (λ d. NoStep (delivers_register (unwrap_or (number_of word) 0) d.id) h)
-Says NotPropagated word thread h = IsSomeAnd thread (λ d. NoStep (delivers_propagated d.id) h)
-Says OtherSpace word thread h =
+Says m NotPropagated word thread place h =
+    IsSomeAnd thread (λ d. NoStep (delivers_propagated d.id) h)
+Says m OtherSpace word thread place h =
     IsSomeAnd thread (λ d. IsSomeAnd (thread_of word) (λ t. NoStep (cancels d.id t) h))
-Says _ word thread h = ⊥
+Says m ToItself word thread place h = IsSomeAnd thread (λ d. NoStep (delivers_to_itself d.id) h)
+Says m Unreached word thread place h = IsSomeAnd thread (λ d. IsElsewhere m place d.id h)
+Says m _ word thread place h = ⊥
 
 -- The thread in whose script a line of this number stands.
 abbrev pub thread_on : Machine → (lines : List (List ℕ)) → (number : ℕ) → Option Declaration
 thread_on m lines number = thread_after m (count_by begins_script (take (number - 1) lines))
 
+-- The place in its script of the instruction that stands in a line of this number.
+
+abbrev pub place_from : (place : ℕ) → (lines : List (List ℕ)) → ℕ
+place_from place [] = place
+place_from place (line ∷ lines) = place_from (place_behind place line) lines
+
+abbrev pub place_on : (lines : List (List ℕ)) → (number : ℕ) → ℕ
+place_on lines number = place_from 0 (take (number - 1) lines)
+
 abbrev pub IsAlwaysSo : Machine → (lines : List (List ℕ)) → List Step → Doubtful → Type 0
 IsAlwaysSo m lines h d = marked d.doubt ≡ Always →
-    Says d.doubt d.word (thread_on m lines d.line) h
+    Says m d.doubt d.word (thread_on m lines d.line) (place_on lines d.line) h
 
 -- Each of these doubts of a text that is marked `always` holds in every history.
 abbrev pub AreAlwaysSo : (text : List ℕ) → List Doubtful → Type 0

@@ -3,7 +3,7 @@ use Rattle.std.specs.Prelude.{ℕ, ◌+◌, ◌-◌, ◌/◌, ◌%◌, ◌^◌, 
 use Rattle.std.specs.List.{list_all, list_any}
 use Rattle.std.specs.Str.{bytes_eq}
 use Rattle.l4_model.specs.Words.{GlobalId, Id, NilThread, GlobalThread, Period, same_id}
-use Rattle.l4_model.specs.Machine.{Declaration, Instr, Copy, Tag, Vs, Ipc, Machine, place_of}
+use Rattle.l4_model.specs.Machine.{Declaration, Instr, Copy, Tag, Vs, Ipc, End, Machine, instruction_at, place_of}
 use Rattle.l4_model.specs.Rules.{permitted}
 use Rattle.l4_words.specs.Lines.{parts_of}
 use Rattle.l4_words.specs.Threads.{thread_of}
@@ -12,16 +12,17 @@ use Rattle.l4_script.specs.Numbers.{number_of, time_from}
 use Rattle.l4_script.specs.Texts.{machine_of_text}
 use Rattle.l4_script.specs.declared.text.fault.TextFault.{TextFault}
 use Rattle.l4_lint.specs.declared.doubts.Doubt.{Doubt}
-use Rattle.l4_lint.specs.declared.doubts.Doubt.TheVariants.{NoThread, NoLimit, NotSent, NotPropagated, OtherSpace, ToItself, FromItself, NoDestination, LongTime}
+use Rattle.l4_lint.specs.declared.doubts.Doubt.TheVariants.{NoThread, NoLimit, NotSent, NotPropagated, OtherSpace, ToItself, FromItself, NoDestination, LocalId, NoSender, LongTime, Unreached, LeftOut}
 use Rattle.l4_lint.specs.declared.doubts.Mark.{Mark}
 use Rattle.l4_lint.specs.declared.hints.Operand.{Operand}
 use Rattle.l4_lint.specs.declared.hints.Operand.TheVariants as operand
-use Rattle.l4_lint.specs.Commands.{first_operand}
+use Rattle.l4_lint.specs.Commands.{first_operand, instruction_operands}
 use Rattle.l4_lint.specs.declared.doubts.Mark.TheVariants.{Always, Perhaps}
 use Rattle.l4_lint.specs.Bytes.{behind, word_of}
 use Rattle.l4_lint.specs.Faults.{faults_of}
 use Rattle.l4_lint.specs.Judging.{is_digit}
 use Rattle.l4_lint.specs.Reading.{begins_script}
+use Rattle.l4_lint.specs.Scripts.{carries, is_cut, is_unheard, is_unreached, orders_local, receives_from_local, sends_to_local}
 use Rattle.l4_lint.specs.Spelling.{faults_text, place_text}
 
 -- The line and the column of its first byte, both counted from 1, the word that stands there, and
@@ -86,21 +87,37 @@ is_own (Some d) (Some t) = same_id d.id t
 abbrev pub is_any : (word : List ℕ) → Bool
 is_any word = bytes_eq word (codes "any") || bytes_eq word (codes "anylocal")
 
-abbrev pub to_doubts : Machine → Option Declaration → (number : ℕ) → (line to : List ℕ) →
-    List Doubtful
-to_doubts m d number line to =
+-- A line of a script by its place there: the declaration of the thread, and the instruction.
+
+abbrev pub instruction_of : Option Declaration → (place : ℕ) → Instr
+instruction_of None place = End
+instruction_of (Some d) place = instruction_at d.script place
+
+abbrev pub is_last_nil : Option Declaration → (place : ℕ) → Bool
+is_last_nil None place = false
+is_last_nil (Some d) place = is_unheard d.id d.script place
+
+abbrev pub to_doubts : Machine → Option Declaration → (place number : ℕ) →
+    (line to : List ℕ) → List Doubtful
+to_doubts m d place number line to =
     id_doubts m number line to
     ++ doubted (is_own d (thread_of (word_of to))) (doubtful_at number line to ToItself)
     ++ doubted (is_any (word_of to)) (doubtful_at number line to NoDestination)
+    ++ doubted (sends_to_local (instruction_of d place)) (doubtful_at number line to LocalId)
+    ++ doubted
+    (bytes_eq (word_of to) (codes "last") && is_last_nil d place)
+    (doubtful_at number line to NoSender)
 
-abbrev pub from_doubts : Machine → Option Declaration → (number : ℕ) → (line from : List ℕ) →
-    List Doubtful
-from_doubts m d number line from =
+abbrev pub from_doubts : Machine → Option Declaration → (place number : ℕ) →
+    (line from : List ℕ) → List Doubtful
+from_doubts m d place number line from =
     id_doubts m number line from
     ++ doubted
     (is_own d (thread_of (word_of from))
     && is_endless (time_from (word_of (behind (behind from)))))
     (doubtful_at number line from FromItself)
+    ++ doubted
+    (receives_from_local (instruction_of d place)) (doubtful_at number line from LocalId)
 
 -- A time above 1023 in decimal is no number of microseconds.
 
@@ -114,14 +131,22 @@ abbrev pub time_doubts : (number : ℕ) → (line time : List ℕ) → List Doub
 time_doubts number line time =
     doubted (is_long (word_of time)) (doubtful_at number line time LongTime)
 
-abbrev pub ipc_doubts : Machine → Option Declaration → (number : ℕ) → (line to : List ℕ) →
-    List Doubtful
-ipc_doubts m d number line to =
-    to_doubts m d number line to
-    ++ from_doubts m d number line (behind to)
-    ++ answer_doubts number line to (behind (behind to))
-    ++ time_doubts number line (behind (behind to))
-    ++ time_doubts number line (behind (behind (behind to)))
+abbrev pub id_pair_doubts : Machine → Option Declaration → (place number : ℕ) →
+    (line to : List ℕ) → List Doubtful
+id_pair_doubts m d place number line to =
+    to_doubts m d place number line to ++ from_doubts m d place number line (behind to)
+
+abbrev pub limit_doubts : (number : ℕ) → (line to times : List ℕ) → List Doubtful
+limit_doubts number line to times =
+    answer_doubts number line to times
+    ++ time_doubts number line times
+    ++ time_doubts number line (behind times)
+
+abbrev pub ipc_doubts : Machine → Option Declaration → (place number : ℕ) →
+    (line to : List ℕ) → List Doubtful
+ipc_doubts m d place number line to =
+    id_pair_doubts m d place number line to
+    ++ limit_doubts number line to (behind (behind to))
 
 -- A register that is written, but neither sent by a tag of the script nor copied. A script that
 -- receives may send as many registers as its last message had.
@@ -136,9 +161,19 @@ uses register (Copy to from) = from == register
 uses register (Ipc to from send_period receive_period) = receives from
 uses register _ = false
 
-abbrev pub write_doubts : Declaration → (number : ℕ) → (line rest : List ℕ) → List Doubtful
-write_doubts d number line rest =
+-- A register that is written in front of a tag which leaves it out. No tag of the script sends it,
+-- and nothing copies it; only an answer that has the tag of the last message may send it.
+abbrev pub is_left_out : (register : ℕ) → (script : List Instr) → (place : ℕ) → Bool
+is_left_out register script place =
+    list_any (uses register) script
+    && not (list_any (carries register) script)
+    && is_cut register script place
+
+abbrev pub write_doubts : Declaration → (place number : ℕ) → (line rest : List ℕ) → List Doubtful
+write_doubts d place number line rest =
     doubted (not (list_any (uses (number_in rest)) d.script)) (doubtful_at number line rest NotSent)
+    ++ doubted
+    (is_left_out (number_in rest) d.script place) (doubtful_at number line rest LeftOut)
 
 -- A tag that asks for propagation, by bit 12, where the script receives nothing and `vs` names no
 -- thread of its address space. The message is sent as the sender's own.
@@ -171,14 +206,16 @@ is_foreign m (Some d) None = false
 is_foreign m (Some d) (Some t) =
     is_some (place_of m t) && not (is_some (permitted m d.id (GlobalThread t)))
 
-abbrev pub order_doubts : Machine → Option Declaration → (number : ℕ) → (line : List ℕ) →
-    List Doubtful
-order_doubts m d number line =
+abbrev pub order_doubts : Machine → Option Declaration → (place number : ℕ) →
+    (line : List ℕ) → List Doubtful
+order_doubts m d place number line =
     id_doubts m number line (behind line)
     ++ doubted
     (bytes_eq (word_of line) (codes "exregs")
     && is_foreign m d (thread_of (word_of (behind line))))
     (doubtful_at number line (behind line) OtherSpace)
+    ++ doubted
+    (orders_local (instruction_of d place)) (doubtful_at number line (behind line) LocalId)
 
 -- A line that writes a register names it first.
 
@@ -189,20 +226,38 @@ names_register _ = false
 abbrev pub is_write : (word : List ℕ) → Bool
 is_write word = names_register (first_operand word)
 
-abbrev pub script_doubts : Machine → Option Declaration → (number : ℕ) → (line : List ℕ) →
-    List Doubtful
-script_doubts m None number line = []
-script_doubts m (Some d) number line =
-    if is_write (word_of line) then write_doubts d number line (behind line)
+abbrev pub script_doubts : Machine → Option Declaration → (place number : ℕ) →
+    (line : List ℕ) → List Doubtful
+script_doubts m None place number line = []
+script_doubts m (Some d) place number line =
+    if is_write (word_of line) then write_doubts d place number line (behind line)
     else if bytes_eq (word_of line) (codes "tag") then tag_doubts m d number line (behind line)
     else []
 
-abbrev pub line_doubts : Machine → Option Declaration → (number : ℕ) → (line : List ℕ) →
+abbrev pub operand_doubts : Machine → Option Declaration → (place number : ℕ) →
+    (line : List ℕ) → List Doubtful
+operand_doubts m d place number line =
+    if bytes_eq (word_of line) (codes "ipc") then ipc_doubts m d place number line (behind line)
+    else if is_one_of_ids (word_of line) then order_doubts m d place number line
+    else script_doubts m d place number line
+
+abbrev pub is_instruction : (line : List ℕ) → Bool
+is_instruction line = is_some (instruction_operands (word_of line))
+
+abbrev pub is_unreached_in : Option Declaration → (place : ℕ) → Bool
+is_unreached_in None place = false
+is_unreached_in (Some d) place = is_unreached d.script place
+
+abbrev pub unreached_doubts : Option Declaration → (place number : ℕ) → (line : List ℕ) →
     List Doubtful
-line_doubts m d number line =
-    if bytes_eq (word_of line) (codes "ipc") then ipc_doubts m d number line (behind line)
-    else if is_one_of_ids (word_of line) then order_doubts m d number line
-    else script_doubts m d number line
+unreached_doubts d place number line =
+    doubted
+    (is_instruction line && is_unreached_in d place) (doubtful_at number line line Unreached)
+
+abbrev pub line_doubts : Machine → Option Declaration → (place number : ℕ) →
+    (line : List ℕ) → List Doubtful
+line_doubts m d place number line =
+    unreached_doubts d place number line ++ operand_doubts m d place number line
 
 -- The lines of a text: what stands behind the last line end of a text without a fault is empty.
 abbrev pub without_last : (parts : List (List ℕ)) → List (List ℕ)
@@ -220,16 +275,22 @@ thread_after m begun = slice_get m.threads (begun - 1)
 abbrev pub begun_behind : (begun : ℕ) → (line : List ℕ) → ℕ
 begun_behind begun line = begun + (if begins_script line then 1 else 0)
 
-abbrev pub doubts_from : Machine → (lines : List (List ℕ)) → (begun number : ℕ) → List Doubtful
-doubts_from m [] begun number = []
-doubts_from m (line ∷ lines) begun number =
-    line_doubts m (thread_after m begun) number line
-    ++ doubts_from m lines (begun_behind begun line) (number + 1)
+-- The place of the next instruction in its script.
+abbrev pub place_behind : (place : ℕ) → (line : List ℕ) → ℕ
+place_behind place line =
+    if begins_script line then 0 else place + (if is_instruction line then 1 else 0)
+
+abbrev pub doubts_from : Machine → (lines : List (List ℕ)) → (begun place number : ℕ) →
+    List Doubtful
+doubts_from m [] begun place number = []
+doubts_from m (line ∷ lines) begun place number =
+    line_doubts m (thread_after m begun) place number line
+    ++ doubts_from m lines (begun_behind begun line) (place_behind place line) (number + 1)
 
 -- All doubts of a text, in order of its lines. A text with a faulty line has none.
 abbrev pub doubts_on : Result Machine TextFault → (lines : List (List ℕ)) → List Doubtful
 doubts_on (Err fault) lines = []
-doubts_on (Ok m) lines = doubts_from m lines 0 1
+doubts_on (Ok m) lines = doubts_from m lines 0 0 1
 
 abbrev pub doubts_of : (text : List ℕ) → List Doubtful
 doubts_of text = doubts_on (machine_of_text text) (lines_of text)
@@ -241,11 +302,15 @@ marked NoThread = Always
 marked NotSent = Always
 marked NotPropagated = Always
 marked OtherSpace = Always
+marked ToItself = Always
+marked Unreached = Always
 marked NoLimit = Perhaps
-marked ToItself = Perhaps
 marked FromItself = Perhaps
 marked NoDestination = Perhaps
+marked LocalId = Perhaps
+marked NoSender = Perhaps
 marked LongTime = Perhaps
+marked LeftOut = Perhaps
 
 abbrev pub mark_word : Mark → List ℕ
 mark_word Always = codes "always"
@@ -262,10 +327,15 @@ doubt_text NotPropagated =
 doubt_text OtherSpace =
     codes "this thread is of another address space, so exregs cancels nothing of it"
 doubt_text ToItself = codes "a send to the thread itself; it can't receive it meanwhile"
+doubt_text Unreached = codes "never reached: what stands before goes elsewhere, and no jump leads here"
 doubt_text FromItself = codes "a receive from the thread itself that only a cancellation ends"
 doubt_text NoDestination = codes "no destination; the send fails with ErrorCode 4"
+doubt_text LocalId =
+    codes "a local id names nobody: a send fails with ErrorCode 4, a receive 5, an order 2"
+doubt_text NoSender = codes "nothing is received before, so last is nil: no send phase"
 doubt_text LongTime =
     codes "above 1023 this is no number of microseconds: E * 1024 + N is N * 2^E of them"
+doubt_text LeftOut = codes "the next tag sends fewer registers, and no tag of the script this one"
 
 abbrev pub doubt_line : (file : Option (List ℕ)) → Doubtful → List ℕ
 doubt_line file d =

@@ -10,5 +10,6 @@ pub mod Inner
 pub mod Judging
 pub mod Places
 pub mod Reading
+pub mod Scripts
 pub mod Spelling
 pub mod Walks

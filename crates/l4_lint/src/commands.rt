@@ -69,7 +69,7 @@ const NOTHING: &[Operand] = &[];
 
 /// The operands of the instruction of this name. None where no instruction has it.
 #[tactic(auto, unfolding(crate::specs::Commands::instruction_operands))]
-fn instruction_operands(name: &[u8]) -> Option<&'static [Operand]>
+pub(crate) fn instruction_operands(name: &[u8]) -> Option<&'static [Operand]>
     ensures { option_copied result ≡ instruction_operands name.now }
 {
     if name == SET {

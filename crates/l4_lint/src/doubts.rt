@@ -1,5 +1,5 @@
 //! What is doubtful in a text that declares a machine.
-ghost use Rattle.std.specs.Prelude.{ℕ, List, ◌≡◌, ◌≤◌, ◌++◌, length, map, IfOk, OnOk};
+ghost use Rattle.std.specs.Prelude.{ℕ, List, ◌≡◌, ◌≤◌, ◌<◌, ◌+◌, ◌^◌, ◌++◌, length, map, IfOk, OnOk};
 ghost use Rattle.std.specs.List.{list_any};
 ghost use Rattle.std.specs.Option.{option_copied};
 ghost use Rattle.std.specs.Str.{bytes_eq};
@@ -13,16 +13,22 @@ ghost use Rattle.l4_lint.specs.Doubts.{doubtful_at, doubts_from, doubts_of, id_d
 ghost use Rattle.l4_lint.specs.Doubts.{is_endless, is_no_thread, is_one_of_ids, is_write};
 ghost use Rattle.l4_lint.specs.Doubts.{line_doubts, mark_word, marked, names_originator, number_in};
 ghost use Rattle.l4_lint.specs.Doubts.{from_doubts, is_decimal, is_foreign, is_long, is_own};
-ghost use Rattle.l4_lint.specs.Doubts.{order_doubts};
+ghost use Rattle.l4_lint.specs.Doubts.{instruction_of, is_instruction, is_last_nil, is_left_out};
+ghost use Rattle.l4_lint.specs.Doubts.{id_pair_doubts, is_unreached_in, limit_doubts};
+ghost use Rattle.l4_lint.specs.Doubts.{operand_doubts, order_doubts, place_behind, unreached_doubts};
 ghost use Rattle.l4_lint.specs.Doubts.{receives, time_doubts, to_doubts};
 ghost use Rattle.l4_lint.specs.Doubts.{script_doubts, tag_doubts, thread_after, uses, write_doubts};
 ghost use Rattle.l4_lint.specs.Reading.{begins_script};
 ghost use Rattle.l4_lint.specs.Inner.Views.{doubtful_of};
 
 use crate::bytes::split_word;
-use crate::commands::first_operand;
+use crate::commands::{first_operand, instruction_operands};
 use crate::hints::Operand;
 use crate::judging::is_digit;
+use crate::scripts::{
+    instruction_at, is_carried, is_cut, is_unheard, is_unreached, orders_local,
+    receives_from_local, sends_to_local,
+};
 use crate::spelling::push_place;
 use l4_script::instructions::Instr;
 use l4_script::machine::{Declaration, Machine};
@@ -64,14 +70,24 @@ pub enum Doubt {
     /// A cancellation of a thread of another address space. No step of any history is an order of
     /// this thread to cancel what that one does.
     OtherSpace,
-    /// A thread sends to itself. It can't receive meanwhile.
+    /// A thread sends to itself. It can't receive meanwhile, and in no history it does.
     ToItself,
+    /// An instruction behind one that goes elsewhere, to which none leads. The thread never comes
+    /// to its place.
+    Unreached,
     /// A thread receives from itself without time limit. Nobody else is waited for.
     FromItself,
     /// A send to anythread or anylocalthread. These ids name no destination.
     NoDestination,
+    /// A local id. It names nobody.
+    LocalId,
+    /// A send to the last sender where the thread has received nothing. It has no send phase.
+    NoSender,
     /// A time above 1023 in decimal. It is no number of microseconds.
     LongTime,
+    /// A register is written in front of a tag that leaves it out. No tag of the script sends it,
+    /// and nothing copies it.
+    LeftOut,
 }
 
 impl Doubt {
@@ -80,14 +96,19 @@ impl Doubt {
         ensures { result ≡ marked self }
     {
         match self {
-            Doubt::NoThread | Doubt::NotSent | Doubt::NotPropagated | Doubt::OtherSpace => {
-                Mark::Always
-            }
-            Doubt::NoLimit
+            Doubt::NoThread
+            | Doubt::NotSent
+            | Doubt::NotPropagated
+            | Doubt::OtherSpace
             | Doubt::ToItself
+            | Doubt::Unreached => Mark::Always,
+            Doubt::NoLimit
             | Doubt::FromItself
             | Doubt::NoDestination
-            | Doubt::LongTime => Mark::Perhaps,
+            | Doubt::LocalId
+            | Doubt::NoSender
+            | Doubt::LongTime
+            | Doubt::LeftOut => Mark::Perhaps,
         }
     }
 }
@@ -204,10 +225,30 @@ fn is_own(declared: Option<&Declaration>, thread: Option<GlobalId>) -> bool
     }
 }
 
+// The instruction at a place of the script of a thread.
+fn instruction_of(declared: Option<&Declaration>, place: usize) -> Instr
+    ensures { instr_of result ≡ instruction_of (option_copied declared.entry) place }
+{
+    match declared {
+        Some(declared) => instruction_at(declared.script(), place),
+        None => Instr::End,
+    }
+}
+
+fn is_last_nil(declared: Option<&Declaration>, place: usize) -> bool
+    ensures { result ≡ is_last_nil (option_copied declared.entry) place }
+{
+    match declared {
+        Some(declared) => is_unheard(declared.id(), declared.script(), place),
+        None => false,
+    }
+}
+
 // Appends the doubts of whom an ipc sends to.
 fn push_to<'a>(
     machine: &Machine,
     declared: Option<&Declaration>,
+    place: usize,
     number: usize,
     line: &'a [u8],
     to: &'a [u8],
@@ -215,7 +256,7 @@ fn push_to<'a>(
 ) -> Result<(), NoMemory>
     requires { length to.now ≤ length line.now }
     ensures { OnOk result (map doubtful_of found.new.items ≡ map doubtful_of found.old.items ++
-        to_doubts machine.now (option_copied declared.entry) number line.now to.now) }
+        to_doubts machine.now (option_copied declared.entry) place number line.now to.now) }
 {
     let word = split_word(to).0;
     push_id(machine, number, line, to, found)?;
@@ -228,6 +269,16 @@ fn push_to<'a>(
         found,
         is(word, b"any") || is(word, b"anylocal"),
         doubtful_at(number, line, to, Doubt::NoDestination),
+    )?;
+    push(
+        found,
+        sends_to_local(&instruction_of(declared, place)),
+        doubtful_at(number, line, to, Doubt::LocalId),
+    )?;
+    push(
+        found,
+        is(word, b"last") && is_last_nil(declared, place),
+        doubtful_at(number, line, to, Doubt::NoSender),
     )
 }
 
@@ -235,6 +286,7 @@ fn push_to<'a>(
 fn push_from<'a>(
     machine: &Machine,
     declared: Option<&Declaration>,
+    place: usize,
     number: usize,
     line: &'a [u8],
     from: &'a [u8],
@@ -242,7 +294,7 @@ fn push_from<'a>(
 ) -> Result<(), NoMemory>
     requires { length from.now ≤ length line.now }
     ensures { OnOk result (map doubtful_of found.new.items ≡ map doubtful_of found.old.items ++
-        from_doubts machine.now (option_copied declared.entry) number line.now from.now) }
+        from_doubts machine.now (option_copied declared.entry) place number line.now from.now) }
 {
     let (word, times) = split_word(from);
     push_id(machine, number, line, from, found)?;
@@ -250,6 +302,11 @@ fn push_from<'a>(
         found,
         is_own(declared, thread(word)) && is_endless(split_word(split_word(times).1).0),
         doubtful_at(number, line, from, Doubt::FromItself),
+    )?;
+    push(
+        found,
+        receives_from_local(&instruction_of(declared, place)),
+        doubtful_at(number, line, from, Doubt::LocalId),
     )
 }
 
@@ -284,10 +341,11 @@ fn push_time<'a>(
     )
 }
 
-// Appends the doubts of an ipc.
-fn push_ipc<'a>(
+// Appends the doubts of whom an ipc sends to and receives from.
+fn push_id_pair<'a>(
     machine: &Machine,
     declared: Option<&Declaration>,
+    place: usize,
     number: usize,
     line: &'a [u8],
     to: &'a [u8],
@@ -295,15 +353,47 @@ fn push_ipc<'a>(
 ) -> Result<(), NoMemory>
     requires { length to.now ≤ length line.now }
     ensures { OnOk result (map doubtful_of found.new.items ≡ map doubtful_of found.old.items ++
-        ipc_doubts machine.now (option_copied declared.entry) number line.now to.now) }
+        id_pair_doubts machine.now (option_copied declared.entry) place number line.now to.now) }
 {
     let from = split_word(to).1;
-    let time = split_word(from).1;
-    push_to(machine, declared, number, line, to, found)?;
-    push_from(machine, declared, number, line, from, found)?;
-    push_answer(number, line, to, time, found)?;
-    push_time(number, line, time, found)?;
-    push_time(number, line, split_word(time).1, found)
+    push_to(machine, declared, place, number, line, to, found)?;
+    push_from(machine, declared, place, number, line, from, found)
+}
+
+// Appends the doubts of the times of an ipc.
+fn push_limits<'a>(
+    number: usize,
+    line: &'a [u8],
+    to: &'a [u8],
+    times: &'a [u8],
+    found: &mut Vec<Doubtful<'a>>,
+) -> Result<(), NoMemory>
+    requires { length times.now ≤ length line.now }
+    ensures { OnOk result (map doubtful_of found.new.items ≡
+        map doubtful_of found.old.items ++ limit_doubts number line.now to.now times.now) }
+{
+    push_answer(number, line, to, times, found)?;
+    push_time(number, line, times, found)?;
+    push_time(number, line, split_word(times).1, found)
+}
+
+// Appends the doubts of an ipc.
+fn push_ipc<'a>(
+    machine: &Machine,
+    declared: Option<&Declaration>,
+    place: usize,
+    number: usize,
+    line: &'a [u8],
+    to: &'a [u8],
+    found: &mut Vec<Doubtful<'a>>,
+) -> Result<(), NoMemory>
+    requires { length to.now ≤ length line.now }
+    ensures { OnOk result (map doubtful_of found.new.items ≡ map doubtful_of found.old.items ++
+        ipc_doubts machine.now (option_copied declared.entry) place number line.now to.now) }
+{
+    let times = split_word(split_word(to).1).1;
+    push_id_pair(machine, declared, place, number, line, to, found)?;
+    push_limits(number, line, to, times, found)
 }
 
 // Whether a thread is there, and is of another address space than this one.
@@ -323,12 +413,13 @@ fn is_foreign(machine: &Machine, declared: Option<&Declaration>, thread: Option<
 fn push_order<'a>(
     machine: &Machine,
     declared: Option<&Declaration>,
+    place: usize,
     number: usize,
     line: &'a [u8],
     found: &mut Vec<Doubtful<'a>>,
 ) -> Result<(), NoMemory>
     ensures { OnOk result (map doubtful_of found.new.items ≡ map doubtful_of found.old.items ++
-        order_doubts machine.now (option_copied declared.entry) number line.now) }
+        order_doubts machine.now (option_copied declared.entry) place number line.now) }
 {
     let (word, rest) = split_word(line);
     push_id(machine, number, line, rest, found)?;
@@ -338,6 +429,11 @@ fn push_order<'a>(
         found,
         is_doubted,
         doubtful_at(number, line, rest, Doubt::OtherSpace),
+    )?;
+    push(
+        found,
+        orders_local(&instruction_of(declared, place)),
+        doubtful_at(number, line, rest, Doubt::LocalId),
     )
 }
 
@@ -376,9 +472,17 @@ fn number_in(rest: &[u8]) -> u64
     number(split_word(rest).0).unwrap_or(0)
 }
 
-// Appends the doubt of a register that is written.
+// Whether a register is written in front of a tag that leaves it out, and sent by none.
+fn is_left_out(register: u64, script: &[Instr], place: usize) -> bool
+    ensures { result ≡ is_left_out register (map instr_of script.now) place }
+{
+    is_used(register, script) && !is_carried(register, script) && is_cut(register, script, place)
+}
+
+// Appends the doubts of a register that is written.
 fn push_write<'a>(
     declared: &Declaration,
+    place: usize,
     number: usize,
     line: &'a [u8],
     rest: &'a [u8],
@@ -386,13 +490,18 @@ fn push_write<'a>(
 ) -> Result<(), NoMemory>
     requires { length rest.now ≤ length line.now }
     ensures { OnOk result (map doubtful_of found.new.items ≡
-        map doubtful_of found.old.items ++ write_doubts declared.now number line.now rest.now) }
+        map doubtful_of found.old.items ++ write_doubts declared.now place number line.now rest.now) }
 {
-    let is_doubted = !is_used(number_in(rest), declared.script());
+    let register = number_in(rest);
     push(
         found,
-        is_doubted,
+        !is_used(register, declared.script()),
         doubtful_at(number, line, rest, Doubt::NotSent),
+    )?;
+    push(
+        found,
+        is_left_out(register, declared.script(), place),
+        doubtful_at(number, line, rest, Doubt::LeftOut),
     )
 }
 
@@ -462,19 +571,20 @@ fn is_write(word: &[u8]) -> bool
 fn push_of_script<'a>(
     machine: &Machine,
     declared: Option<&Declaration>,
+    place: usize,
     number: usize,
     line: &'a [u8],
     found: &mut Vec<Doubtful<'a>>,
 ) -> Result<(), NoMemory>
     ensures { OnOk result (map doubtful_of found.new.items ≡ map doubtful_of found.old.items ++
-        script_doubts machine.now (option_copied declared.entry) number line.now) }
+        script_doubts machine.now (option_copied declared.entry) place number line.now) }
 {
     let Some(declared) = declared else {
         return Ok(());
     };
     let (word, rest) = split_word(line);
     if is_write(word) {
-        return push_write(declared, number, line, rest, found);
+        return push_write(declared, place, number, line, rest, found);
     }
     if is(word, b"tag") {
         return push_tag(machine, declared, number, line, rest, found);
@@ -482,25 +592,76 @@ fn push_of_script<'a>(
     Ok(())
 }
 
-// Appends the doubts of a line.
-fn push_line<'a>(
+// Appends the doubts of the operands of a line.
+fn push_operands<'a>(
     machine: &Machine,
     declared: Option<&Declaration>,
+    place: usize,
     number: usize,
     line: &'a [u8],
     found: &mut Vec<Doubtful<'a>>,
 ) -> Result<(), NoMemory>
     ensures { OnOk result (map doubtful_of found.new.items ≡ map doubtful_of found.old.items ++
-        line_doubts machine.now (option_copied declared.entry) number line.now) }
+        operand_doubts machine.now (option_copied declared.entry) place number line.now) }
 {
     let (word, rest) = split_word(line);
     if is(word, b"ipc") {
-        return push_ipc(machine, declared, number, line, rest, found);
+        return push_ipc(machine, declared, place, number, line, rest, found);
     }
     if is_one_of_ids(word) {
-        return push_order(machine, declared, number, line, found);
+        return push_order(machine, declared, place, number, line, found);
     }
-    push_of_script(machine, declared, number, line, found)
+    push_of_script(machine, declared, place, number, line, found)
+}
+
+fn is_instruction(line: &[u8]) -> bool
+    ensures { result ≡ is_instruction line.now }
+{
+    instruction_operands(split_word(line).0).is_some()
+}
+
+fn is_unreached_in(declared: Option<&Declaration>, place: usize) -> bool
+    ensures { result ≡ is_unreached_in (option_copied declared.entry) place }
+{
+    match declared {
+        Some(declared) => is_unreached(declared.script(), place),
+        None => false,
+    }
+}
+
+// Appends the doubt of an instruction that is never reached.
+fn push_unreached<'a>(
+    declared: Option<&Declaration>,
+    place: usize,
+    number: usize,
+    line: &'a [u8],
+    found: &mut Vec<Doubtful<'a>>,
+) -> Result<(), NoMemory>
+    ensures { OnOk result (map doubtful_of found.new.items ≡ map doubtful_of found.old.items ++
+        unreached_doubts (option_copied declared.entry) place number line.now) }
+{
+    let is_doubted = is_instruction(line) && is_unreached_in(declared, place);
+    push(
+        found,
+        is_doubted,
+        doubtful_at(number, line, line, Doubt::Unreached),
+    )
+}
+
+// Appends the doubts of a line.
+fn push_line<'a>(
+    machine: &Machine,
+    declared: Option<&Declaration>,
+    place: usize,
+    number: usize,
+    line: &'a [u8],
+    found: &mut Vec<Doubtful<'a>>,
+) -> Result<(), NoMemory>
+    ensures { OnOk result (map doubtful_of found.new.items ≡ map doubtful_of found.old.items ++
+        line_doubts machine.now (option_copied declared.entry) place number line.now) }
+{
+    push_unreached(declared, place, number, line, found)?;
+    push_operands(machine, declared, place, number, line, found)
 }
 
 fn begins_script(line: &[u8]) -> bool
@@ -516,6 +677,22 @@ fn thread_after(machine: &Machine, begun: usize) -> Option<&Declaration>
     machine.threads().get(begun.saturating_sub(1))
 }
 
+// The place of the instruction behind a line.
+fn place_behind(place: usize, line: &[u8]) -> usize
+    requires { place < 2 ^ 63 }
+    ensures value { result ≡ place_behind place line.now }
+    ensures near { result ≤ place + 1 }
+{
+    if begins_script(line) {
+        return 0;
+    }
+    if is_instruction(line) {
+        place + 1
+    } else {
+        place
+    }
+}
+
 // The doubts of the text of a machine, line by line.
 fn doubts_in<'a>(
     alloc: Global,
@@ -523,21 +700,24 @@ fn doubts_in<'a>(
     text: &'a [u8],
 ) -> Result<Vec<Doubtful<'a>>, NoMemory>
     ensures { IfOk result (λ found. map doubtful_of found.items ≡
-        doubts_from machine.now (lines_of text.now) 0 1) }
+        doubts_from machine.now (lines_of text.now) 0 0 1) }
 {
     let mut found = Vec::new(alloc);
     let mut left = text;
     let mut begun = 0;
+    let mut place = 0;
     let mut before = 0;
     'lines: while let Some((line, rest)) = split_line(left) {
         push_line(
             machine,
             thread_after(machine, begun),
+            place,
             before + 1,
             line,
             &mut found,
         )?;
         begun += usize::from(begins_script(line));
+        place = place_behind(place, line);
         before += 1;
         left = rest;
     }
@@ -578,11 +758,19 @@ fn doubt_text(doubt: Doubt) -> &'static str
             "this thread is of another address space, so exregs cancels nothing of it"
         }
         Doubt::ToItself => "a send to the thread itself; it can't receive it meanwhile",
+        Doubt::Unreached => {
+            "never reached: what stands before goes elsewhere, and no jump leads here"
+        }
         Doubt::FromItself => "a receive from the thread itself that only a cancellation ends",
         Doubt::NoDestination => "no destination; the send fails with ErrorCode 4",
+        Doubt::LocalId => {
+            "a local id names nobody: a send fails with ErrorCode 4, a receive 5, an order 2"
+        }
+        Doubt::NoSender => "nothing is received before, so last is nil: no send phase",
         Doubt::LongTime => {
             "above 1023 this is no number of microseconds: E * 1024 + N is N * 2^E of them"
         }
+        Doubt::LeftOut => "the next tag sends fewer registers, and no tag of the script this one",
     }
 }
 

@@ -31,5 +31,6 @@ mod missed;
 pub mod places;
 pub mod printed;
 mod reading;
+mod scripts;
 pub mod spelling;
 mod walks;

@@ -30,20 +30,28 @@ lines-preserved c =
     ap (λ (n : ℕ). begun + n)
     (c.from-begun.ensures ∙ ap from_bool c.begins_script.ensures
     ∙ one_where_so (begins_script line)) in
-    let adds : new ≡ found ++ line_doubts m (thread_after m begun) number line =
+    let place = c.lines.place in
+    let adds : new ≡ found ++ line_doubts m (thread_after m begun) place number line =
     c.in_ok-push_line.ensures
-    ∙ ap (λ (d : Option Declaration). found ++ line_doubts m d number line)
+    ∙ ap (λ (d : Option Declaration). found ++ line_doubts m d place number line)
     c.thread_after.ensures in
+    let at = c.place_behind-place.ensures in
     let few : c.from-begun.result ≤ 1 =
     subst (λ (n : ℕ). n ≤ 1) (sym c.from-begun.ensures) (at_most_one c.begins_script.result) in
     record {
       whole =
           subst
-          (λ (n : ℕ). new ++ doubts_from m (lines_of rest) n (number + 1)
-          ≡ doubts_from m (lines_of text) 0 1)
+          (λ (n : ℕ). new ++ doubts_from m (lines_of rest) n c.place_behind-place.result (number + 1)
+          ≡ doubts_from m (lines_of text) 0 0 1)
           (sym next)
-          (one_more m begun number found new (doubts_from m (lines_of text) 0 1) line rest
-          c.lines.left.now c.in-Some.ensures.parts adds c.lines.invariant.whole);
+          (subst
+          (λ (n : ℕ). new
+          ++ doubts_from m (lines_of rest) (begun_behind begun line) n (number + 1)
+          ≡ doubts_from m (lines_of text) 0 0 1)
+          (sym at.value)
+          (one_more m begun place number found new (doubts_from m (lines_of text) 0 0 1) line rest
+          c.lines.left.now c.in-Some.ensures.parts adds c.lines.invariant.whole));
       counted = omega (arith, c.lines.invariant.counted, c.in-Some.ensures.shorter);
       few = omega (arith, c.lines.invariant.few, few);
+      within = omega (arith, c.lines.invariant.within, at.near);
     }

@@ -18,29 +18,30 @@ use Rattle.l4_jobs.specs.Inner.Reading.{IsReadAs}
 use Rattle.l4_jobs.specs.Jobs.{IsDone, IsDoneFor, IsDoneOn, IsFaultFor, IsInLinesFor, IsStatusOf, IsTrueBy, IsTrueFor, IsTrueShown, is_lint, printed_of}
 use Rattle.l4_jobs.specs.Objects.{is_retold, told}
 use Rattle.l4_jobs.specs.Outputs.{Output}
-use Rattle.l4_jobs.specs.Performing.{AreUnopened, IsKeptOut, IsLinesOut, IsPerformed, IsPerformedOn, IsTrulyDone, IsUnwritten, IsWrittenOut, Sinks, Takes, sinks}
+use Rattle.l4_jobs.specs.Performing.{AreUnopened, IsBareTold, IsKeptOut, IsLinesOut, IsPerformed, IsPerformedOn, IsTrulyDone, IsUnwritten, IsWrittenOut, Keeps, Sinks, Takes, sinks}
 use Rattle.l4_jobs.specs.Runs.{IsRunDone, report_of, status_of_ending}
 use Rattle.l4_jobs.specs.Explanations.{IsExplained, told_line}
-use Rattle.l4_jobs.specs.FaultLines.{IsReported, fault_line}
+use Rattle.l4_jobs.specs.FaultLines.{fault_line}
 use Rattle.l4_jobs.specs.Streams.{IsWrittenApart}
 use Rattle.l4_jobs.specs.declared.fault.Fault.{Fault}
 use Rattle.l4_jobs.specs.declared.fault.Fault.TheVariants as fault
+use Rattle.l4_jobs.specs.declared.fault.Reason.{Reason}
 use Rattle.l4_jobs.proofs.Statuses.{done_status}
 
 -- What is said of the records may be said in other words.
-pub performed_as : (explains : Bool) (job : Job) (machine second expects : Gives) (list other : List ℕ → Takes) (keeps others : Type 0) (out : Takes) (keeps_out : Type 0) (faults : Takes)
-    (keeps_faults : Type 0) (status : ℕ) → ((name bytes : List ℕ) (all : Bool) → list name bytes all → other name bytes all) → (keeps → others) →
+pub performed_as : (explains : Bool) (job : Job) (machine second expects : Gives) (list other : List ℕ → Keeps) (keeps others : Type 0) (out : Takes) (keeps_out : Type 0) (faults : Takes)
+    (keeps_faults : Type 0) (status : ℕ) → ((name bytes : List ℕ) (why : Option Reason) → list name bytes why → other name bytes why) → (keeps → others) →
     IsPerformed explains job machine second expects (sinks list keeps out keeps_out faults keeps_faults) status →
     IsPerformed explains job machine second expects (sinks other others out keeps_out faults keeps_faults) status
 performed_as explains job machine second expects list other keeps others out keeps_out faults keeps_faults status lists keep (inl (text, f, is, (kept, left, reported, one))) =
     inl (text, f, is, (keep kept, left, reported, one))
 performed_as explains job machine second expects list other keeps others out keeps_out faults keeps_faults status lists keep (inr (o, is, wrote)) = inr (o, is, by o.list wrote)
   where
-    by : (l : Option (List ℕ × List ℕ)) → IsKeptOut o l (sinks list keeps out keeps_out faults keeps_faults) status →
-        IsKeptOut o l (sinks other others out keeps_out faults keeps_faults) status
+    by : (l : Option (List ℕ × List ℕ)) → IsKeptOut explains o l (sinks list keeps out keeps_out faults keeps_faults) status →
+        IsKeptOut explains o l (sinks other others out keeps_out faults keeps_faults) status
     by None (kept, lines) = (keep kept, lines)
-    by (Some p) (inl (kept, lines)) = inl (lists p.0 p.1 true kept, lines)
-    by (Some p) (inr (f, named, kept, left, reported, one)) = inr (f, named, lists p.0 p.1 false kept, left, reported, one)
+    by (Some p) (inl (kept, lines)) = inl (lists p.0 p.1 None kept, lines)
+    by (Some p) (inr (why, f, named, kept, left, told, one)) = inr (why, f, named, lists p.0 p.1 (Some why) kept, left, told, one)
 
 -- Status 1, or the lines were written, and the status is that of what the job comes to.
 
@@ -49,11 +50,11 @@ of_lines : (o : Output) (out faults : Takes) (keeps : Type 0) (status : ℕ) →
 of_lines o out faults keeps status (inl (wrote, said, same)) = inr (wrote, same)
 of_lines o out faults keeps status (inr (wrote, reported, one)) = inl one
 
-of_kept : (o : Output) (l : Option (List ℕ × List ℕ)) (s : Sinks) (status : ℕ) → IsKeptOut o l s status →
+of_kept : (explains : Bool) (o : Output) (l : Option (List ℕ × List ℕ)) (s : Sinks) (status : ℕ) → IsKeptOut explains o l s status →
     (status ≡ 1) ⊎ (s.out o.lines true × (status ≡ o.status))
-of_kept o None s status (kept, lines) = of_lines o s.out s.faults s.keeps_faults status lines
-of_kept o (Some p) s status (inl (kept, lines)) = of_lines o s.out s.faults s.keeps_faults status lines
-of_kept o (Some p) s status (inr (f, named, kept, left, reported, one)) = inl one
+of_kept explains o None s status (kept, lines) = of_lines o s.out s.faults s.keeps_faults status lines
+of_kept explains o (Some p) s status (inl (kept, lines)) = of_lines o s.out s.faults s.keeps_faults status lines
+of_kept explains o (Some p) s status (inr (why, f, named, kept, left, told, one)) = inl one
 
 -- A fault that was told for what was read of a text was told for all of it.
 
@@ -73,7 +74,7 @@ same_line true file read all (fault.Expectation line wrong) same = refl
 same_line true file read all (fault.Condition line wrong) same = refl
 same_line true file read all fault.NoMemory same = refl
 same_line true file read all (fault.Read name why) same = refl
-same_line true file read all (fault.Unwritten name) same = refl
+same_line true file read all (fault.Unwritten name why) same = refl
 same_line true file read all fault.Write same = refl
 
 told_of_all : (explains : Bool) (file read all : List ℕ) (takes : Takes) (f : Fault) → IsReadAs read all → IsExplained explains file read takes f →
@@ -125,7 +126,7 @@ unopened_told opens gives explains job file f s status names unopened kept left 
 
 pub performed_status : (explains : Bool) (job : Job) (machine second expects : Gives) (s : Sinks) (status : ℕ) → IsPerformed explains job machine second expects s status → IsStatusOf job status
 performed_status explains job machine second expects s status (inl (text, f, is, (kept, left, reported, one))) = inr (inl one)
-performed_status explains job machine second expects s status (inr (o, is, wrote)) = by (of_kept o o.list s status wrote)
+performed_status explains job machine second expects s status (inr (o, is, wrote)) = by (of_kept explains o o.list s status wrote)
   where
     by : (status ≡ 1) ⊎ (s.out o.lines true × (status ≡ o.status)) → IsStatusOf job status
     by (inl one) = inr (inl one)
@@ -193,7 +194,7 @@ true_told job text second expects o is =
 pub performed_true : (explains : Bool) (job : Job) (machine second expects : Gives) (s : Sinks) (status : ℕ) → IsPerformed explains job machine second expects s status → (status ≡ 1 → ⊥) →
     IsTrulyDone job machine s.out status
 performed_true explains job machine second expects s status (inl (text, f, is, (kept, left, reported, one))) right = elim (right one) [ ]
-performed_true explains job machine second expects s status (inr (o, d, wrote)) right = by (of_kept o o.list s status wrote)
+performed_true explains job machine second expects s status (inr (o, d, wrote)) right = by (of_kept explains o o.list s status wrote)
   where
     by : (status ≡ 1) ⊎ (s.out o.lines true × (status ≡ o.status)) → IsTrulyDone job machine s.out status
     by (inl one) = elim (right one) [ ]
@@ -207,15 +208,16 @@ nothing_done explains job machine second expects s status never (inl (text, f, i
 nothing_done explains job machine second expects s status never (inr (o, is, wrote)) = elim (never o is) [ ]
 
 -- A record that was not written
-pub not_kept : (o : Output) (s : Sinks) (p : List ℕ × List ℕ) (f : Fault) (status : ℕ) → o.list ≡ Some p → IsUnwritten p.0 f → s.list p.0 p.1 false → s.keeps_out →
-    IsReported s.faults f → status ≡ 1 → IsWrittenOut o s status
-not_kept o s p f status is named kept left reported one = subst (λ l. IsKeptOut o l s status) (sym is) (inr (f, named, kept, left, reported, one))
+pub not_kept : (explains : Bool) (o : Output) (s : Sinks) (p : List ℕ × List ℕ) (why : Reason) (f : Fault) (status : ℕ) → o.list ≡ Some p → IsUnwritten p.0 why f →
+    s.list p.0 p.1 (Some why) → s.keeps_out → IsBareTold explains s.faults f → status ≡ 1 → IsWrittenOut explains o s status
+not_kept explains o s p why f status is named kept left told one =
+    subst (λ l. IsKeptOut explains o l s status) (sym is) (inr (why, f, named, kept, left, told, one))
 
 -- The files that are read, by their names
-pub apart_as : (tells : (name read : List ℕ) → (same : Bool) → Type 0) (writes : (name bytes : List ℕ) → (all : Bool) → Type 0) (file other : List ℕ)
-    (second others expects wanted : Option (List ℕ)) (name bytes : List ℕ) (all : Bool) → file ≡ other → second ≡ others → expects ≡ wanted →
-    IsWrittenApart tells writes (Some file) second expects name bytes all → IsWrittenApart tells writes (Some other) others wanted name bytes all
-apart_as tells writes file other second others expects wanted name bytes all a b c is =
-    subst (λ f. IsWrittenApart tells writes (Some f) others wanted name bytes all) a
-    (subst (λ s. IsWrittenApart tells writes (Some file) s wanted name bytes all) b
-    (subst (λ e. IsWrittenApart tells writes (Some file) second e name bytes all) c is))
+pub apart_as : (tells : (name read : List ℕ) → (same : Bool) → Type 0) (writes : (name bytes : List ℕ) → (why : Option Reason) → Type 0) (file other : List ℕ)
+    (second others expects wanted : Option (List ℕ)) (name bytes : List ℕ) (why : Option Reason) → file ≡ other → second ≡ others → expects ≡ wanted →
+    IsWrittenApart tells writes (Some file) second expects name bytes why → IsWrittenApart tells writes (Some other) others wanted name bytes why
+apart_as tells writes file other second others expects wanted name bytes why a b c is =
+    subst (λ f. IsWrittenApart tells writes (Some f) others wanted name bytes why) a
+    (subst (λ s. IsWrittenApart tells writes (Some file) s wanted name bytes why) b
+    (subst (λ e. IsWrittenApart tells writes (Some file) second e name bytes why) c is))

@@ -7,17 +7,19 @@ use Rattle.l4_jobs.specs.declared.fault.Fault.TheVariants as fault
 use Rattle.l4_jobs.specs.declared.fault.Reason.{Reason}
 use Rattle.l4_jobs.specs.declared.fault.Reason.TheVariants as reason
 
--- Why a file can't be read, as far as the system tells it.
+-- Why a file can't be read or written, as far as the system tells it.
 abbrev pub reason_text : (name : List ℕ) → Reason → List ℕ
 reason_text name reason.NoSuchFile = name ++ codes ": no such file\n"
 reason_text name reason.IsDirectory = name ++ codes ": is a directory\n"
 reason_text name reason.NotAllowed = name ++ codes ": not allowed\n"
+reason_text name reason.IsRead = name ++ codes ": is a file that is read\n"
 reason_text name reason.Untold = []
 
 -- A fault of the text in this file is explained as a lint does, with the line that it is in.
 abbrev pub explanation : (file text : List ℕ) → Fault → List ℕ
 explanation file text (fault.Text line kind) = fault_shown file text
 explanation file text (fault.Read name why) = reason_text name.now why
+explanation file text (fault.Unwritten name why) = reason_text name.now why
 explanation file text _ = []
 
 -- The line of a fault, with its explanation where that is asked for.

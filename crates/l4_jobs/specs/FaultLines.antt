@@ -45,7 +45,7 @@ fault_words (fault.Condition line wrong) =
     codes "condition line " ++ decimal line ++ codes ": " ++ wrong_word wrong
 fault_words fault.NoMemory = codes "no memory"
 fault_words (fault.Read name reason) = codes "cannot read " ++ name.now
-fault_words (fault.Unwritten name) = codes "cannot write " ++ name.now
+fault_words (fault.Unwritten name reason) = codes "cannot write " ++ name.now
 fault_words fault.Write = codes "cannot write"
 
 abbrev pub fault_line : Fault → List ℕ

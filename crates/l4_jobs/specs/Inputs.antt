@@ -17,7 +17,7 @@ abbrev pub IsRead : (name : Option (List ℕ)) → Gives → (text : List ℕ) �
 IsRead None gives text = Unit {0}
 IsRead (Some name) gives text = gives (Ok text)
 
--- Why a file can't be opened or read, by the kind of the error.
+-- Why a file can't be opened, read or written, by the kind of the error.
 abbrev pub reason_of : ErrorKind → Reason
 reason_of NotFound = reason.NoSuchFile
 reason_of IsADirectory = reason.IsDirectory

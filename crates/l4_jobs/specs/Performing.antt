@@ -12,6 +12,8 @@ use Rattle.l4_jobs.specs.Outputs.{Output}
 use Rattle.l4_jobs.specs.Streams.{GivenGives}
 use Rattle.l4_jobs.specs.declared.fault.Fault.{Fault}
 use Rattle.l4_jobs.specs.declared.fault.Fault.TheVariants as fault
+use Rattle.l4_jobs.specs.declared.fault.Reason.{Reason}
+use Rattle.l4_jobs.specs.declared.fault.Reason.TheVariants as reason
 use Rattle.l4_jobs.specs.declared.streams.Given.{Given}
 use Rattle.l4_jobs.specs.declared.streams.Given.TheVariants.{Source, Nothing}
 
@@ -19,16 +21,20 @@ use Rattle.l4_jobs.specs.declared.streams.Given.TheVariants.{Source, Nothing}
 abbrev pub Takes : Type 1
 Takes = List ℕ → Bool → Type 0
 
+-- What keeping these bytes as a record came to: why it came to nothing, if it did.
+abbrev pub Keeps : Type 1
+Keeps = List ℕ → Option Reason → Type 0
+
 -- What was written to each sink, or that it is as it was. `list` is the record of a name.
 pub record Sinks : Type 1 where
-  pub list : (name : List ℕ) → Takes
+  pub list : (name : List ℕ) → Keeps
   pub keeps_list : Type 0
   pub out : Takes
   pub keeps_out : Type 0
   pub faults : Takes
   pub keeps_faults : Type 0
 
-abbrev pub sinks : (list : List ℕ → Takes) → (keeps_list : Type 0) → (out : Takes) →
+abbrev pub sinks : (list : List ℕ → Keeps) → (keeps_list : Type 0) → (out : Takes) →
     (keeps_out : Type 0) → (faults : Takes) → (keeps_faults : Type 0) → Sinks
 sinks list keeps_list out keeps_out faults keeps_faults = record {
   list = list;
@@ -40,8 +46,8 @@ sinks list keeps_list out keeps_out faults keeps_faults = record {
 }
 
 -- No record is kept.
-abbrev pub keeps_none : List ℕ → Takes
-keeps_none name bytes all = all ≡ false
+abbrev pub keeps_none : List ℕ → Keeps
+keeps_none name bytes why = why ≡ Some reason.Untold
 
 -- A fault of a job on the text in this file was told with status 1, and nothing else was written.
 abbrev pub IsFaultTold : (explains : Bool) → (file text : List ℕ) → Fault → Sinks →
@@ -49,10 +55,16 @@ abbrev pub IsFaultTold : (explains : Bool) → (file text : List ℕ) → Fault 
 IsFaultTold explains file text f s status =
     s.keeps_list × s.keeps_out × IsExplained explains file text s.faults f × (status ≡ 1)
 
--- The fault of a file of this name that can't be written.
-abbrev pub IsUnwritten : (name : List ℕ) → Fault → Type 0
-IsUnwritten name (fault.Unwritten file) = file.now ≡ name
-IsUnwritten name _ = ⊥
+-- The fault of a file of this name that can't be written, and why.
+abbrev pub IsUnwritten : (name : List ℕ) → Reason → Fault → Type 0
+IsUnwritten name why (fault.Unwritten file told) = (file.now ≡ name) × (told ≡ why)
+IsUnwritten name why _ = ⊥
+
+-- The fault of no text was told, with what explains it where that is asked for. Or there was no memory
+-- to explain it.
+abbrev pub IsBareTold : (explains : Bool) → (takes : Takes) → Fault → Type 0
+IsBareTold explains takes f =
+    IsExplained explains [] [] takes f ⊎ IsExplained explains [] [] takes fault.NoMemory
 
 -- What is said was written to the faults once, or there is nothing to say. If the writer did not
 -- take all of it, only the status tells.
@@ -69,16 +81,18 @@ IsLinesOut o out faults keeps_faults status =
     ⊎ (out o.lines false × IsReported faults fault.Write × (status ≡ 1))
 
 -- A record is written before the lines, where there is one. If it was not taken whole, that was
--- reported with status 1, and nothing else was written.
-abbrev pub IsKeptOut : Output → Option (List ℕ × List ℕ) → Sinks → (status : ℕ) → Type 0
-IsKeptOut o None s status = s.keeps_list × IsLinesOut o s.out s.faults s.keeps_faults status
-IsKeptOut o (Some p) s status =
-    (s.list p.0 p.1 true × IsLinesOut o s.out s.faults s.keeps_faults status)
-    ⊎ ((f : Fault) × IsUnwritten p.0 f × s.list p.0 p.1 false × s.keeps_out
-    × IsReported s.faults f × (status ≡ 1))
+-- told with status 1, and nothing else was written.
+abbrev pub IsKeptOut : (explains : Bool) → Output → Option (List ℕ × List ℕ) → Sinks →
+    (status : ℕ) → Type 0
+IsKeptOut explains o None s status =
+    s.keeps_list × IsLinesOut o s.out s.faults s.keeps_faults status
+IsKeptOut explains o (Some p) s status =
+    (s.list p.0 p.1 None × IsLinesOut o s.out s.faults s.keeps_faults status)
+    ⊎ ((why : Reason) × (f : Fault) × IsUnwritten p.0 why f × s.list p.0 p.1 (Some why)
+    × s.keeps_out × IsBareTold explains s.faults f × (status ≡ 1))
 
-abbrev pub IsWrittenOut : Output → Sinks → (status : ℕ) → Type 0
-IsWrittenOut o s status = IsKeptOut o o.list s status
+abbrev pub IsWrittenOut : (explains : Bool) → Output → Sinks → (status : ℕ) → Type 0
+IsWrittenOut explains o s status = IsKeptOut explains o o.list s status
 
 -- The fault of a job whose machine text was read as this one, or could not be read.
 abbrev pub IsFaultIn : Job → (machine second expects : Gives) → (text : List ℕ) → Fault → Type 0
@@ -94,7 +108,7 @@ abbrev pub IsPerformed : (explains : Bool) → Job → (machine second expects :
 IsPerformed explains job machine second expects s status =
     ((text : List ℕ) × (f : Fault) × IsFaultIn job machine second expects text f
     × IsFaultTold explains (file_of job) text f s status)
-    ⊎ ((o : Output) × IsDone job machine second expects o × IsWrittenOut o s status)
+    ⊎ ((o : Output) × IsDone job machine second expects o × IsWrittenOut explains o s status)
 
 -- What was written to the output of a run or a replay is true of the machine that its text declares.
 abbrev pub IsTrulyDone : Job → (machine : Gives) → (out : Takes) → (status : ℕ) → Type 0

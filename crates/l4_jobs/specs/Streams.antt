@@ -4,6 +4,8 @@ use Rattle.std.specs.Io.KnownBytes.{Appends}
 use Rattle.std.specs.declared.io.ErrorKind.{ErrorKind}
 use Rattle.std.specs.declared.io.ErrorKind.TheVariants.{NotFound}
 use Rattle.l4_commands.specs.Files.{is_input}
+use Rattle.l4_jobs.specs.declared.fault.Reason.{Reason}
+use Rattle.l4_jobs.specs.declared.fault.Reason.TheVariants.{IsRead}
 use Rattle.l4_jobs.specs.declared.streams.Given.{Given}
 use Rattle.l4_jobs.specs.declared.streams.Given.TheVariants.{Source, Nothing}
 use Rattle.l4_jobs.specs.declared.streams.Opened.{Opened}
@@ -35,20 +37,21 @@ abbrev pub TellsOver : (tells_same : (name read : List ℕ) → (same : Bool) �
 TellsOver tells_same name None same = same ≡ false
 TellsOver tells_same name (Some read) same = tells_same name read same
 
--- What writing these bytes to the file of a name may come to, where up to three files that are read
--- must stay as they are: the folder told that it is none of them, and then the file was written. Or
--- it is one of them, and nothing was.
+-- What writing these bytes to the file of a name may come to, and why it came to nothing, where up
+-- to three files that are read must stay as they are: the folder told that it is none of them, and
+-- then the file was written. Or it is one of them, and nothing was.
 abbrev pub IsWrittenApart : (tells_same : (name read : List ℕ) → (same : Bool) → Type 0) →
-    (writes : (name bytes : List ℕ) → (all : Bool) → Type 0) →
-    (machine second expects : Option (List ℕ)) → (name bytes : List ℕ) → (all : Bool) → Type 0
-IsWrittenApart tells_same writes machine second expects name bytes true =
+    (writes : (name bytes : List ℕ) → (why : Option Reason) → Type 0) →
+    (machine second expects : Option (List ℕ)) → (name bytes : List ℕ) →
+    (why : Option Reason) → Type 0
+IsWrittenApart tells_same writes machine second expects name bytes None =
     TellsOver tells_same name machine false × TellsOver tells_same name second false
-    × TellsOver tells_same name expects false × writes name bytes true
-IsWrittenApart tells_same writes machine second expects name bytes false =
-    TellsOver tells_same name machine true ⊎ TellsOver tells_same name second true
-    ⊎ TellsOver tells_same name expects true
+    × TellsOver tells_same name expects false × writes name bytes None
+IsWrittenApart tells_same writes machine second expects name bytes (Some why) =
+    ((TellsOver tells_same name machine true ⊎ TellsOver tells_same name second true
+    ⊎ TellsOver tells_same name expects true) × (why ≡ IsRead))
     ⊎ (TellsOver tells_same name machine false × TellsOver tells_same name second false
-    × TellsOver tells_same name expects false × writes name bytes false)
+    × TellsOver tells_same name expects false × writes name bytes (Some why))
 
 -- The name of a file that is read, where `-` names an input: that of the input's file.
 abbrev pub name_read : (input_name name : List ℕ) → List ℕ

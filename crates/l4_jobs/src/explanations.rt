@@ -9,7 +9,7 @@ use l4_lint::excerpts::fault_shown;
 use l4_types::errors::NoMemory;
 use std::alloc::Global;
 
-// Why a file can't be read, as far as the system tells it.
+// Why a file can't be read or written, as far as the system tells it.
 fn reason_text(alloc: Global, name: &str, reason: Reason) -> Result<Vec<u8>, NoMemory>
     ensures { IfOk result (λ text. text.items ≡ reason_text name.now reason) }
 {
@@ -18,6 +18,7 @@ fn reason_text(alloc: Global, name: &str, reason: Reason) -> Result<Vec<u8>, NoM
         Reason::NoSuchFile => ": no such file\n",
         Reason::IsDirectory => ": is a directory\n",
         Reason::NotAllowed => ": not allowed\n",
+        Reason::IsRead => ": is a file that is read\n",
         Reason::Untold => return Ok(text),
     };
     text.extend_from_slice(name.as_bytes())?;
@@ -36,7 +37,9 @@ fn explanation(
 {
     match fault {
         Fault::Text { .. } => fault_shown(alloc, file, text),
-        Fault::Read(name, reason) => reason_text(alloc, name, *reason),
+        Fault::Read(name, reason) | Fault::Unwritten(name, reason) => {
+            reason_text(alloc, name, *reason)
+        }
         _ => Ok(Vec::new(alloc)),
     }
 }

@@ -80,15 +80,15 @@ pub enum Fault<'a> {
     /// This file can't be opened or read, and why.
     #[error("cannot read {0}")]
     Read(&'a str, Reason),
-    /// This file can't be written, or is one that the job reads.
+    /// This file can't be written, and why.
     #[error("cannot write {0}")]
-    Unwritten(&'a str),
+    Unwritten(&'a str, Reason),
     /// The output is closed or full.
     #[error("cannot write")]
     Write,
 }
 
-/// Why a file can't be opened or read, as far as the system tells it.
+/// Why a file can't be opened, read or written, as far as the system tells it.
 #[derive(Clone, Copy, Debug, PartialEq, Eq)]
 pub enum Reason {
     /// There is no file of this name.
@@ -97,6 +97,8 @@ pub enum Reason {
     IsDirectory,
     /// The system does not allow it.
     NotAllowed,
+    /// It is to be written, and is one that the job reads.
+    IsRead,
     /// Another error.
     Untold,
 }
@@ -268,7 +270,7 @@ fn put_fault<E: Sink>(faults: &mut E, fault: &Fault<'_>) -> Result<(), NotWritte
         }
         Fault::NoMemory => put_line(faults, "no memory", "", "", ""),
         Fault::Read(name, _) => put_line(faults, "cannot read ", "", "", name),
-        Fault::Unwritten(name) => put_line(faults, "cannot write ", "", "", name),
+        Fault::Unwritten(name, _) => put_line(faults, "cannot write ", "", "", name),
         Fault::Write => put_line(faults, "cannot write", "", "", ""),
     }
 }
@@ -300,8 +302,8 @@ pub fn report<E: Sink>(alloc: Global, faults: &mut E, fault: &Fault<'_>) -> u8
     1
 }
 
-// Why a file can't be opened or read, by the kind of the error.
-fn reason_of(kind: ErrorKind) -> Reason
+/// Why a file can't be opened, read or written, by the kind of the error.
+pub(crate) fn reason_of(kind: ErrorKind) -> Reason
     ensures { result ≡ reason_of kind }
 {
     match kind {

@@ -46,15 +46,17 @@ fn write_lines<W: Sink, E: Sink>(alloc: Global, done: &Done<'_>, out: &mut W, fa
     }
 }
 
-// Writes all that a job comes to, and returns the exit status.
+// Writes all that a job comes to, and returns the exit status. Where its record can't be written,
+// that is told, with what explains it where that is asked for.
 fn write_done<L: Records, W: Sink, E: Sink>(
     alloc: Global,
+    explains: bool,
     done: &Done<'_>,
     records: &mut L,
     out: &mut W,
     faults: &mut E,
 ) -> u8
-    ensures { IsWrittenOut (output_of done.now)
+    ensures { IsWrittenOut explains (output_of done.now)
         (sinks (L.keeps records.old records.new) (records.new ≡ records.old)
         (W.takes out.old out.new) (out.new ≡ out.old)
         (E.takes faults.old faults.new) (faults.new ≡ faults.old)) result }
@@ -64,7 +66,10 @@ fn write_done<L: Records, W: Sink, E: Sink>(
     };
     match records.keep(kept.name, kept.text.as_slice()) {
         Ok(()) => write_lines(alloc, done, out, faults),
-        Err(_) => report(alloc, faults, &Fault::Unwritten(kept.name)),
+        Err(why) => {
+            let fault = Fault::Unwritten(kept.name, why);
+            tell(alloc, explains, "", b"", faults, &fault)
+        }
     }
 }
 
@@ -105,7 +110,7 @@ fn perform_over<
     };
     let text = text.as_slice();
     match done_for_text(rt, alloc, job, text, second, expects, progress) {
-        Ok(done) => write_done(alloc, &done, records, out, faults),
+        Ok(done) => write_done(alloc, explains, &done, records, out, faults),
         Err(fault) => tell(alloc, explains, file, text, faults, &fault),
     }
 }

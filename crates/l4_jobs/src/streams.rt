@@ -1,13 +1,17 @@
 //! What a job reads from and writes to: sources, sinks, and folders that open files. Unlike those
 //! of std's readers and writers, their contracts also say when a call failed.
-ghost use Rattle.std.specs.Prelude.{◌≡◌, ◌⊎◌, ℕ, Bool, List, take, true, false, Result, Ok, Err};
+ghost use Rattle.std.specs.Prelude.{◌≡◌, ◌⊎◌, ℕ, Bool, List, take, true, false, Option, Result};
+ghost use Rattle.std.specs.Prelude.{None, Ok, Err};
 ghost use Rattle.std.specs.Prelude.{IfOk, OnErr, MatchResult, Some, flat_map};
 ghost use Rattle.std.specs.Option.{option_copied};
 ghost use Rattle.std.specs.Io.KnownBytes.{Keeps};
 ghost use Rattle.std.specs.declared.io.ErrorKind.{ErrorKind as Kind};
 ghost use Rattle.l4_jobs.specs.Streams.{GivenGives, HasAppended, IsWrittenApart, MayGive, MayTake};
 ghost use Rattle.l4_jobs.specs.Streams.{OpenedGives, OpensWithInput, TellsOver, name_read};
+ghost use Rattle.l4_jobs.specs.declared.fault.Reason.{Reason as Why};
+ghost use Rattle.l4_jobs.specs.declared.fault.Reason.TheVariants.{Untold};
 
+use crate::fault::{Reason, reason_of};
 use crate::job::INPUT;
 use arrayvec::ArrayString;
 use std::alloc::Global;
@@ -163,15 +167,15 @@ pub trait Folder {
     fn are_same(&self, name: &str, read: &str) -> bool
         ensures { tells_same self.now name.now read.now result };
 
-    // What writing these bytes to the file of this name may do. `all` says whether all of them were
-    // written.
-    ghost writes: { Self → (name bytes : List ℕ) → (all : Bool) → Type 0 };
+    // What writing these bytes to the file of this name may do. `why` says why not all of them were
+    // written, if so.
+    ghost writes: { Self → (name bytes : List ℕ) → (why : Option Why) → Type 0 };
 
     /// Writes the file of this name. Where there is none, there is one only when it has all of the
     /// bytes. Else it is emptied, and then written.
-    fn write(&self, name: &str, bytes: &[u8]) -> Result<(), NotWritten>
-        ensures { MatchResult result (λ _. writes self.now name.now bytes.now true)
-            (λ _. writes self.now name.now bytes.now false) };
+    fn write(&self, name: &str, bytes: &[u8]) -> Result<(), Reason>
+        ensures { MatchResult result (λ _. writes self.now name.now bytes.now None)
+            (λ why. writes self.now name.now bytes.now (Some why)) };
 }
 
 /// What was opened: a file, or an input that needs no opening.
@@ -266,22 +270,23 @@ impl<F: Folder, I: Source + Copy + Drop> Folder for WithInput<'_, F, I> {
         self.folder.are_same(name, read)
     }
 
-    ghost writes = { λ s name bytes all. F.writes s.folder.now name bytes all };
+    ghost writes = { λ s name bytes why. F.writes s.folder.now name bytes why };
 
-    fn write(&self, name: &str, bytes: &[u8]) -> Result<(), NotWritten> {
+    fn write(&self, name: &str, bytes: &[u8]) -> Result<(), Reason> {
         self.folder.write(name, bytes)
     }
 }
 
 /// Where the records of runs are kept, by their names.
 pub trait Records {
-    // What keeping this text under this name may do. `all` says whether all of it was written.
-    ghost keeps: { (old new : Self) → (name bytes : List ℕ) → (all : Bool) → Type 0 };
+    // What keeping this text under this name may do. `why` says why not all of it was written, if
+    // so.
+    ghost keeps: { (old new : Self) → (name bytes : List ℕ) → (why : Option Why) → Type 0 };
 
     /// Keeps a record.
-    fn keep(&mut self, name: &str, text: &[u8]) -> Result<(), NotWritten>
-        ensures { MatchResult result (λ _. keeps self.old self.new name.now text.now true)
-            (λ _. keeps self.old self.new name.now text.now false) };
+    fn keep(&mut self, name: &str, text: &[u8]) -> Result<(), Reason>
+        ensures { MatchResult result (λ _. keeps self.old self.new name.now text.now None)
+            (λ why. keeps self.old self.new name.now text.now (Some why)) };
 }
 
 /// The records are files of a folder. None is written over a file that is read.
@@ -311,20 +316,20 @@ impl<F: Folder> InFolder<'_, F> {
 }
 
 impl<F: Folder> Records for InFolder<'_, F> {
-    ghost keeps = { λ old new name bytes all.
+    ghost keeps = { λ old new name bytes why.
         IsWrittenApart (F.tells_same old.folder.now) (F.writes old.folder.now)
         (Some old.file.now) (option_copied old.second) (option_copied old.expects)
-        name bytes all };
+        name bytes why };
 
-    fn keep(&mut self, name: &str, text: &[u8]) -> Result<(), NotWritten> {
+    fn keep(&mut self, name: &str, text: &[u8]) -> Result<(), Reason> {
         if self.is_over(name, Some(self.file)) {
-            return Err(NotWritten);
+            return Err(Reason::IsRead);
         }
         if self.is_over(name, self.second) {
-            return Err(NotWritten);
+            return Err(Reason::IsRead);
         }
         if self.is_over(name, self.expects) {
-            return Err(NotWritten);
+            return Err(Reason::IsRead);
         }
         self.folder.write(name, text)
     }
@@ -335,10 +340,10 @@ impl<F: Folder> Records for InFolder<'_, F> {
 pub struct NoRecords;
 
 impl Records for NoRecords {
-    ghost keeps = { λ old new name bytes all. all ≡ false };
+    ghost keeps = { λ old new name bytes why. why ≡ Some Untold };
 
-    fn keep(&mut self, _name: &str, _text: &[u8]) -> Result<(), NotWritten> {
-        Err(NotWritten)
+    fn keep(&mut self, _name: &str, _text: &[u8]) -> Result<(), Reason> {
+        Err(Reason::Untold)
     }
 }
 
@@ -384,7 +389,7 @@ fn put_in_place<R: Files>(
     name: &str,
     part: Part<R::File>,
     bytes: &[u8],
-) -> Result<(), NotWritten> {
+) -> Result<(), Reason> {
     let Part {
         name: part,
         mut file,
@@ -395,14 +400,14 @@ fn put_in_place<R: Files>(
     }
     // Where this fails too, a part is left.
     let _ = fs::remove_file(files, part.as_str());
-    Err(NotWritten)
+    Err(Reason::Untold)
 }
 
 // Empties the file of this name, and writes it where it is.
-fn overwrite<R: Files>(files: &R, name: &str, bytes: &[u8]) -> Result<(), NotWritten> {
+fn overwrite<R: Files>(files: &R, name: &str, bytes: &[u8]) -> Result<(), Reason> {
     match fs::create(files, name) {
-        Ok(mut file) => file.put(bytes),
-        Err(_) => Err(NotWritten),
+        Ok(mut file) => file.put(bytes).map_err(|_| Reason::Untold),
+        Err(error) => Err(reason_of(error.kind())),
     }
 }
 
@@ -432,9 +437,9 @@ impl<R: Files> Folder for R {
         are_one_file(self, name, read).unwrap_or(false)
     }
 
-    ghost writes = { λ s name bytes all. Unit {0} };
+    ghost writes = { λ s name bytes why. Unit {0} };
 
-    fn write(&self, name: &str, bytes: &[u8]) -> Result<(), NotWritten> {
+    fn write(&self, name: &str, bytes: &[u8]) -> Result<(), Reason> {
         if !is_free(self, name) {
             return overwrite(self, name, bytes);
         }

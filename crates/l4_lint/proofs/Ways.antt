@@ -1,9 +1,9 @@
 -- What stands before an instruction, and behind it, as the code goes through a script.
-use Rattle.std.proofs.Common.{◌≡◌, ℕ, zero, suc, ◌+◌, ◌<◌, Bool, true, false, Option, List, [], ◌∷◌, drop, length, map, refl, ap, sym, ◌∙◌, arith}
+use Rattle.std.proofs.Common.{◌≡◌, ℕ, zero, suc, ◌+◌, ◌-◌, ◌<◌, ◌≤◌, Bool, true, false, Option, List, [], ◌∷◌, drop, take, length, map, refl, ap, sym, ◌∙◌, arith}
 use Rattle.std.specs.Prelude.{not, ◌&&◌, nat_lt}
 use Rattle.std.specs.List.{list_any}
 use Rattle.std.proofs.lemmas.Bool.{lt-ltb}
-use Rattle.std.proofs.lemmas.List.{length-map}
+use Rattle.std.proofs.lemmas.List.{length-drop, length-map, take_all}
 use Rattle.l4_model.specs.Words.{GlobalId}
 use Rattle.l4_model.specs.Machine.{Instr, instruction_at}
 use Rattle.l4_script.specs.Inner.Calls.{Call}
@@ -43,9 +43,11 @@ map_drop f zero xs = refl
 map_drop f (suc n) [] = refl
 map_drop f (suc n) (x ∷ xs) = map_drop f n xs
 
-pub cut_by : (register place : ℕ) (script : List GivenInstr) (tag : Option ℕ) → place < length script → tag ≡ next_tag (map instr_of (drop (place + 1) script)) →
+pub cut_by : (register place : ℕ) (script : List GivenInstr) (tag : Option ℕ) → place < length script → tag ≡ next_tag (map instr_of (take (length script - (place + 1)) (drop (place + 1) script))) →
     is_shorter register tag ≡ is_cut register (map instr_of script) place
 cut_by register place script tag inside is =
     let within : nat_lt place (length (map instr_of script)) ≡ true = lt-ltb _ _ (omega (arith, inside, length-map script instr_of)) in
-    ap (is_shorter register) (is ∙ ap next_tag (map_drop instr_of (place + 1) script))
+    let all : take (length script - (place + 1)) (drop (place + 1) script) ≡ drop (place + 1) script =
+    take_all (length script - (place + 1)) (drop (place + 1) script) (omega (arith, length-drop (place + 1) script)) in
+    ap (is_shorter register) (is ∙ ap (λ (xs : List GivenInstr). next_tag (map instr_of xs)) all ∙ ap next_tag (map_drop instr_of (place + 1) script))
     ∙ ap (λ (b : Bool). b && is_shorter register (next_tag (drop (place + 1) (map instr_of script)))) (sym within)

@@ -14,7 +14,7 @@ import endings
 from second import expectations, machines, plain, randoms
 
 SEED = 20_261_129
-KINDS = (randoms.Conflicts, randoms.HandingOn, randoms.General, randoms.HandingOn)
+KINDS = (randoms.Conflicts, randoms.HandingOn, randoms.General, randoms.HandingOn, randoms.Serving)
 DEPTH = 60
 MOST_WORLDS = 2_000
 # So many worlds may the search of every step find.

@@ -14,7 +14,7 @@ from second import explained, machines, model, randoms, reasons, traces
 
 SEED = 20_261_126
 SPOILT = 6
-KINDS = (randoms.General, randoms.HandingOn, randoms.Conflicts, randoms.HandingOn)
+KINDS = (randoms.General, randoms.HandingOn, randoms.Conflicts, randoms.HandingOn, randoms.Serving)
 
 
 def answer(machine, history):

@@ -20,7 +20,7 @@ from second.expectations import split_lines
 from second.invariants import Condition, LeftOut
 
 SEED = 20_261_129
-KINDS = (randoms.GoingRound, randoms.GoingRound, randoms.Conflicts, randoms.GoingRound, randoms.GoingRound, randoms.HandingOn, randoms.GoingRound, randoms.General)
+KINDS = (randoms.GoingRound, randoms.GoingRound, randoms.Conflicts, randoms.GoingRound, randoms.GoingRound, randoms.HandingOn, randoms.GoingRound, randoms.General, randoms.Serving)
 DEPTH, MOST_WORLDS = 1_000, 2_000
 # So many worlds may the search of every step find.
 MOST_PLAIN = 300

@@ -18,7 +18,7 @@ import endings
 from second import randoms
 
 SEED = 20_261_127
-KINDS = (randoms.General, randoms.HandingOn, randoms.Conflicts, randoms.HandingOn)
+KINDS = (randoms.General, randoms.HandingOn, randoms.Conflicts, randoms.HandingOn, randoms.Serving)
 DEPTH = 40
 MOST_STATES = 2_000
 LINES = ("waiting ..", "waiting 1.1#* *", "thread 1.1 ended ..", "thread * receiving ..", "thread 2.1 sending 0 * * *", "thread 1.1 * ..", "ending quiet")

@@ -16,7 +16,7 @@ SEED = 20_261_125
 QUIET, FAULT, SPENT, UNMET = 0, 1, 3, 4
 FAULTS = "l4run: "
 # Half of all machines are of profile 2, and hand messages on.
-KINDS = (randoms.General, randoms.HandingOn, randoms.Conflicts, randoms.HandingOn)
+KINDS = (randoms.General, randoms.HandingOn, randoms.Conflicts, randoms.HandingOn, randoms.Serving)
 
 
 class Case:

@@ -15,7 +15,7 @@ import endings
 from second import machines, model, plain, randoms, traces, worlds
 
 SEED = 20_261_130
-KINDS = (randoms.GoingRound, randoms.GoingRound, randoms.Conflicts, randoms.GoingRound, randoms.GoingRound, randoms.HandingOn, randoms.GoingRound, randoms.General)
+KINDS = (randoms.GoingRound, randoms.GoingRound, randoms.Conflicts, randoms.GoingRound, randoms.GoingRound, randoms.HandingOn, randoms.GoingRound, randoms.General, randoms.Serving)
 # In place of a program: the two ways are compared with each other alone.
 NO_PROGRAM = "none"
 DEPTH, MOST_WORLDS = 1_000, 1_000

@@ -15,7 +15,7 @@ from second.processors import OwnTurn, TakeLetter, Tick
 from second.searches import Walk
 
 SEED = 20_261_128
-KINDS = (randoms.Conflicts, randoms.HandingOn, randoms.General, randoms.HandingOn)
+KINDS = (randoms.Conflicts, randoms.HandingOn, randoms.General, randoms.HandingOn, randoms.Serving)
 DEPTH = 60
 MOST_WORLDS = 1_000
 WALKS = 2

@@ -177,19 +177,25 @@ class Editor {
     // The words of a line in their colours, that of a mark underlined.
     static coloured(text, mark) {
         if (text.startsWith(";")) return [el("i", { className: `comment${mark ? ` under ${Editor.tone(mark)}` : ""}`, textContent: text })];
+        const [, said, comment] = /^([^;]*)(.*)$/.exec(text);
         let column = 1;
-        const words = text.split(" ").flatMap((word, place) => {
+        let isFirst = true;
+        const words = said.split(" ").flatMap((word, place) => {
             const isMarked = mark && mark.column >= column && mark.column < column + Math.max(1, word.length);
             column += word.length + 1;
-            const kind = Editor.kind(word, place);
+            const kind = Editor.kind(word, isFirst);
+            if (word && kind !== "label") isFirst = false;
             const made = el("i", { className: isMarked ? `${kind} under ${Editor.tone(mark)}` : kind, textContent: word });
             return place ? [" ", made] : [made];
         });
-        return mark && mark.column >= column ? [...words, el("i", { className: `under ${Editor.tone(mark)}`, textContent: "\u00a0" })] : words;
+        const behind = comment && [el("i", { className: "comment", textContent: comment })];
+        return mark && mark.column >= column ? [...words, el("i", { className: `under ${Editor.tone(mark)}`, textContent: "\u00a0" }), ...behind] : [...words, ...behind];
     }
-    static kind(word, place) {
-        if (place === 0) return word === "thread" ? "head" : "key";
-        if (/^\d+\.\d+$|^#/.test(word)) return "id";
-        return /^(never|zero|nil|any|anylocal|last|cpu|space)$/.test(word) ? "name" : "value";
+    // A word that begins a line may have a name in front of it (version 2).
+    static kind(word, isFirst) {
+        if (isFirst && word.endsWith(":")) return "label";
+        if (isFirst) return /^(thread|name)$/.test(word) ? "head" : "key";
+        if (/^\d+\.\d+$|^#|^mr\d+$/.test(word)) return "id";
+        return /^(never|zero|nil|any|anylocal|last|cpu|space|as|to)$/.test(word) ? "name" : "value";
     }
 }

@@ -44,27 +44,54 @@ function placesOf(machine, told) {
     return [...lines].map(([id, line]) => ({ id, line }));
 }
 
-// Processors, and threads with their scripts by lines. A text with a fault is read as far as it goes.
+// Processors, and threads with their scripts by lines. A text with a fault is read as far as it goes. Names of version 2 are left out: ids stand for
+// those of ids, places of the script for those of its instructions.
 function machineOf(text) {
-    const machine = { cpus: 0, threads: [], byId: new Map() };
+    const machine = { cpus: 0, bits: 64, threads: [], byId: new Map() };
+    const names = new Map();
     text.split("\n").forEach((line, place) => {
-        if (!line || line.startsWith(";")) return;
-        const words = line.split(" ");
-        if (words[0] === "cpus") {
-            machine.cpus = Number(words[1]) || 0;
-        } else if (words[0] === "thread") {
-            const thread = { id: words[1], cpu: Number(words[3]), space: words[5], line: place + 1, script: [] };
-            machine.threads.push(thread);
-            machine.byId.set(thread.id, thread);
-        } else if (machine.threads.length) {
-            machine.threads.at(-1).script.push({ line: place + 1, words });
-        }
+        const { label, words } = saidOf(line);
+        const script = machine.threads.at(-1)?.script;
+        if (label && script) script.labels.set(label, script.length);
+        const [word] = words;
+        if (word === "l4") machine.bits = Number(words[2]) || 64;
+        else if (word === "cpus") machine.cpus = Number(words[1]) || 0;
+        else if (word === "name") names.set(words[1], names.get(words[2]) ?? words[2]);
+        else if (word === "thread") addThreads(machine, words.map((it) => names.get(it) ?? it), place + 1);
+        else if (word && script) script.push({ line: place + 1, words: words.map((it, at) => (at && names.get(it)) || it) });
     });
+    for (const { script } of machine.threads) for (const { words } of script) words.push(...placed(script.labels, words.pop()));
     return machine;
 }
+const placed = (labels, word) => [labels.has(word) ? `${labels.get(word)}` : word];
 
-// How long a finite time is, in microseconds: ten bits times two to the power of the next five. Of other words it is 0.
+// What a line says: the name of an instruction in front of it, without blanks around and comments behind.
+function saidOf(line) {
+    const said = line.split(";")[0].trim();
+    const [, label, rest] = /^(\S*):(?:\s+(.*))?$/.exec(said) ?? [undefined, undefined, said];
+    return { label, words: rest ? rest.split(" ") : [] };
+}
+
+// The threads of a line: one, or those of many numbers.
+function addThreads(machine, words, line) {
+    const [, last] = words[2] === "to" ? words.splice(2, 2) : [];
+    const [, first = "", , cpu, , space, , source] = words;
+    const script = machine.byId.get(source)?.script ?? Object.assign([], { labels: new Map() });
+    for (const id of last ? idsBetween(first, last) : [first]) {
+        const thread = { id, cpu: Number(cpu), space, line, script };
+        machine.threads.push(thread);
+        machine.byId.set(id, thread);
+    }
+}
+function idsBetween(first, last) {
+    const [[number, version], [end]] = [first, last].map((id) => id.split(".").map(Number));
+    return Array.from({ length: Math.min(1024, Math.max(0, end - number + 1)) }, (_, more) => `${number + more}.${version}`);
+}
+
+// How long a finite time is, in microseconds: so many of them, or ten bits times two to the power of the next five. Of other words it is 0.
 function periodOf(time) {
+    const counted = /^(\d+)(us|ms|s)$/.exec(time);
+    if (counted) return Number(counted[1]) * { us: 1, ms: 1000, s: 1000000 }[counted[2]];
     const word = Number(time) || 0;
     return word === 1024 ? 0 : (word & 1023) * 2 ** ((word >> 10) & 31);
 }

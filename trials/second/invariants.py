@@ -103,7 +103,7 @@ def written(world, step):
 
 def written_by(instruction):
     match instruction:
-        case machines.Set() | machines.Copy() | machines.Add() | machines.Tag():
+        case machines.Set() | machines.Copy() | machines.Add() | machines.From() | machines.Tag():
             return {Part.REGISTERS}
         case machines.Virtual():
             return {Part.SENDERS}

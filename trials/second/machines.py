@@ -14,6 +14,18 @@ NAMED_IDS = {"nil": words.NIL, "any": words.ANY, "anylocal": words.ANY_LOCAL}
 HEXADECIMAL = "0x"
 HEXADECIMAL_BASE = 16
 COMMENT = ";"
+# What a register begins with in the place of an id, and what ends the name of an instruction.
+REGISTER = "mr"
+LABEL_END = ":"
+# So many microseconds, by what a time ends with.
+UNITS = {"us": 1, "ms": 1000, "s": 1000000}
+
+
+@dataclasses.dataclass(frozen=True)
+class InRegister:
+    """Stands for the id whose word this message register has."""
+
+    register: int
 
 
 @dataclasses.dataclass(frozen=True)
@@ -35,6 +47,13 @@ class Add:
 
 
 @dataclasses.dataclass(frozen=True)
+class From:
+    """Writes the word of the sender that was last received from."""
+
+    register: int
+
+
+@dataclasses.dataclass(frozen=True)
 class Tag:
     word: int
 
@@ -43,15 +62,15 @@ class Tag:
 class Virtual:
     """Writes VirtualSender, which is one register with ActualSender."""
 
-    thread: int
+    thread: int | str | InRegister
 
 
 @dataclasses.dataclass(frozen=True)
 class Ipc:
-    """The destination is an id, or LAST for the sender that was last received from."""
+    """The destination and the source are ids, LAST for the sender that was last received from, or in registers."""
 
-    to: int | str
-    source: int
+    to: int | str | InRegister
+    source: int | str | InRegister
     send_period: int | None
     receive_period: int | None
 
@@ -60,7 +79,7 @@ class Ipc:
 class Order:
     """An ExchangeRegisters with these bits, or a deletion."""
 
-    target: int
+    target: int | str | InRegister
     what: str
 
 
@@ -71,6 +90,25 @@ class Jump:
 
 @dataclasses.dataclass(frozen=True)
 class OnError:
+    place: int
+
+
+@dataclasses.dataclass(frozen=True)
+class OnLabel:
+    label: int
+    place: int
+
+
+@dataclasses.dataclass(frozen=True)
+class OnWord:
+    register: int
+    word: int
+    place: int
+
+
+@dataclasses.dataclass(frozen=True)
+class OnFrom:
+    thread: int
     place: int
 
 
@@ -116,62 +154,130 @@ def number(word):
     return int(word, HEXADECIMAL_BASE) if word.startswith(HEXADECIMAL) else int(word)
 
 
-def identifier(word, form):
-    if word in NAMED_IDS:
-        return NAMED_IDS[word]
-    if word.startswith(RAW_ID):
-        return form.identifier(int(word.removeprefix(RAW_ID), HEXADECIMAL_BASE))
-    thread_number, version = word.split(".")
-    return words.global_id(int(thread_number), int(version))
+class Reader:
+    """What a text has said so far: its format, its names, and those of the instructions of the last script. The words of version 2 have their meaning only
+    where the first line asks for it, which in lawful texts makes no difference."""
+
+    def __init__(self, form):
+        self.format = form
+        self.names = {}
+
+    def identifier(self, word):
+        if word in self.names:
+            return self.names[word]
+        if word in NAMED_IDS:
+            return NAMED_IDS[word]
+        if word.startswith(RAW_ID):
+            return self.format.identifier(int(word.removeprefix(RAW_ID), HEXADECIMAL_BASE))
+        thread_number, version = word.split(".")
+        return words.global_id(int(thread_number), int(version))
+
+    def operand(self, word):
+        """An id, or where it is from."""
+        if word == LAST:
+            return LAST
+        if word.startswith(REGISTER) and word.removeprefix(REGISTER).isdecimal():
+            return InRegister(int(word.removeprefix(REGISTER)))
+        return self.identifier(word)
+
+    def instruction(self, line, place):
+        """The instruction of a line. A function tells which place is meant by a number or a name."""
+        match line.split():
+            case "set", register, word:
+                return Set(number(register), number(word))
+            case "copy", register, source:
+                return Copy(number(register), number(source))
+            case "add", register, word:
+                return Add(number(register), number(word))
+            case "from", register:
+                return From(number(register))
+            case "tag", word:
+                return Tag(number(word))
+            case "vs", thread:
+                return Virtual(self.operand(thread))
+            case "ipc", to, source, send, receive:
+                return Ipc(self.operand(to), self.operand(source), period(send), period(receive))
+            case "exregs", target, bits:
+                return Order(self.operand(target), bits)
+            case "delete", target:
+                return Order(self.operand(target), DELETE)
+            case "jump", target:
+                return Jump(place(target))
+            case "onerr", target:
+                return OnError(place(target))
+            case "onlabel", label, target:
+                return OnLabel(number(label), place(target))
+            case "onword", register, word, target:
+                return OnWord(number(register), number(word), place(target))
+            case "onfrom", thread, target:
+                return OnFrom(self.identifier(thread), place(target))
+            case ["end"]:
+                return End()
+        raise ValueError(line)
+
+    def script(self, lines):
+        """The script of these lines, of which each may begin with a name."""
+        labels, said = {}, []
+        for line in lines:
+            first, _, others = line.partition(" ")
+            if first.endswith(LABEL_END):
+                labels[first.removesuffix(LABEL_END)] = len(said)
+                line = others.strip()
+            if line:
+                said.append(line)
+        return [self.instruction(line, lambda word: labels[word] if word in labels else number(word)) for line in said]
 
 
 def period(word):
     if word == NEVER:
         return None
+    for unit, ticks in UNITS.items():
+        if word.endswith(unit) and word.removesuffix(unit).isdecimal():
+            return int(word.removesuffix(unit)) * ticks
     return 0 if word == ZERO else words.period(number(word))
 
 
-def instruction(line, form):
-    match line.split():
-        case "set", register, word:
-            return Set(number(register), number(word))
-        case "copy", register, source:
-            return Copy(number(register), number(source))
-        case "add", register, word:
-            return Add(number(register), number(word))
-        case "tag", word:
-            return Tag(number(word))
-        case "vs", thread:
-            return Virtual(identifier(thread, form))
-        case "ipc", to, source, send, receive:
-            return Ipc(to if to == LAST else identifier(to, form), identifier(source, form), period(send), period(receive))
-        case "exregs", target, bits:
-            return Order(identifier(target, form), bits)
-        case "delete", target:
-            return Order(identifier(target, form), DELETE)
-        case "jump", place:
-            return Jump(number(place))
-        case "onerr", place:
-            return OnError(number(place))
-        case ["end"]:
-            return End()
-    raise ValueError(line)
+def said(text):
+    """What the lines of a text say, without comments and what else is skipped."""
+    lines = (line.partition(COMMENT)[0].strip() for line in text.splitlines())
+    return [line for line in lines if line]
+
+
+def named(instruction, id_from):
+    """An instruction with the ids that it names, by a function of an id or of where it is from."""
+    match instruction:
+        case Virtual(thread):
+            return Virtual(id_from(thread))
+        case Ipc(to, source, send, receive):
+            return Ipc(id_from(to), id_from(source), send, receive)
+        case Order(target, what):
+            return Order(id_from(target), what)
+    return instruction
 
 
 def read(text):
     """The machine of a text."""
-    lines = [line for line in text.splitlines() if line and not line.startswith(COMMENT)]
-    first, cpus, *declared = lines
-    _, profile, bits = first.split()
-    form = words.FORMATS[number(bits)]
-    machine = Machine(number(profile), form, number(cpus.split()[1]), {})
-    script = []
+    first, cpus, *declared = said(text)
+    _, profile, bits = first.split()[:3]
+    machine = Machine(number(profile), words.FORMATS[number(bits)], number(cpus.split()[1]), {})
+    reader = Reader(machine.format)
+    parts = []
     for line in declared:
         match line.split():
-            case "thread", thread, "cpu", cpu, "space", space:
-                script = []
-                thread = identifier(thread, form)
-                machine.threads[thread] = Declaration(thread, number(cpu), number(space), script)
+            case "name", name, thread:
+                reader.names[name] = reader.identifier(thread)
+            case "thread", *_:
+                parts.append((line, []))
             case _:
-                script.append(instruction(line, form))
+                parts[-1][1].append(line)
+    for line, script in parts:
+        match line.split():
+            case _, first, "to", last, _, cpu, _, space, _, source:
+                first, last = reader.identifier(first), reader.identifier(last)
+            case _, first, _, cpu, _, space, *others:
+                first = last = reader.identifier(first)
+                source = others[1] if others else None
+        instructions = machine.threads[reader.identifier(source)].script if source else reader.script(script)
+        for thread in range(first, last + 1, words.global_id(1, 0)):
+            machine.threads[thread] = Declaration(thread, number(cpu), number(space), instructions)
     return machine

@@ -209,7 +209,7 @@ class World:
         member = self.member(thread)
         ipc = member.context.instruction()
         need(member.phase is Phase.READY and member.alive and isinstance(ipc, machines.Ipc))
-        return member, ipc, member.context.destination(ipc)
+        return member, ipc, ipc.to
 
     def do_begin(self, name):
         member, _, destination = self.ready_ipc(name.thread)

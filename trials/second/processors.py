@@ -378,7 +378,7 @@ class Processor:
         match context.instruction():
             case machines.Order(target, what):
                 self.order(block, target, what)
-            case machines.Ipc() as ipc if context.destination(ipc) == words.NIL:
+            case machines.Ipc() as ipc if ipc.to == words.NIL:
                 self.tell("wait", block.thread)
                 context.place += 1
                 self.begin_receive(block, ipc.source, ipc.receive_period)

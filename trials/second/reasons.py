@@ -54,7 +54,7 @@ def of_begin(world, name):
     context = world.members[name.thread].context
     yield name.number == context.begun + 1, f"NotNext {context.begun}"
     ipc = context.instruction()
-    yield isinstance(ipc, machines.Ipc) and context.destination(ipc) != words.NIL, "NoSendPhase"
+    yield isinstance(ipc, machines.Ipc) and ipc.to != words.NIL, "NoSendPhase"
 
 
 def of_queue(world, name):
@@ -84,7 +84,7 @@ def of_wait(world, thread):
     yield from of_ready(world, thread)
     context = world.members[thread].context
     ipc = context.instruction()
-    is_ipc = isinstance(ipc, machines.Ipc) and context.destination(ipc) == words.NIL
+    is_ipc = isinstance(ipc, machines.Ipc) and ipc.to == words.NIL
     yield is_ipc and ipc.source != words.NIL, "NoReceivePhase"
 
 

@@ -12,8 +12,8 @@ def places_behind(instruction, place):
             return ()
         case machines.Jump(target):
             return (target,)
-        case machines.OnError(target):
-            return place + 1, target
+        case machines.OnError() | machines.OnLabel() | machines.OnWord() | machines.OnFrom():
+            return place + 1, instruction.place
     return (place + 1,)
 
 
@@ -44,11 +44,18 @@ class Sets:
 
     def aim_of(self, instruction):
         match instruction:
-            case machines.Ipc(to=machines.LAST):
-                return {machines.LAST}
-            case machines.Ipc(to=thread) | machines.Order(target=thread):
-                return {self.home(thread)} - {None}
+            case machines.Ipc(to=operand) | machines.Order(target=operand):
+                return self.named_by(operand)
         return set()
+
+    def named_by(self, operand):
+        """What a register has may be any id."""
+        match operand:
+            case machines.LAST:
+                return {machines.LAST}
+            case machines.InRegister():
+                return set(range(self.machine.cpus))
+        return {self.home(operand)} - {None}
 
     def home(self, thread):
         return self.machine.cpu(thread) if thread in self.machine.threads else None

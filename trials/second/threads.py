@@ -77,25 +77,39 @@ class Context:
         self.begun = 0
 
     def instruction(self):
-        return self.declaration.instruction(self.place)
+        """The instruction at hand, with the ids that it names as the registers are now."""
+        return machines.named(self.declaration.instruction(self.place), self.id_from)
 
-    def destination(self, ipc):
-        return self.last if ipc.to == machines.LAST else ipc.to
+    def id_from(self, operand):
+        match operand:
+            case machines.LAST:
+                return self.last
+            case machines.InRegister(register):
+                return self.format.identifier(self.registers[register])
+        return operand
+
+    def branches(self, instruction):
+        """Whether an instruction goes on at the place that it names."""
+        match instruction:
+            case machines.Jump():
+                return True
+            case machines.OnError():
+                return bool(self.error)
+            case machines.OnLabel(label, _):
+                return self.registers[0] >> words.LABEL_SHIFT == label
+            case machines.OnWord(register, word, _):
+                return self.registers[register] == word
+            case machines.OnFrom(thread, _):
+                return self.last == thread
+        return False
 
     def run(self):
         """Runs an instruction that concerns nobody else. Answers whether the script has ended."""
         instruction = self.instruction()
-        match instruction:
-            case machines.End():
-                return True
-            case machines.Jump(place):
-                self.place = place
-                return False
-            case machines.OnError(place) if self.error:
-                self.place = place
-                return False
+        if isinstance(instruction, machines.End):
+            return True
         self.take(instruction)
-        self.place += 1
+        self.place = instruction.place if self.branches(instruction) else self.place + 1
         return False
 
     def take(self, instruction):
@@ -107,6 +121,8 @@ class Context:
                 self.registers[register] = self.registers[source]
             case machines.Add(register, word):
                 self.registers[register] = self.registers[register] + word & self.format.mask
+            case machines.From(register):
+                self.registers[register] = self.format.word(self.last)
             case machines.Tag(word):
                 self.registers[0] = word
             case machines.Virtual(thread):
@@ -148,7 +164,7 @@ def begin(machine, context, clock):
     propagated = bool(tag & words.PROPAGATED) and originator in machine.threads and machine.space(originator) == space
     send = Send(
         name=Name(context.thread, context.begun + 1),
-        destination=context.destination(ipc),
+        destination=ipc.to,
         label=tag >> words.LABEL_SHIFT,
         message=tuple(context.registers[1 : (tag & words.COUNT_MASK) + 1]),
         propagated=propagated,
@@ -195,7 +211,7 @@ def concerns_nobody_else(machine, context):
     """Whether the instruction that a thread is at has no phase and makes no order."""
     match context.instruction():
         case machines.Ipc() as ipc:
-            return context.destination(ipc) == words.NIL and ipc.source == words.NIL
+            return ipc.to == words.NIL and ipc.source == words.NIL
         case machines.Order() as order:
             return not is_admitted(machine, context, order)
     return True

@@ -124,7 +124,7 @@ def own_step(world, thread, member):
         return "local", thread
     if isinstance(instruction, machines.Order):
         return "order", thread, instruction.target, instruction.what
-    if context.destination(instruction) == words.NIL:
+    if instruction.to == words.NIL:
         return "wait", thread
     return "begin", Name(thread, context.begun + 1)
 
@@ -196,12 +196,17 @@ def deletes(instruction, thread):
     return orders(instruction, thread) and instruction.what == machines.DELETE
 
 
+def may_be(operand, thread):
+    """What a register has may be any id."""
+    return operand in (thread, machines.LAST) or isinstance(operand, machines.InRegister)
+
+
 def orders(instruction, thread):
-    return isinstance(instruction, machines.Order) and instruction.target == thread
+    return isinstance(instruction, machines.Order) and may_be(instruction.target, thread)
 
 
 def tries(instruction, thread):
-    return isinstance(instruction, machines.Ipc) and instruction.send_period == 0 and instruction.to in (thread, machines.LAST)
+    return isinstance(instruction, machines.Ipc) and instruction.send_period == 0 and may_be(instruction.to, thread)
 
 
 def may_ask_to_propagate(instruction):
@@ -209,7 +214,7 @@ def may_ask_to_propagate(instruction):
     match instruction:
         case machines.Tag(word):
             return bool(word & words.PROPAGATED)
-        case machines.Set(register, _) | machines.Copy(register, _) | machines.Add(register, _):
+        case machines.Set(register, _) | machines.Copy(register, _) | machines.Add(register, _) | machines.From(register):
             return register == 0
     return False
 

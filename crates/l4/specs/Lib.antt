@@ -6,6 +6,7 @@ pub use Rattle.l4_model.specs.World
 pub use Rattle.l4_types.specs.ReportView
 pub use Rattle.l4_types.specs.StepView
 pub use Rattle.l4_script.specs.Texts
+pub use Rattle.l4_script.specs.Versions
 pub use Rattle.l4_machine.specs.Entries
 pub use Rattle.l4_machine.specs.Outcomes
 pub use Rattle.l4_audit.specs.Audits

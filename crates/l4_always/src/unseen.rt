@@ -24,13 +24,19 @@ fn writes_any(parts: &Parts, instr: &Instr) -> bool
         | Instr::Copy(_, _)
         | Instr::Add(_, _)
         | Instr::ShortAdd(_, _)
+        | Instr::From(_)
+        | Instr::ShortFrom(_)
         | Instr::Tag(_) => parts.has(Part::Registers),
         Instr::Vs(_) => parts.has(Part::Senders),
         Instr::Ipc(_) => {
             parts.has(Part::Code) || parts.has(Part::Senders) || parts.has(Part::Registers)
         }
         Instr::Order(_, _) => parts.has(Part::Code),
-        Instr::Jump(_) | Instr::OnErr(_) => false,
+        Instr::Jump(_)
+        | Instr::OnErr(_)
+        | Instr::OnLabel(_, _)
+        | Instr::OnWord(_, _, _)
+        | Instr::OnFrom(_, _) => false,
         Instr::End => parts.has(Part::State),
     }
 }

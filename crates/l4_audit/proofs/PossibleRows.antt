@@ -1,7 +1,7 @@
 -- Worked rows: what is possible behind these steps.
 use Rattle.std.specs.Prelude.{ℕ, ◌≡◌, Option, Some, None, List, [], ◌∷◌, option_map, refl}
 use Rattle.l4_model.specs.Words.{GlobalId, NilThread, AnyThread, GlobalThread, global_id}
-use Rattle.l4_model.specs.Machine.{Instr, Declaration, Machine, ToId, CancelSend, Tag, Ipc, Ask, machine_of}
+use Rattle.l4_model.specs.Machine.{Instr, Declaration, Machine, Fixed, CancelSend, Tag, Ipc, Ask, machine_of}
 use Rattle.l4_model.specs.World.{Name}
 use Rattle.l4_model.specs.Steps.{Step, Local, Begin, Queue, Deliver, Wait, SendTimeout, SendCancel, Order, Obey, Tick}
 use Rattle.l4_model.specs.History.{reached}
@@ -23,8 +23,8 @@ behind m h = option_map (possible m) (reached m h)
 abbrev talking : Machine
 talking =
     machine_of 1 (
-    declared 1 (Tag 0x70001 ∷ Ipc (ToId (GlobalThread (thread 2))) NilThread None None ∷ [])
-    ∷ declared 2 (Ipc (ToId NilThread) AnyThread None None ∷ []) ∷ [])
+    declared 1 (Tag 0x70001 ∷ Ipc (Fixed (GlobalThread (thread 2))) (Fixed NilThread) None None ∷ [])
+    ∷ declared 2 (Ipc (Fixed NilThread) (Fixed AnyThread) None None ∷ []) ∷ [])
 
 each_in_order : behind talking [] ≡ Some (Local (thread 1) ∷ Wait (thread 2) ∷ [])
 each_in_order = refl
@@ -41,8 +41,8 @@ delivered_then = refl
 abbrev cancelling : Machine
 cancelling =
     machine_of 1 (
-    declared 1 (Ipc (ToId (GlobalThread (thread 2))) NilThread (Some 5) None ∷ [])
-    ∷ declared 2 (Ask (GlobalThread (thread 1)) CancelSend ∷ []) ∷ [])
+    declared 1 (Ipc (Fixed (GlobalThread (thread 2))) (Fixed NilThread) (Some 5) None ∷ [])
+    ∷ declared 2 (Ask (Fixed (GlobalThread (thread 1))) CancelSend ∷ []) ∷ [])
 
 several_of_one :
     behind cancelling (Begin (first_of 1) ∷ Queue (first_of 1) ∷ Order (thread 2) (thread 1) CancelSend ∷ Obey (thread 2) ∷ Tick 0 5 ∷ [])

@@ -8,7 +8,7 @@ use Rattle.std.proofs.lemmas.Option.{slice_get-map, get_or_from_slice_get}
 use Rattle.l4_model.specs.Words.{Id, NilThread, AnyThread, AnyLocalThread, LocalThread, GlobalThread, GlobalId, global_id, Period}
 use Rattle.l4_model.specs.Machine.{Machine, Declaration, Instr, Run, Ipc, Ask, End}
 use Rattle.l4_model.specs.World.{Thread, Send, Receive, Owed, World, Name, change, changed}
-use Rattle.l4_model.specs.Rules.{Act, RunsAlone, Sends, Receives, Orders, act, ipc_act, destination, receive_phase}
+use Rattle.l4_model.specs.Rules.{Act, RunsAlone, Sends, Receives, Orders, act, ipc_act, id_from, receive_phase}
 use Rattle.l4_model.specs.Effects.{begins, waits}
 use Rattle.l4_model.specs.Conditions.{Found, found, act_of, instruction}
 use Rattle.l4_model.specs.Steps.{Begin, Wait, send_of, receive_of, after_begin, after_wait}
@@ -173,7 +173,7 @@ no_send_at m t i e has asks = by i (subst (λ j. is_some (receive_of (act m t.de
 
     by : {P : Type 0} (i : Instr) → is_some (receive_of (act m t.declared.id t.clock t.now.context i)) ≡ true → asks_to_send t.now.context i ≡ true → P
     by (Run own) h a = cc
-    by (Ipc to from send_period receive_period) h a = by_id (destination t.now.context to) send_period (receive_phase from receive_period) h a
+    by (Ipc to from send_period receive_period) h a = by_id (id_from t.now.context to) send_period (receive_phase (id_from t.now.context from) receive_period) h a
     by (Ask target what) h a = cc
     by End h a = cc
 

@@ -5,18 +5,18 @@ ghost use Rattle.l4_model.specs.Machine.{Machine, declaration_of, same_cpu, most
 ghost use Rattle.l4_model.specs.World.{is_ready, is_deleted, receive_now};
 ghost use Rattle.l4_model.specs.Conditions.{instruction, act_of, may_still_accept, call_accepts};
 ghost use Rattle.l4_model.specs.Conditions.{is_elsewhere};
-ghost use Rattle.l4_model.specs.Rules.{accepts, destination, ask_act};
+ghost use Rattle.l4_model.specs.Rules.{accepts, id_from, ask_act};
 ghost use Rattle.l4_model.specs.Steps.{runs_alone, send_of, receive_of, order_of, receive_passed};
 ghost use Rattle.l4_types.specs.StepView.{order_kind_of};
 ghost use Rattle.l4_audit.specs.Inner.Delivering.{IsFound};
 ghost use Rattle.l4_audit.specs.Inner.Phases.{has_phase};
 ghost use Rattle.l4_audit.specs.Reasons.{state_in};
-ghost use Rattle.l4_script.specs.Inner.Scripts.{instr_of, to_of};
+ghost use Rattle.l4_script.specs.Inner.Scripts.{id_from_of, instr_of};
 ghost use Rattle.l4_thread.specs.Inner.Ipcs.{may_show};
 ghost use Rattle.l4_thread.specs.Inner.Requests.{is_end, propagates};
 
 use crate::periods::has_passed;
-use l4_script::instructions::{Instr, Ipc, To};
+use l4_script::instructions::{IdFrom, Instr, Ipc};
 use l4_script::machine::{Declaration, MOST_INSTRUCTIONS, Machine};
 use l4_thread::orders::PendingOrder;
 use l4_thread::sends::{Receive, SendRef};
@@ -122,20 +122,17 @@ impl<'a> Found<'a> {
         ensures within { is_end (instr_of result) ≡ false →
             self.now.now.context.place < most_instructions }
     {
-        self.declared
-            .instruction(self.tcb.thread().place())
-            .copied()
-            .unwrap_or(Instr::End)
+        match self.declared.instruction(self.tcb.thread().place()) {
+            Some(instr) => *instr,
+            None => Instr::End,
+        }
     }
 
-    // Where an Ipc of it sends to.
-    fn destination(&self, to: To) -> ThreadId
-        ensures { result ≡ destination self.now.now.context (to_of to) }
+    // The id that its instruction names.
+    fn id_from(&self, from: IdFrom) -> ThreadId
+        ensures { result ≡ id_from self.now.now.context (id_from_of from) }
     {
-        match to {
-            To::Id(id) => id,
-            To::Last => self.tcb.thread().regs().from,
-        }
+        self.tcb.thread().id_from(from)
     }
 
     /// Whether it may show the originator that its VirtualSender names.
@@ -159,7 +156,9 @@ impl<'a> Found<'a> {
     {
         match self.instruction() {
             Instr::Ipc(ipc) => !self.has_phase(&ipc),
-            Instr::Order(target, what) => self.admitted(machine, target, what).is_none(),
+            Instr::Order(target, what) => {
+                self.admitted(machine, self.id_from(target), what).is_none()
+            }
             _ => true,
         }
     }
@@ -167,9 +166,10 @@ impl<'a> Found<'a> {
     // Whether an Ipc of it has a phase.
     fn has_phase(&self, ipc: &Ipc) -> bool
         ensures { result ≡
-            has_phase (destination self.now.now.context (to_of ipc.now.to)) ipc.now.from }
+            has_phase (id_from self.now.now.context (id_from_of ipc.now.to))
+            (id_from self.now.now.context (id_from_of ipc.now.from)) }
     {
-        self.destination(ipc.to()) != ThreadId::NIL || ipc.from() != ThreadId::NIL
+        self.id_from(ipc.to()) != ThreadId::NIL || self.id_from(ipc.from()) != ThreadId::NIL
     }
 
     /// Whether its instruction begins a send phase.
@@ -177,7 +177,7 @@ impl<'a> Found<'a> {
         ensures { (m : Machine) → result ≡ is_some (send_of (act_of m self.now)) }
     {
         match self.instruction() {
-            Instr::Ipc(ipc) => self.destination(ipc.to()) != ThreadId::NIL,
+            Instr::Ipc(ipc) => self.id_from(ipc.to()) != ThreadId::NIL,
             _ => false,
         }
     }
@@ -188,7 +188,7 @@ impl<'a> Found<'a> {
     {
         match self.instruction() {
             Instr::Ipc(ipc) => {
-                self.destination(ipc.to()) == ThreadId::NIL && ipc.from() != ThreadId::NIL
+                self.id_from(ipc.to()) == ThreadId::NIL && self.id_from(ipc.from()) != ThreadId::NIL
             }
             _ => false,
         }
@@ -206,7 +206,7 @@ impl<'a> Found<'a> {
         ensures { result ≡ order_of (act_of machine.now self.now) }
     {
         match self.instruction() {
-            Instr::Order(target, what) => self.admitted(machine, target, what),
+            Instr::Order(target, what) => self.admitted(machine, self.id_from(target), what),
             _ => None,
         }
     }

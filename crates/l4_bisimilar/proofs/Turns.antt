@@ -3,7 +3,7 @@ use Rattle.std.proofs.Common.{◌≡◌, ℕ, Bool, true, false, Option, Some, N
 use Rattle.std.specs.Prelude.{find, is_some, nat_lt, slice_get, slice_index_or}
 use Rattle.std.specs.Option.{option_map}
 use Rattle.l4_model.specs.Options.{if_some}
-use Rattle.l4_model.specs.Rules.{Act, Sends, act, ipc_act, request, destination, receive_phase, receive_timeout_code, receive_nobody_code, receive_cancelled_code}
+use Rattle.l4_model.specs.Rules.{Act, Sends, act, ipc_act, request, id_from, receive_phase, receive_timeout_code, receive_nobody_code, receive_cancelled_code}
 use Rattle.l4_model.specs.Words.{clock_limit, GlobalId, Id, NilThread, AnyThread, AnyLocalThread, LocalThread, GlobalThread, Period}
 use Rattle.l4_model.specs.Machine.{Instr, Run, Ipc, Ask, End, Machine, instruction_at, place_of}
 use Rattle.l4_model.specs.World.{Context, Owed, Receive, Thread, is_deleted, receive_now}
@@ -205,7 +205,7 @@ module _ (w : Way) (m : Machine) (cpu : ℕ) where
       bare_act w (act m id now c i)
       ≡ bare_act w (act m id then (record c { begun = w.count c.begun }) i)
   ask_like id now then c (Ipc to from send_period receive_period) e =
-      ipc_like id now then c (destination c to) send_period (receive_phase from receive_period) e
+      ipc_like id now then c (id_from c to) send_period (receive_phase (id_from c from) receive_period) e
   ask_like id now then c (Run own) e = refl
   ask_like id now then c (Ask target what) e = refl
   ask_like id now then c End e = refl

@@ -7,12 +7,13 @@ use l4_script::text::TextFaultKind;
 use std::alloc::{AllocError, Global};
 use std::io;
 
-const KINDS: [TextFaultKind; 11] = [
+const KINDS: [TextFaultKind; 12] = [
     TextFaultKind::TooLong,
     TextFaultKind::NoMemory,
     TextFaultKind::BadLine,
     TextFaultKind::BadNumber,
     TextFaultKind::BadId,
+    TextFaultKind::BadName,
     TextFaultKind::BadCpu,
     TextFaultKind::TypedItems,
     TextFaultKind::DoubleId,

@@ -3,9 +3,10 @@ use Rattle.std.specs.Prelude.{ℕ, ◌-◌, Option, List, [], option_and_then, s
 use Rattle.std.specs.Option.{option_map}
 use Rattle.l4_json.specs.Lines.{all_but_last}
 use Rattle.l4_json.specs.Scripts.{script_lines}
+use Rattle.l4_script.specs.Second.Lines.{said_in, without_return}
 use Rattle.l4_words.specs.Lines.{parts_of}
 
--- An instruction, as it stands in its text.
+-- An instruction, as what its line says.
 pub record Instruction : Type 0 where
   -- the number of its line, counted from 1
   pub line : ℕ
@@ -20,7 +21,10 @@ abbrev pub listing_of : (text : List ℕ) → Listing
 listing_of text = record { lines = all_but_last (parts_of text); scripts = script_lines text }
 
 abbrev pub instruction_on : Listing → (line : ℕ) → Instruction
-instruction_on l line = record { line = line; text = slice_index_or l.lines (line - 1) [] }
+instruction_on l line = record {
+  line = line;
+  text = said_in (without_return (slice_index_or l.lines (line - 1) []));
+}
 
 -- The instruction at this place of the script of this thread, both counted from 0.
 abbrev pub instruction_at : Listing → (thread place : ℕ) → Option Instruction

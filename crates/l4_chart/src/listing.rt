@@ -5,6 +5,7 @@ ghost use Rattle.l4_words.specs.Lines.{parts_of};
 ghost use Rattle.l4_chart.specs.Listings.{instruction_at, listing_of};
 
 use l4_json::scripts::ScriptLines;
+use l4_script::text::second::said_part;
 use l4_types::errors::NoMemory;
 use l4_words::lines::split_line;
 use std::alloc::Global;
@@ -15,7 +16,7 @@ use std::marker::Model;
 pub struct Instruction<'t> {
     /// The number of its line, counted from 1.
     pub line: u64,
-    /// That line, without its end.
+    /// What that line says.
     pub text: &'t [u8],
 }
 
@@ -89,7 +90,7 @@ impl<'t> Listing<'t> {
         let line = self.scripts.line(thread, place)?;
         Some(Instruction {
             line,
-            text: line_of(self.lines.as_slice(), line),
+            text: said_part(line_of(self.lines.as_slice(), line)),
         })
     }
 }

@@ -2,7 +2,7 @@
 
 /// The version of the program and of the kit that proves it, and the profiles and formats that it
 /// reads.
-pub const VERSION: &str = "0.42
+pub const VERSION: &str = "0.43
 rattle-kit-13f logic dac8208d650f15bf
 profiles 1 and 2, words of 64 and 32 bits";
 
@@ -185,9 +185,9 @@ of the kind stands
 that, `--schedule
 LIST` tells each faulty item of a list for this machine, with status 1.
 
-Kinds: BadLine, BadNumber, BadId, BadCpu, TypedItems, DoubleId, TooManyThreads, \
-TooManyInstructions, BadTarget,
-TooLong. docs/FORMATS.md tells what each of them is.";
+Kinds: BadLine, BadNumber, BadId, BadName, BadCpu, TypedItems, DoubleId, TooManyThreads, \
+TooManyInstructions,
+BadTarget, TooLong. docs/FORMATS.md tells what each of them is.";
 
 pub const TWO_FORMS: &str =
     "error: only one of '--ascii', '--svg', '--html' and '--mermaid' can be given

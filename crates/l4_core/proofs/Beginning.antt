@@ -3,7 +3,7 @@ use Rattle.std.proofs.Common.{◌≡◌, ℕ, ◌<◌, Bool, true, false, cond, 
 use Rattle.l4_model.specs.Words.{GlobalId, Id, NilThread, AnyThread, AnyLocalThread, LocalThread, GlobalThread}
 use Rattle.l4_model.specs.Machine.{Machine, Instr, Run, Ipc, Ask, End}
 use Rattle.l4_model.specs.World.{Context, Receive, Send, Thread, opening_thread}
-use Rattle.l4_model.specs.Rules.{Act, RunsAlone, Sends, Receives, Orders, act, ask_act, destination, ipc_act, is_admitted, receive_phase, request}
+use Rattle.l4_model.specs.Rules.{Act, RunsAlone, Sends, Receives, Orders, act, ask_act, id_from, ipc_act, is_admitted, receive_phase, request}
 use Rattle.l4_model.specs.Conditions.{act_of, instruction}
 use Rattle.l4_model.specs.Effects.{begins}
 use Rattle.l4_model.specs.Steps as steps
@@ -45,7 +45,7 @@ new_sender p q i a core hand is began =
 
 -- Where a send goes that an instruction begins.
 pub goes_to_partner : (m : Machine) (t : GlobalId) (now : ℕ) (c : Context) (instr : Instr) (send : Send) → act m t now c instr ≡ Sends send → partner_of m c instr ≡ destination_place m send.to
-goes_to_partner m t now c (Ipc to from send_period receive_period) send e = by (destination c to) (receive_phase from receive_period) e
+goes_to_partner m t now c (Ipc to from send_period receive_period) send e = by (id_from c to) (receive_phase (id_from c from) receive_period) e
   where
     by : (id : Id) (receive : Option Receive) → ipc_act m t now c id send_period receive ≡ Sends send → destination_place m id ≡ destination_place m send.to
     by NilThread None e = cc
@@ -54,7 +54,7 @@ goes_to_partner m t now c (Ipc to from send_period receive_period) send e = by (
     by AnyLocalThread receive e = let same : request m t now c AnyLocalThread send_period receive ≡ send = cc in ap (λ (s : Send). destination_place m s.to) same
     by (LocalThread word) receive e = let same : request m t now c (LocalThread word) send_period receive ≡ send = cc in ap (λ (s : Send). destination_place m s.to) same
     by (GlobalThread id) receive e = let same : request m t now c (GlobalThread id) send_period receive ≡ send = cc in ap (λ (s : Send). destination_place m s.to) same
-goes_to_partner m t now c (Ask target what) send e = by target e
+goes_to_partner m t now c (Ask target what) send e = by (id_from c target) e
   where
     asks : (target : GlobalId) (admitted : Bool) → cond admitted (Orders (record { target = target; what = what })) RunsAlone ≡ Sends send → None ≡ destination_place m send.to
     asks target true e = cc

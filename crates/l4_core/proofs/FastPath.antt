@@ -9,7 +9,7 @@ use Rattle.l4_model.specs.Words.{GlobalId, Id, NilThread, AnyThread, AnyLocalThr
 use Rattle.l4_model.specs.Machine as model
 use Rattle.l4_model.specs.Machine.{Machine, is_place}
 use Rattle.l4_model.specs.World.{Context, Message, Name, Receive, Send, Owed, Phase, Ready, Sending, Receiving, Ordering, Ended, Deleted, Thread, changed, opening_thread, is_alive, is_deleted, receive_now}
-use Rattle.l4_model.specs.Rules.{Sends, accepts, act, destination, ipc_act, is_cross, message_of, owed_by, permitted, receive_phase, received_tag, register, request, takes}
+use Rattle.l4_model.specs.Rules.{Sends, accepts, act, id_from, ipc_act, is_cross, message_of, owed_by, permitted, receive_phase, received_tag, register, request, takes}
 use Rattle.l4_model.specs.Conditions.{Found, act_of, instruction, is_zero, may_still_accept}
 use Rattle.l4_model.specs.Effects.{begins, decided, goes_on, receives}
 use Rattle.l4_model.specs.Steps.{Begin, Deliver, Queue, Step}
@@ -397,20 +397,20 @@ sent_steps d t =
     (sym (ap (λ (ss : List Step). ss ++ seen.delivered d ∷ []) (append_assoc t.steps (Begin d.name ∷ []) (Queue d.name ∷ []))
     ∙ append_assoc t.steps (Begin d.name ∷ Queue d.name ∷ []) (seen.delivered d ∷ []))) less
 
-pub fast_does : (p q u : Processor) (r i : ℕ) (before after : EventBuffer) (d : DeliveryRef) (tag : ℕ) (to : model.To) (from : Id) (send_period receive_period : Period) →
-    AreCore p → IsOwnOf p r → IsAtHand p i → model.Ipc to from send_period receive_period ≡ instruction (held p.machine p.local i) → fast_receiver p.machine p.cpu p.local i (destination (thread p.local i).context to) ≡ Some r →
+pub fast_does : (p q u : Processor) (r i : ℕ) (before after : EventBuffer) (d : DeliveryRef) (tag : ℕ) (to from : model.IdFrom) (send_period receive_period : Period) →
+    AreCore p → IsOwnOf p r → IsAtHand p i → model.Ipc to from send_period receive_period ≡ instruction (held p.machine p.local i) → fast_receiver p.machine p.cpu p.local i (id_from (thread p.local i).context to) ≡ Some r →
     d.name ≡ next_name p.machine p.local i → d.receiver ≡ (declared p.machine r).id → d.message ≡ outgoing (declared p.machine i).id (thread p.local i) → d.cross ≡ false → tag ≡ received_tag d.cross d.message →
     after ≡ with_sent d before →
     q ≡ with_local p (comes_to r (receives (outgoing (declared p.machine i).id (thread p.local i)) tag) p.local) →
-    u ≡ with_local q (comes_to i (passes (receive_phase from receive_period) q.local.clock) q.local) →
+    u ≡ with_local q (comes_to i (passes (receive_phase (id_from (thread q.local i).context from) receive_period) q.local.clock) q.local) →
     Does (acts p.machine p.cpu i (act_of p.machine (held p.machine p.local i))) p u before after
 fast_does p q u r i before after d tag to from send_period receive_period core own hand instr fast named goes carries crossing tagged tells passed went =
     let m : Machine = p.machine in
     let l : Local = p.local in
     let c : Context = (thread l i).context in
     let id : GlobalId = (declared m i).id in
-    let there : Id = destination c to in
-    let receive : Option Receive = receive_phase from receive_period in
+    let there : Id = id_from c to in
+    let receive : Option Receive = receive_phase (id_from c from) receive_period in
     let send : Send = request m id l.clock c there send_period receive in
     let message : Message = message_of m id c in
     let takes = takes_it m p.cpu l r i there fast in
@@ -447,7 +447,9 @@ fast_does p q u r i before after d tag to from send_period receive_period core o
     let arrived : q ≡ with_local p (comes_to r (receives message whole) l) =
     passed ∙ ap (λ n. with_local p (comes_to r (receives n tag) l)) sent ∙ ap (λ t. with_local p (comes_to r (receives message t) l)) tag_is in
     let gone : u ≡ with_local p (comes_to i (passes receive l.clock) (comes_to r (receives message whole) l)) =
-    went ∙ ap (λ (x : Processor). with_local x (comes_to i (passes receive x.local.clock) x.local)) arrived in
+    went
+    ∙ ap (λ (t : Thread). with_local q (comes_to i (passes (receive_phase (id_from t.context from) receive_period) q.local.clock) q.local)) (same_sender p q r i (outgoing id (thread l i)) tag apart passed)
+    ∙ ap (λ (x : Processor). with_local x (comes_to i (passes receive x.local.clock) x.local)) arrived in
     let does_it : acts m p.cpu i (act_of m (held m l i)) (work l before) ≡ passes_fast m r i message whole receive (work l before) =
     ap (λ j. acts m p.cpu i (act m id l.clock c j) (work l before)) (sym instr)
     ∙ ap (λ a. acts m p.cpu i a (work l before)) (sends_there m id l.clock c there send_period receive r takes.goes)

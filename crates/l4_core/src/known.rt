@@ -7,10 +7,10 @@ ghost use Rattle.l4_model.specs.Machine.{End, place_of, is_place, same_space, mo
 ghost use Rattle.l4_model.specs.Machine.{most_threads, most_instructions};
 ghost use Rattle.l4_model.specs.World.{Send, is_deleted, opening_thread, receive_now};
 ghost use Rattle.l4_model.specs.Conditions.{instruction};
-ghost use Rattle.l4_model.specs.Rules.{accepts, ask_act, originator};
+ghost use Rattle.l4_model.specs.Rules.{accepts, ask_act, id_from, originator};
 ghost use Rattle.l4_model.specs.Words.{period_limit};
 ghost use Rattle.l4_types.specs.StepView.{order_kind_of};
-ghost use Rattle.l4_script.specs.Inner.Scripts.{instr_of};
+ghost use Rattle.l4_script.specs.Inner.Scripts.{id_from_of, instr_of};
 ghost use Rattle.l4_core.specs.Inner.Asking.{admitted_act};
 ghost use Rattle.l4_core_model.specs.Plain.{due_block, is_queued};
 ghost use Rattle.l4_core_model.specs.Local.{declared, held, is_own, last_name, opening_local};
@@ -22,7 +22,7 @@ ghost use Rattle.l4_core.specs.Inner.Opening.{lists_below, opening_lists};
 ghost use Rattle.l4_core.specs.Inner.Parts.{kept_of, threads_of, ids_of, AreCore};
 ghost use Rattle.l4_core.specs.Inner.Turning.{IsSender};
 
-use l4_script::instructions::Instr;
+use l4_script::instructions::{IdFrom, Instr};
 use l4_script::machine::{Declaration, Machine};
 use l4_thread::sends::{Receive, SendRef};
 use l4_thread::tcb::Tcb;
@@ -355,6 +355,14 @@ impl<'m> ProcessorState<'m> {
             Some(receive) => self.lists.first_accepted(receiver, &receive.from()) == Some(sender),
             None => false,
         }
+    }
+
+    /// The id that an instruction of a thread names now.
+    pub(crate) fn named(&self, place: usize, from: IdFrom) -> ThreadId
+        requires { place < length self.now.machine.threads }
+        ensures { result ≡ id_from (thread self.now.local place).context (id_from_of from) }
+    {
+        self.tcb(place).thread().id_from(from)
     }
 
     /// The target of an order, if the order is admitted: a declared thread, for a cancellation one

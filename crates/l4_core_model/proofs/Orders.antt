@@ -8,7 +8,7 @@ use Rattle.std.proofs.lemmas.Option.{slice_get_past}
 use Rattle.l4_model.specs.Words.{GlobalId, Id, NilThread, AnyThread, AnyLocalThread, LocalThread, GlobalThread, same_id, Period}
 use Rattle.l4_model.specs.Machine.{OrderKind, CancelSend, CancelReceive, CancelBoth, Delete, Instr, Run, Ipc, Ask, End, Declaration, Machine, place_of, declaration_of, is_declared, same_space, agree}
 use Rattle.l4_model.specs.World.{Context, Receive, PendingOrder}
-use Rattle.l4_model.specs.Rules.{RunsAlone, Orders, act, ipc_act, ask_act, is_admitted, receive_phase, destination}
+use Rattle.l4_model.specs.Rules.{RunsAlone, Orders, act, ipc_act, ask_act, is_admitted, receive_phase, id_from}
 use Rattle.l4_model.specs.Steps.{order_of}
 
 -- The target of an order is declared.
@@ -65,7 +65,7 @@ ipc_orders_none m id now c (LocalThread word) period receive order h = cc
 ipc_orders_none m id now c (GlobalThread t) period receive order h = cc
 
 pub target_declared : (m : Machine) (id : GlobalId) (now : ℕ) (c : Context) (i : Instr) (order : PendingOrder) → act m id now c i ≡ Orders order → place_of m order.target ≡ None → ⊥
-target_declared m id now c (Ask target what) order h none = ask_declared m id target what order h none
-target_declared m id now c (Ipc to from send_period receive_period) order h none = ipc_orders_none m id now c (destination c to) send_period (receive_phase from receive_period) order h
+target_declared m id now c (Ask target what) order h none = ask_declared m id (id_from c target) what order h none
+target_declared m id now c (Ipc to from send_period receive_period) order h none = ipc_orders_none m id now c (id_from c to) send_period (receive_phase (id_from c from) receive_period) order h
 target_declared m id now c (Run own) order h none = cc
 target_declared m id now c End order h none = cc

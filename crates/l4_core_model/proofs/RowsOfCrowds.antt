@@ -3,7 +3,7 @@ use Rattle.std.specs.Prelude.{◌≡◌, ℕ, ◌+◌, ◌%◌, nat_le, nat_lt, 
 use Rattle.std.specs.List.{range_with_len}
 use Rattle.std.specs.Option.{option_map}
 use Rattle.l4_model.specs.Words.{global_id, NilThread, AnyThread, GlobalThread}
-use Rattle.l4_model.specs.Machine.{Machine, ToId, ToLast, Ipc, Jump, Declaration, machine_of}
+use Rattle.l4_model.specs.Machine.{Machine, Fixed, Last, Ipc, Jump, Declaration, machine_of}
 use Rattle.l4_model.specs.Steps.{Step, Deliver, Wait}
 use Rattle.l4_model.specs.Laws.{deliveries_of}
 use Rattle.l4_model.proofs.Rows.{room_one}
@@ -16,8 +16,8 @@ use Rattle.l4_core_model.proofs.RowsInRounds.{send_of}
 
 abbrev for_ever : Machine
 for_ever = machine_of 2 (
-    record { id = global_id 1 1; cpu = 0; space = 1; script = Ipc (ToId (GlobalThread (global_id 2 1))) (GlobalThread (global_id 2 1)) None None ∷ Jump 0 ∷ [] }
-    ∷ record { id = global_id 2 1; cpu = 1; space = 1; script = Ipc (ToId NilThread) AnyThread None None ∷ Ipc ToLast AnyThread None None ∷ Jump 1 ∷ [] } ∷ [])
+    record { id = global_id 1 1; cpu = 0; space = 1; script = Ipc (Fixed (GlobalThread (global_id 2 1))) (Fixed (GlobalThread (global_id 2 1))) None None ∷ Jump 0 ∷ [] }
+    ∷ record { id = global_id 2 1; cpu = 1; space = 1; script = Ipc (Fixed NilThread) (Fixed AnyThread) None None ∷ Ipc Last (Fixed AnyThread) None None ∷ Jump 1 ∷ [] } ∷ [])
 
 -- A round has at most a turn for each of the two processors.
 for_ever_turns : (nat_le 100 (turns_of (run for_ever 100)) && nat_lt (turns_of (run for_ever 100)) 102) ≡ true
@@ -29,12 +29,12 @@ for_ever_goes_on = refl
 -- So many senders, each on a processor of its number, and one receiver.
 
 abbrev sender : (cpus last number : ℕ) → Declaration
-sender cpus last number = record { id = global_id number 1; cpu = number % cpus; space = 1; script = Ipc (ToId (GlobalThread (global_id last 1))) NilThread None None ∷ [] }
+sender cpus last number = record { id = global_id number 1; cpu = number % cpus; space = 1; script = Ipc (Fixed (GlobalThread (global_id last 1))) (Fixed NilThread) None None ∷ [] }
 
 abbrev crowd : (cpus senders : ℕ) → Machine
 crowd cpus senders = machine_of cpus (
     map (sender cpus (senders + 1)) (range_with_len 1 senders)
-    ++ record { id = global_id (senders + 1) 1; cpu = (senders + 1) % cpus; space = 1; script = Ipc (ToId NilThread) AnyThread None None ∷ Jump 0 ∷ [] } ∷ [])
+    ++ record { id = global_id (senders + 1) 1; cpu = (senders + 1) % cpus; space = 1; script = Ipc (Fixed NilThread) (Fixed AnyThread) None None ∷ Jump 0 ∷ [] } ∷ [])
 
 abbrev delivered_in_order : (receiver senders tag : ℕ) → List Step
 delivered_in_order receiver senders tag = map (λ n. Deliver (send_of n) (global_id receiver 1) (global_id n 1) (global_id n 1) tag []) (range_with_len 1 senders)

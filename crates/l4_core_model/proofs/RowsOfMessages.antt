@@ -2,7 +2,7 @@
 use Rattle.std.specs.Prelude.{◌≡◌, ℕ, ◌+◌, true, None, unwrap_or, List, [], ◌∷◌, ◌++◌, map, filter, take, drop, option_map, replicate, refl}
 use Rattle.std.specs.List.{range_with_len}
 use Rattle.l4_model.specs.Words.{global_id, word_of, NilThread, AnyThread, GlobalThread}
-use Rattle.l4_model.specs.Machine.{Machine, ToId, Set, Tag, Ipc, machine_of}
+use Rattle.l4_model.specs.Machine.{Machine, Fixed, Set, Tag, Ipc, machine_of}
 use Rattle.l4_model.specs.Steps.{Step, Deliver}
 use Rattle.l4_model.specs.History.{reached, view, Report, IsReady, IsEnded}
 use Rattle.l4_model.proofs.Rows.{originator, withdrawn_too_late, withdrawn_too_late_trace, withdrawn, withdrawn_trace, timeouts, timeouts_trace, room_one, room_one_trace}
@@ -19,8 +19,8 @@ reports m h = unwrap_or (option_map (view m) (reached m h)) []
 
 abbrev empty_message : Machine
 empty_message = machine_of 1 (
-    record { id = global_id 1 1; cpu = 0; space = 1; script = Tag 0x70000 ∷ Ipc (ToId (GlobalThread (global_id 2 1))) NilThread None None ∷ [] }
-    ∷ record { id = global_id 2 1; cpu = 0; space = 2; script = Set 1 5 ∷ Ipc (ToId NilThread) AnyThread None None ∷ [] } ∷ [])
+    record { id = global_id 1 1; cpu = 0; space = 1; script = Tag 0x70000 ∷ Ipc (Fixed (GlobalThread (global_id 2 1))) (Fixed NilThread) None None ∷ [] }
+    ∷ record { id = global_id 2 1; cpu = 0; space = 2; script = Set 1 5 ∷ Ipc (Fixed NilThread) (Fixed AnyThread) None None ∷ [] } ∷ [])
 
 empty_message_reports : reports empty_message (told (run empty_message 100000).events) ≡
     record { id = global_id 1 1; state = IsEnded; error = 0; from = NilThread; actual = NilThread; words = replicate 64 0 }
@@ -34,8 +34,8 @@ empty_message_rests = refl
 
 abbrev all_registers : (receiver_cpu : ℕ) → Machine
 all_registers cpu = machine_of (cpu + 1) (
-    record { id = global_id 1 1; cpu = 0; space = 1; script = map (λ n. Set n n) (range_with_len 1 63) ++ Tag 0x7003f ∷ Ipc (ToId (GlobalThread (global_id 2 1))) NilThread None None ∷ [] }
-    ∷ record { id = global_id 2 1; cpu = cpu; space = 2; script = Ipc (ToId NilThread) AnyThread None None ∷ [] } ∷ [])
+    record { id = global_id 1 1; cpu = 0; space = 1; script = map (λ n. Set n n) (range_with_len 1 63) ++ Tag 0x7003f ∷ Ipc (Fixed (GlobalThread (global_id 2 1))) (Fixed NilThread) None None ∷ [] }
+    ∷ record { id = global_id 2 1; cpu = cpu; space = 2; script = Ipc (Fixed NilThread) (Fixed AnyThread) None None ∷ [] } ∷ [])
 
 all_registers_run : filter is_delivery (told (run (all_registers 0) 100000).events) ≡ Deliver (send_of 1) (global_id 2 1) (global_id 1 1) (global_id 1 1) 0x7003f (range_with_len 1 63) ∷ []
 all_registers_run = refl

@@ -1,7 +1,7 @@
 -- Worked rows of core runs of profile 2, computed.
 use Rattle.std.specs.Prelude.{ℕ, ◌≡◌, None, true, false, is_some, List, [], ◌∷◌, refl}
 use Rattle.l4_model.specs.Words.{NilThread}
-use Rattle.l4_model.specs.Machine.{Machine, ToId, Tag, Vs, Ipc, Ask, Delete, machine_of, retargeting_machine_of}
+use Rattle.l4_model.specs.Machine.{Machine, Fixed, Tag, Vs, Ipc, Ask, Delete, machine_of, retargeting_machine_of}
 use Rattle.l4_model.specs.Steps.{Local, Begin, Queue, Deliver, Wait, SendNobody, ReceiveNobody, Order, Obey, Retarget}
 use Rattle.l4_model.specs.World.{Owed}
 use Rattle.l4_model.proofs.Rows.Writing.{thread, id, send, sends, declared}
@@ -61,11 +61,11 @@ not_in_profile_one = refl
 -- send of 4.1 that waits at 3.1 is refused. So 1.1 awaits a deleted thread, which ends its receive phase.
 abbrev deleted_while_owed : Machine
 deleted_while_owed = retargeting_machine_of 2 (
-    declared 1 0 1 (Ipc (ToId NilThread) (id 2) None None ∷ [])
-    ∷ declared 2 0 1 (Vs (id 1) ∷ Tag 0x1000 ∷ sends 3 ∷ [])
-    ∷ declared 3 0 1 (Ipc (ToId NilThread) (id 1) None None ∷ [])
+    declared 1 0 1 (Ipc (Fixed NilThread) (Fixed (id 2)) None None ∷ [])
+    ∷ declared 2 0 1 (Vs (Fixed (id 1)) ∷ Tag 0x1000 ∷ sends 3 ∷ [])
+    ∷ declared 3 0 1 (Ipc (Fixed NilThread) (Fixed (id 1)) None None ∷ [])
     ∷ declared 4 0 1 (sends 3 ∷ [])
-    ∷ declared 5 1 1 (Ask (id 3) Delete ∷ []) ∷ [])
+    ∷ declared 5 1 1 (Ask (Fixed (id 3)) Delete ∷ []) ∷ [])
 
 deleted_while_owed_told : told (replay deleted_while_owed (0 ∷ 0 ∷ 0 ∷ 0 ∷ 0 ∷ 0 ∷ 1 ∷ 0 ∷ 0 ∷ 0 ∷ 0 ∷ [])).events
     ≡ Wait (thread 1) ∷ Local (thread 2) ∷ Wait (thread 3) ∷ Begin (send 4 1) ∷ Queue (send 4 1) ∷ Local (thread 2)

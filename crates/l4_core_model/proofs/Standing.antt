@@ -6,7 +6,7 @@ use Rattle.std.proofs.lemmas.List.Quantifiers.{position-Some}
 use Rattle.l4_model.specs.Words.{GlobalId, Id, NilThread, AnyThread, AnyLocalThread, LocalThread, GlobalThread, same_id, Period}
 use Rattle.l4_model.specs.Machine.{OrderKind, Instr, Run, Ipc, Ask, End, Machine, place_of}
 use Rattle.l4_model.specs.World.{Context, Send, Receive}
-use Rattle.l4_model.specs.Rules.{RunsAlone, Sends, Orders, act, ipc_act, ask_act, receive_phase, destination, is_admitted}
+use Rattle.l4_model.specs.Rules.{RunsAlone, Sends, Orders, act, ipc_act, ask_act, receive_phase, id_from, is_admitted}
 use Rattle.l4_core_model.specs.Plain as plain
 use Rattle.l4_core_model.specs.Local.{undeclared, destination_place}
 
@@ -70,7 +70,7 @@ ask_sends_none m id (GlobalThread t) what send h = by (is_admitted m id t what) 
     by false h = cc
 
 pub act_sends : (m : Machine) (id : GlobalId) (now : ℕ) (c : Context) (i : Instr) (send : Send) → act m id now c i ≡ Sends send → BeginsNow now send
-act_sends m id now c (Ipc to from send_period receive_period) send h = ipc_sends m id now c (destination c to) send_period (receive_phase from receive_period) send h
-act_sends m id now c (Ask target what) send h = absurd (ask_sends_none m id target what send h)
+act_sends m id now c (Ipc to from send_period receive_period) send h = ipc_sends m id now c (id_from c to) send_period (receive_phase (id_from c from) receive_period) send h
+act_sends m id now c (Ask target what) send h = absurd (ask_sends_none m id (id_from c target) what send h)
 act_sends m id now c (Run own) send h = cc
 act_sends m id now c End send h = cc

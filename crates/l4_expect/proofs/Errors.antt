@@ -16,7 +16,7 @@ use Rattle.l4_model.proofs.InFormat.{stays_in}
 use Rattle.l4_model.proofs.Inversions.{local_taken, begin_taken, queue_taken, deliver_taken, wait_taken, send_timeout_taken, send_nobody_taken, send_cancel_taken, drop_taken, receive_timeout_taken, receive_nobody_taken, receive_cancel_taken, order_taken, obey_taken, tick_taken, retarget_taken}
 use Rattle.l4_model.proofs.Worlds.{reached_facts}
 use Rattle.l4_words.specs.Numbers.{is_word}
-use Rattle.l4_script.specs.Canonical.{HasText}
+use Rattle.l4_script.specs.Second.Canonical.{HasSecondText}
 use Rattle.l4_script.proofs.OwnWords.{writes_its_words}
 use Rattle.l4_expect.proofs.Reached.{element, reached_keeps}
 use Rattle.l4_expect.proofs.Reported.{IsTold, is_error}
@@ -129,7 +129,7 @@ all_small W32 (word ∷ words) h =
 
 -- Reports
 
-told_at : (f : Format) (m : Machine) (h : List Step) (w : World) → HasText f m → reached m h ≡ Some w → (i : ℕ) (d : Declaration) (t : Thread) →
+told_at : (f : Format) (m : Machine) (h : List Step) (w : World) → HasSecondText f m → reached m h ≡ Some w → (i : ℕ) (d : Declaration) (t : Thread) →
     slice_get m.threads i ≡ Some d → slice_get w.threads i ≡ Some t → IsTold (report_of d.id t)
 told_at f m h w has r i d t declared now =
     let keeps = reached_keeps f m h w has r i d t declared now in
@@ -151,5 +151,5 @@ every_view [] ts told = tt
 every_view (d ∷ ds) [] told = tt
 every_view (d ∷ ds) (t ∷ ts) told = (told 0 d t refl refl, every_view ds ts (λ i x y declared now. told (suc i) x y declared now))
 
-pub all_told : (f : Format) (m : Machine) (h : List Step) (w : World) → HasText f m → reached m h ≡ Some w → Every IsTold (view m w)
+pub all_told : (f : Format) (m : Machine) (h : List Step) (w : World) → HasSecondText f m → reached m h ≡ Some w → Every IsTold (view m w)
 all_told f m h w has r = every_view m.threads w.threads (told_at f m h w has r)

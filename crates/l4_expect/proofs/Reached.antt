@@ -4,10 +4,10 @@ use Rattle.std.specs.Prelude.{◌==◌, ◌&&◌, nat_le, nat_lt, slice_get, sli
 use Rattle.std.specs.List.{cons_option, list_all}
 use Rattle.std.specs.Option.{option_map}
 use Rattle.std.proofs.lemmas.Bool.{and_parts, and_from, ltb-true, lt-ltb, eq-eqb, eqb-true, false_from_ne_true, not_from_false}
-use Rattle.l4_model.specs.Words.{Format, W64, W32, GlobalId, Id, NilThread, AnyThread, AnyLocalThread, LocalThread, GlobalThread, Period, has_typed_words, has_word_in, is_global, is_word_in, last_register}
-use Rattle.l4_model.specs.Machine.{Declaration, Assign, Instr, Run, Tag, Vs, Ipc, Ask, Jump, OnErr, End, Machine, OrderKind, CancelSend, CancelReceive, CancelBoth, Delete, To, ToId, ToLast, instruction_at, same_space}
+use Rattle.l4_model.specs.Words.{Format, W64, W32, GlobalId, Id, NilThread, AnyThread, AnyLocalThread, LocalThread, GlobalThread, Period, has_typed_words, has_word_in, id_in, same_format, is_global, is_word_in, last_register}
+use Rattle.l4_model.specs.Machine.{Declaration, Value, Word, Register, Sum, From, Assign, Instr, Run, Tag, Vs, Ipc, Ask, Jump, OnErr, OnLabel, OnWord, OnFrom, End, Machine, OrderKind, CancelSend, CancelReceive, CancelBoth, Delete, IdFrom, Fixed, Last, InRegister, instruction_at, same_space}
 use Rattle.l4_model.specs.World.{Context, Message, Name, Owed, Phase, Ready, Sending, Receiving, Ordering, Ended, Deleted, Receive, Send, Thread, World, is_alive, opening}
-use Rattle.l4_model.specs.Rules.{RunsAlone, Orders, act, ask_act, bit, destination, failed, ipc_act, is_admitted, message_of, originator, permitted, ran, receive_phase, received, received_tag, register}
+use Rattle.l4_model.specs.Rules.{RunsAlone, Orders, act, ask_act, bit, id_from, failed, ipc_act, is_admitted, message_of, originator, permitted, ran, receive_phase, received, received_tag, register}
 use Rattle.l4_model.specs.Conditions.{◌>>=◌, Pending, undecided}
 use Rattle.l4_model.specs.Effects.{asked, decided, fails, goes_on, turned_send, turns, turns_in}
 use Rattle.l4_model.specs.Steps.{Step, Begin, next, send_of}
@@ -17,7 +17,9 @@ use Rattle.l4_model.proofs.Keeping.{Each, Maintained, opening_is, sender_fact, s
 use Rattle.l4_model.proofs.Places.{known_send}
 use Rattle.l4_model.proofs.Requests.{act_request, message_short}
 use Rattle.l4_types.proofs.InFormats.{is_global_too}
-use Rattle.l4_script.specs.Canonical.{HasText, can_be_assigned, can_be_declared, can_be_written, has_destination, is_register}
+use Rattle.l4_script.specs.Canonical.{can_be_assigned, is_register}
+use Rattle.l4_script.specs.Second.Canonical.{HasSecondText, has_id_from, second_can_be_declared, second_can_be_written}
+use Rattle.l4_script.proofs.AcceptedLines.{id_in_said}
 use Rattle.l4_trace.specs.Lines.{has_line}
 use Rattle.l4_words.specs.Names.{is_name}
 use Rattle.l4_expect.proofs.Reported.{is_sender, is_some_thread}
@@ -25,16 +27,18 @@ use Rattle.l4_expect.proofs.Told.{Every, IsUndecided}
 
 -- What a machine text writes
 
-abbrev to_suits : To → Bool
-to_suits (ToId id) = has_word_in W64 id
-to_suits ToLast = true
+-- What a register has is an id that has a word, or counts as nilthread.
+abbrev from_suits : IdFrom → Bool
+from_suits (Fixed id) = has_word_in W64 id
+from_suits Last = true
+from_suits (InRegister format a) = true
 
 -- No instruction but `tag` writes MR0, and that no typed items; each id has a word.
 abbrev suits : Instr → Bool
 suits (Run (Assign a value)) = nat_le 1 a
 suits (Tag word) = word / 2 ^ 6 % 64 == 0
-suits (Vs id) = has_word_in W64 id
-suits (Ipc to from send receive) = to_suits to
+suits (Vs from) = from_suits from
+suits (Ipc to from send receive) = from_suits to
 suits _ = true
 
 has_word_too : (f : Format) (id : Id) → has_word_in f id ≡ true → has_word_in W64 id ≡ true
@@ -52,27 +56,37 @@ has_word_too W32 (LocalThread word) h =
     and_from _ _ (and_from _ _ (and_from _ _ (lt-ltb word (2 ^ 64) (omega (arith, small))) some.1) other) parts.1
 has_word_too W32 (GlobalThread t) h = is_global_too W32 t h
 
-destination_too : (f : Format) (to : To) → has_destination f to ≡ true → to_suits to ≡ true
-destination_too f (ToId id) h = has_word_too f id h
-destination_too f ToLast h = refl
+from_too : (f : Format) (from : IdFrom) → has_id_from f from ≡ true → from_suits from ≡ true
+from_too f (Fixed id) h = has_word_too f id h
+from_too f Last h = refl
+from_too f (InRegister format a) h = refl
 
 register_suits : (a : ℕ) → is_register a ≡ true → nat_le 1 a ≡ true
 register_suits a h = (and_parts (nat_le 1 a) (nat_le a last_register) h).0
 
-written_suits : (f : Format) (size : ℕ) (i : Instr) → can_be_written f size i ≡ true → suits i ≡ true
-written_suits f size (Run (Assign a value)) h = register_suits a (and_parts (is_register a) (can_be_assigned f value) h).0
+assigned_suits : (f : Format) (a : ℕ) (value : Value) → (is_register a && can_be_assigned f value) ≡ true → nat_le 1 a ≡ true
+assigned_suits f a value h = register_suits a (and_parts (is_register a) (can_be_assigned f value) h).0
+
+written_suits : (f : Format) (size : ℕ) (i : Instr) → second_can_be_written f size i ≡ true → suits i ≡ true
+written_suits f size (Run (Assign a (Word word))) h = assigned_suits f a (Word word) h
+written_suits f size (Run (Assign a (Register b))) h = assigned_suits f a (Register b) h
+written_suits f size (Run (Assign a (Sum format word))) h = assigned_suits f a (Sum format word) h
+written_suits f size (From format a) h = register_suits a (and_parts (is_register a) (same_format format f) h).0
 written_suits f size (Tag word) h = (and_parts (is_word_in f word) (word / 2 ^ 6 % 64 == 0) h).1
-written_suits f size (Vs id) h = has_word_too f id h
-written_suits f size (Ipc to from send receive) h = destination_too f to (and_parts _ _ (and_parts _ _ (and_parts _ _ h).0).0).0
+written_suits f size (Vs from) h = from_too f from h
+written_suits f size (Ipc to from send receive) h = from_too f to (and_parts _ _ (and_parts _ _ (and_parts _ _ h).0).0).0
 written_suits f size (Ask target what) h = refl
 written_suits f size (Jump place) h = refl
 written_suits f size (OnErr place) h = refl
+written_suits f size (OnLabel label place) h = refl
+written_suits f size (OnWord a word place) h = refl
+written_suits f size (OnFrom id place) h = refl
 written_suits f size End h = refl
 
-all_suit : (f : Format) (size : ℕ) (script : List Instr) → list_all (can_be_written f size) script ≡ true → list_all suits script ≡ true
+all_suit : (f : Format) (size : ℕ) (script : List Instr) → list_all (second_can_be_written f size) script ≡ true → list_all suits script ≡ true
 all_suit f size [] h = refl
 all_suit f size (i ∷ script) h =
-    let parts = and_parts (can_be_written f size i) (list_all (can_be_written f size) script) h in
+    let parts = and_parts (second_can_be_written f size i) (list_all (second_can_be_written f size) script) h in
     and_from _ _ (written_suits f size i parts.0) (all_suit f size script parts.1)
 
 at_place : (script : List Instr) (place : ℕ) → list_all suits script ≡ true → suits (instruction_at script place) ≡ true
@@ -109,14 +123,33 @@ tag_first : (words : List ℕ) (word : ℕ) → has_typed_words word ≡ false �
 tag_first [] word h = refl
 tag_first (x ∷ words) word h = h
 
+sender_word : (id : Id) → is_sender id ≡ true → has_word_in W64 id ≡ true
+sender_word NilThread h = refl
+sender_word (GlobalThread t) h = h
+sender_word AnyThread h = cc
+sender_word AnyLocalThread h = cc
+sender_word (LocalThread word) h = cc
+
+in_register : (format : Format) (word : ℕ) (o : Option Id) → id_in format word ≡ o → has_word_in W64 (unwrap_or o NilThread) ≡ true
+in_register format word None e = refl
+in_register format word (Some id) e = has_word_too format id (id_in_said format word id e)
+
+word_from : (c : Context) (from : IdFrom) → from_suits from ≡ true → IsPlain c → has_word_in W64 (id_from c from) ≡ true
+word_from c (Fixed id) h plain = h
+word_from c Last h plain = sender_word c.from plain.from
+word_from c (InRegister format a) h plain = in_register format (register c a) (id_in format (register c a)) refl
+
 ran_plain : (i : Instr) (c : Context) → suits i ≡ true → IsPlain c → IsPlain (ran i c)
 ran_plain (Run (Assign a value)) c i h = record { from = h.from; actual = h.actual; tag = ap has_typed_words (first_kept c.words a _ i) ∙ h.tag }
 ran_plain (Tag word) c i h = record { from = h.from; actual = h.actual; tag = tag_first c.words word (ap not i) }
-ran_plain (Vs id) c i h = record { from = h.from; actual = i; tag = h.tag }
+ran_plain (Vs from) c i h = record { from = h.from; actual = word_from c from i h; tag = h.tag }
 ran_plain (Ipc to from send receive) c i h = record { from = refl; actual = h.actual; tag = tag_first c.words 0 refl }
 ran_plain (Ask target what) c i h = record { from = h.from; actual = h.actual; tag = h.tag }
 ran_plain (Jump place) c i h = record { from = h.from; actual = h.actual; tag = h.tag }
 ran_plain (OnErr place) c i h = record { from = h.from; actual = h.actual; tag = h.tag }
+ran_plain (OnLabel label place) c i h = record { from = h.from; actual = h.actual; tag = h.tag }
+ran_plain (OnWord a word place) c i h = record { from = h.from; actual = h.actual; tag = h.tag }
+ran_plain (OnFrom id place) c i h = record { from = h.from; actual = h.actual; tag = h.tag }
 ran_plain End c i h = h
 
 failed_plain : (code : ℕ) (c : Context) → IsPlain c → IsPlain (failed code c)
@@ -182,21 +215,10 @@ ask_sends m id (GlobalThread t) what send h = by (is_admitted m id t what) h
     by true h = cc
     by false h = cc
 
-sender_word : (id : Id) → is_sender id ≡ true → has_word_in W64 id ≡ true
-sender_word NilThread h = refl
-sender_word (GlobalThread t) h = h
-sender_word AnyThread h = cc
-sender_word AnyLocalThread h = cc
-sender_word (LocalThread word) h = cc
-
-destination_word : (c : Context) (to : To) → to_suits to ≡ true → IsPlain c → has_word_in W64 (destination c to) ≡ true
-destination_word c (ToId id) h plain = h
-destination_word c ToLast h plain = sender_word c.from plain.from
-
 act_to : (m : Machine) (id : GlobalId) (now : ℕ) (c : Context) (i : Instr) (send : Send) → suits i ≡ true → IsPlain c → send_of (act m id now c i) ≡ Some send → IsTo send
 act_to m id now c (Ipc to from send_period receive_period) send i h e =
-    ipc_to m id now c (destination c to) send_period (receive_phase from receive_period) send (destination_word c to i h) e
-act_to m id now c (Ask target what) send i h e = absurd (ask_sends m id target what send e)
+    ipc_to m id now c (id_from c to) send_period (receive_phase (id_from c from) receive_period) send (word_from c to i h) e
+act_to m id now c (Ask target what) send i h e = absurd (ask_sends m id (id_from c target) what send e)
 act_to m id now c (Run own) send i h e = cc
 act_to m id now c End send i h e = cc
 
@@ -293,9 +315,9 @@ element p [] i x h at = cc
 element p (y ∷ xs) zero x h at = ap p (sym (some_is y x at)) ∙ (and_parts (p y) (list_all p xs) h).0
 element p (y ∷ xs) (suc i) x h at = element p xs i x (and_parts (p y) (list_all p xs) h).1 at
 
-opening_keeps : (f : Format) (m : Machine) → HasText f m → Each m Keeps (opening m)
+opening_keeps : (f : Format) (m : Machine) → HasSecondText f m → Each m Keeps (opening m)
 opening_keeps f m has i d t declared now =
-    let can = element (can_be_declared f m.cpus) m.threads i d has.each declared in
+    let can = element (second_can_be_declared f m.cpus) m.threads i d has.each declared in
     let size = and_parts _ _ can in
     let id = (and_parts _ _ (and_parts _ _ (and_parts _ _ size.0).0).0).0 in
     subst (Keeps d (slice_index (opening m).clocks d.cpu)) (opening_is m i t now)
@@ -312,7 +334,7 @@ run_keeps m (step ∷ h) w v r each =
     bind_then (next m w step) (λ u. run m u h) v r λ u is rest.
     run_keeps m h u v rest (step_each m Keeps w u step (kept m) is each)
 
-pub reached_keeps : (f : Format) (m : Machine) (h : List Step) (w : World) → HasText f m → reached m h ≡ Some w → Each m Keeps w
+pub reached_keeps : (f : Format) (m : Machine) (h : List Step) (w : World) → HasSecondText f m → reached m h ≡ Some w → Each m Keeps w
 reached_keeps f m h w has r = run_keeps m h (opening m) w r (opening_keeps f m has)
 
 -- Undecided sends

@@ -7,7 +7,7 @@ ghost use Rattle.l4_model.specs.Steps.{Step};
 ghost use Rattle.l4_model.specs.World.{World};
 ghost use Rattle.l4_lines.specs.Lines.{are_rest, has_line, lines_of};
 ghost use Rattle.l4_reports.specs.ReportLines.{report_text};
-ghost use Rattle.l4_script.specs.Texts.{machine_of_text};
+ghost use Rattle.l4_script.specs.Versions.{machine_of_text};
 ghost use Rattle.l4_trace.specs.Lines.{has_line as can_be_traced};
 ghost use Rattle.l4_types.specs.declared.reports.Ending.{Ending};
 ghost use Rattle.l4_words.specs.Words.{words_in};

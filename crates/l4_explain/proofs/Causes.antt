@@ -5,7 +5,7 @@ use Rattle.std.proofs.lemmas.Bool.{and_parts}
 use Rattle.l4_model.specs.Words.{GlobalId, Id, NilThread, AnyThread, AnyLocalThread, LocalThread, GlobalThread, Period, same_id}
 use Rattle.l4_model.specs.Machine.{Machine, OrderKind, CancelSend, CancelReceive, CancelBoth, Delete, Instr, Run, Ipc, Ask, End, is_declared, same_space}
 use Rattle.l4_model.specs.World.{Context, PendingOrder, Receive, World, is_ready}
-use Rattle.l4_model.specs.Rules.{Orders, RunsAlone, act, ask_act, destination, ipc_act, is_admitted, receive_phase}
+use Rattle.l4_model.specs.Rules.{Orders, RunsAlone, act, ask_act, id_from, ipc_act, is_admitted, receive_phase}
 use Rattle.l4_model.specs.Conditions.{Found, act_of, found, instruction}
 use Rattle.l4_model.specs.Steps.{Step, Order, next, order_kind_code, order_of}
 use Rattle.l4_model.proofs.Chains.{some_is}
@@ -45,10 +45,10 @@ no_order o x e f = cc
 
 act_admitted : (m : Machine) (id : GlobalId) (now : ℕ) (c : Context) (i : Instr) (order : PendingOrder) → order_of (act m id now c i) ≡ Some order →
     is_admitted m id order.target order.what ≡ true
-act_admitted m id now c (Ask target what) order h = ask_admitted m id target what order h
+act_admitted m id now c (Ask target what) order h = ask_admitted m id (id_from c target) what order h
 act_admitted m id now c (Ipc to from send_period receive_period) order h =
     absurd (no_order (order_of (act m id now c (Ipc to from send_period receive_period))) order
-    (ipc_orders_nothing m id now c (destination c to) send_period (receive_phase from receive_period)) h)
+    (ipc_orders_nothing m id now c (id_from c to) send_period (receive_phase (id_from c from) receive_period)) h)
 act_admitted m id now c (Run own) order h = cc
 act_admitted m id now c End order h = cc
 

@@ -1,7 +1,7 @@
 -- Small machines: what each premise leaves out, and what needs none.
 use Rattle.std.specs.Prelude.{◌≡◌, true, false, Option, Some, None, List, [], ◌∷◌, ◌++◌, option_map, map, refl}
-use Rattle.l4_model.specs.Words.{NilThread}
-use Rattle.l4_model.specs.Machine.{Machine, ToId, CancelSend, CancelReceive, CancelBoth, Delete, Set, Tag, Vs, Ipc, Ask, machine_of, retargeting_machine_of}
+use Rattle.l4_model.specs.Words.{W64, NilThread}
+use Rattle.l4_model.specs.Machine.{Machine, Fixed, Last, InRegister, CancelSend, CancelReceive, CancelBoth, Delete, Set, Tag, Vs, Ipc, Ask, machine_of, retargeting_machine_of}
 use Rattle.l4_model.specs.World.{Receive, receive_now}
 use Rattle.l4_model.specs.Steps.{Step, Local, Begin, Queue, Deliver, Wait, SendTimeout, ReceiveCancel, Order, Obey, Retarget}
 use Rattle.l4_model.specs.History.{reached, refused_place}
@@ -10,7 +10,7 @@ use Rattle.l4_first.specs.First.{is_deletable, is_orderable, is_tried}
 
 -- A deletion stands in the way of a local step: it cannot be told after.
 abbrev pub deletes : Machine
-deletes = machine_of 1 (declared 1 0 1 (Set 1 5 ∷ []) ∷ declared 2 0 1 (Ask (id 1) Delete ∷ []) ∷ [])
+deletes = machine_of 1 (declared 1 0 1 (Set 1 5 ∷ []) ∷ declared 2 0 1 (Ask (Fixed (id 1)) Delete ∷ []) ∷ [])
 
 deletion_first : refused_place deletes (Order (thread 2) (thread 1) Delete ∷ Obey (thread 2) ∷ Local (thread 1) ∷ []) ≡ Some 3
 deletion_first = refl
@@ -18,9 +18,25 @@ deletion_first = refl
 deletion_told : is_deletable deletes (thread 1) ≡ true
 deletion_told = refl
 
+-- Who deletes by `last` or by a register may delete anybody.
+abbrev pub deletes_unnamed : Machine
+deletes_unnamed = machine_of 1 (declared 1 0 1 (Set 1 5 ∷ []) ∷ declared 2 0 1 (Set 4 0x100000001 ∷ Ask (InRegister W64 4) Delete ∷ []) ∷ [])
+
+unnamed_deletion_first : refused_place deletes_unnamed (Local (thread 2) ∷ Order (thread 2) (thread 1) Delete ∷ Obey (thread 2) ∷ Local (thread 1) ∷ []) ≡ Some 4
+unnamed_deletion_first = refl
+
+unnamed_deletion_told : (is_deletable deletes_unnamed (thread 1) ≡ true) × (is_orderable deletes_unnamed (thread 1) ≡ true)
+unnamed_deletion_told = (refl, refl)
+
+abbrev pub deletes_last : Machine
+deletes_last = machine_of 1 (declared 1 0 1 (sends 2 ∷ Set 1 5 ∷ []) ∷ declared 2 0 1 (receives ∷ Ask Last Delete ∷ []) ∷ [])
+
+last_deletion_told : (is_deletable deletes_last (thread 1) ≡ true) × (is_orderable deletes_last (thread 1) ≡ true)
+last_deletion_told = (refl, refl)
+
 -- A cancellation does not: both orders meet, for both wishes at once.
 abbrev pub cancels : Machine
-cancels = machine_of 1 (declared 1 0 1 (Set 1 5 ∷ []) ∷ declared 2 0 1 (Ask (id 1) CancelBoth ∷ []) ∷ [])
+cancels = machine_of 1 (declared 1 0 1 (Set 1 5 ∷ []) ∷ declared 2 0 1 (Ask (Fixed (id 1)) CancelBoth ∷ []) ∷ [])
 
 cancellation_meets : reached cancels (Order (thread 2) (thread 1) CancelBoth ∷ Obey (thread 2) ∷ Local (thread 1) ∷ [])
     ≡ reached cancels (Order (thread 2) (thread 1) CancelBoth ∷ Local (thread 1) ∷ Obey (thread 2) ∷ [])
@@ -31,7 +47,7 @@ cancellation_allowed = refl
 
 -- A wish `R` finds a receive phase, or comes too early for it.
 abbrev pub cancels_receive : Machine
-cancels_receive = machine_of 1 (declared 1 0 1 (receives ∷ []) ∷ declared 2 0 1 (Ask (id 1) CancelReceive ∷ []) ∷ [])
+cancels_receive = machine_of 1 (declared 1 0 1 (receives ∷ []) ∷ declared 2 0 1 (Ask (Fixed (id 1)) CancelReceive ∷ []) ∷ [])
 
 wish_finds : refused_place cancels_receive (Order (thread 2) (thread 1) CancelReceive ∷ Wait (thread 1) ∷ Obey (thread 2) ∷ ReceiveCancel (thread 1) ∷ []) ≡ None
 wish_finds = refl
@@ -44,7 +60,7 @@ wish_told = refl
 
 -- So of a wish `S` and a send phase.
 abbrev pub cancels_send : Machine
-cancels_send = machine_of 1 (declared 1 0 1 (sends 3 ∷ []) ∷ declared 2 0 1 (Ask (id 1) CancelSend ∷ []) ∷ declared 3 0 1 [] ∷ [])
+cancels_send = machine_of 1 (declared 1 0 1 (sends 3 ∷ []) ∷ declared 2 0 1 (Ask (Fixed (id 1)) CancelSend ∷ []) ∷ declared 3 0 1 [] ∷ [])
 
 send_wish_differs : option_map (λ w. map (λ t. t.cancel_send) w.threads) (reached cancels_send (Order (thread 2) (thread 1) CancelSend ∷ Begin (send 1 1) ∷ Obey (thread 2) ∷ [])) ≡ Some (true ∷ false ∷ false ∷ [])
 send_wish_differs = refl
@@ -54,7 +70,7 @@ no_send_wish = refl
 
 -- A send of time zero is refused by a ready thread, and not by one that waits for it.
 abbrev pub tries_it : Machine
-tries_it = machine_of 1 (declared 1 0 1 (receives ∷ []) ∷ declared 2 0 1 (Ipc (ToId (id 1)) NilThread (Some 0) None ∷ []) ∷ [])
+tries_it = machine_of 1 (declared 1 0 1 (receives ∷ []) ∷ declared 2 0 1 (Ipc (Fixed (id 1)) (Fixed NilThread) (Some 0) None ∷ []) ∷ [])
 
 refused_by_a_ready_one : refused_place tries_it (Begin (send 2 1) ∷ SendTimeout (send 2 1) ∷ Wait (thread 1) ∷ []) ≡ None
 refused_by_a_ready_one = refl
@@ -65,11 +81,17 @@ not_by_one_that_waits = refl
 trial_told : is_tried tries_it (thread 1) ≡ true
 trial_told = refl
 
+abbrev pub tries_unnamed : Machine
+tries_unnamed = machine_of 1 (declared 1 0 1 (receives ∷ []) ∷ declared 2 0 1 (Set 4 0x100000001 ∷ Ipc (InRegister W64 4) (Fixed NilThread) (Some 0) None ∷ []) ∷ [])
+
+unnamed_trial_told : is_tried tries_unnamed (thread 1) ≡ true
+unnamed_trial_told = refl
+
 -- In profile 2 a retarget turns an originator only where it is in a phase.
 abbrev pub hands_on : Machine
 hands_on = retargeting_machine_of 1 (
-    declared 1 0 1 (Ipc (ToId NilThread) (id 2) None None ∷ [])
-    ∷ declared 2 0 1 (Vs (id 1) ∷ Tag 0x1000 ∷ sends 3 ∷ [])
+    declared 1 0 1 (Ipc (Fixed NilThread) (Fixed (id 2)) None None ∷ [])
+    ∷ declared 2 0 1 (Vs (Fixed (id 1)) ∷ Tag 0x1000 ∷ sends 3 ∷ [])
     ∷ declared 3 0 2 (receives ∷ []) ∷ [])
 
 abbrev pub to_the_retarget : List Step

@@ -4,7 +4,7 @@ use Rattle.std.specs.Prelude.{slice_get, slice_index, ◌==◌}
 use Rattle.l4_model.specs.Words.{GlobalId, Id, NilThread, AnyThread, AnyLocalThread, LocalThread, GlobalThread, Period, same_id}
 use Rattle.l4_model.specs.Machine.{Machine, OrderKind, CancelSend, CancelReceive, CancelBoth, Delete, Instr, Run, Ipc, Ask, End}
 use Rattle.l4_model.specs.World.{World, Context, Receive, PendingOrder, is_ready}
-use Rattle.l4_model.specs.Rules.{act, ipc_act, destination, receive_phase}
+use Rattle.l4_model.specs.Rules.{act, ipc_act, id_from, receive_phase}
 use Rattle.l4_model.specs.Effects.{runs, orders}
 use Rattle.l4_model.specs.Conditions.{Found, found, instruction, act_of}
 use Rattle.l4_model.specs.Steps.{Step, Local, Begin, Wait, Order, Obey, order_kind_code, runs_alone, send_of, receive_of, order_of}
@@ -53,7 +53,7 @@ ipc_orders_later m id now later c (GlobalThread t) period receive = refl
 
 orders_later : (m : Machine) (id : GlobalId) (now later : ℕ) (c : Context) (i : Instr) → order_of (act m id later c i) ≡ order_of (act m id now c i)
 orders_later m id now later c (Run own) = refl
-orders_later m id now later c (Ipc to from send_period receive_period) = ipc_orders_later m id now later c (destination c to) send_period (receive_phase from receive_period)
+orders_later m id now later c (Ipc to from send_period receive_period) = ipc_orders_later m id now later c (id_from c to) send_period (receive_phase (id_from c from) receive_period)
 orders_later m id now later c (Ask target what) = refl
 orders_later m id now later c End = refl
 

@@ -5,7 +5,7 @@ use Rattle.std.specs.Prelude.{◌==◌, ◌&&◌, ◌||◌, slice_get, slice_ind
 use Rattle.std.specs.List.{list_any}
 use Rattle.std.specs.Option.{option_map}
 use Rattle.l4_model.specs.Words.{GlobalId}
-use Rattle.l4_model.specs.Machine.{Machine, Declaration, Own, Assign, AssignTag, AssignVs, GoTo, GoToOnErr, Instr, Run, Ipc, Ask, End, OrderKind, CancelSend, CancelReceive, CancelBoth, Delete, instruction_at}
+use Rattle.l4_model.specs.Machine.{Machine, Declaration, Own, Assign, AssignTag, AssignVs, GoTo, GoToOnErr, GoToOnLabel, GoToOnWord, GoToOnFrom, Instr, Run, Ipc, Ask, End, OrderKind, CancelSend, CancelReceive, CancelBoth, Delete, instruction_at}
 use Rattle.l4_model.specs.World.{Context, Thread, World, Message, Send, Receive, Owed, Name, Phase, Ready, Sending, Receiving, Ordering, Ended, Deleted, opening, is_alive, others_owed, one_more}
 use Rattle.l4_model.specs.Rules.{words_after, ran, bit, received_tag, message_of, owed_by, permitted}
 use Rattle.l4_model.specs.Effects.{fails, decided, goes_on, asked, turned_send, turns_in, turns}
@@ -35,15 +35,18 @@ other_set (x ∷ words) (suc a) word h = refl
 abbrev pub IsQuietTag : Context → Type 0
 IsQuietTag c = asks_to_propagate (slice_index c.words 0) ≡ false
 
-tag_stays : (own : Own) (words : List ℕ) → may_ask (Run own) ≡ false → asks_to_propagate (slice_index words 0) ≡ false → asks_to_propagate (slice_index (words_after own words) 0) ≡ false
-tag_stays (Assign a value) words i h = ap asks_to_propagate (other_set words a _ i) ∙ h
-tag_stays (AssignTag word) words i h = first_set words word i h
-tag_stays (AssignVs id) words i h = h
-tag_stays (GoTo place) words i h = h
-tag_stays (GoToOnErr place) words i h = h
+tag_stays : (own : Own) (c : Context) → may_ask (Run own) ≡ false → IsQuietTag c → asks_to_propagate (slice_index (words_after c own) 0) ≡ false
+tag_stays (Assign a value) c i h = ap asks_to_propagate (other_set c.words a _ i) ∙ h
+tag_stays (AssignTag word) c i h = first_set c.words word i h
+tag_stays (AssignVs from) c i h = h
+tag_stays (GoTo place) c i h = h
+tag_stays (GoToOnErr place) c i h = h
+tag_stays (GoToOnLabel label place) c i h = h
+tag_stays (GoToOnWord a word place) c i h = h
+tag_stays (GoToOnFrom id place) c i h = h
 
 tag_ran : (i : Instr) (c : Context) → may_ask i ≡ false → IsQuietTag c → IsQuietTag (ran i c)
-tag_ran (Run own) c i h = tag_stays own c.words i h
+tag_ran (Run own) c i h = tag_stays own c i h
 tag_ran (Ipc to from send_period receive_period) c i h = first_set c.words 0 refl h
 tag_ran (Ask target what) c i h = h
 tag_ran End c i h = h

@@ -2,7 +2,7 @@
 use Rattle.std.specs.Prelude.{ℕ, ◌==◌, ◌/◌, ◌%◌, ◌^◌, ◌≡◌, ◌⊎◌, ◌&&◌, not, Bool, true, false, Option, Some, None, List, [], ◌∷◌, ◌++◌, length, find, slice_get, is_some}
 use Rattle.std.specs.List.{list_any}
 use Rattle.l4_model.specs.Words.{GlobalId, is_id_of, same_id}
-use Rattle.l4_model.specs.Machine.{OrderKind, Delete, To, ToId, ToLast, Instr, Tag, Ask, Ipc, Machine}
+use Rattle.l4_model.specs.Machine.{OrderKind, Delete, IdFrom, Fixed, Instr, Tag, Ask, Ipc, Machine}
 use Rattle.l4_model.specs.World.{PendingOrder, World, Owed, owed_of, is_in, list_at}
 use Rattle.l4_model.specs.Rules.{assigned_by}
 use Rattle.l4_model.specs.Conditions.{◌>>=◌, Found, found, Pending, undecided, is_zero}
@@ -14,6 +14,11 @@ abbrev pub is_among_others : Machine → GlobalId → (Instr → Bool) → Bool
 is_among_others m id asks =
     list_any (λ d. not (same_id d.id id) && list_any asks d.script) m.threads
 
+-- An instruction may name the thread: `last` and a register may have any id.
+abbrev pub may_name : GlobalId → IdFrom → Bool
+may_name id (Fixed named) = is_id_of named id
+may_name id _ = true
+
 -- It deletes the thread.
 
 abbrev pub is_delete : OrderKind → Bool
@@ -21,7 +26,7 @@ is_delete Delete = true
 is_delete _ = false
 
 abbrev pub instruction_deletes : GlobalId → Instr → Bool
-instruction_deletes id (Ask target what) = is_id_of target id && is_delete what
+instruction_deletes id (Ask target what) = may_name id target && is_delete what
 instruction_deletes id _ = false
 
 abbrev pub is_deletable : Machine → GlobalId → Bool
@@ -30,17 +35,13 @@ is_deletable m id = is_among_others m id (instruction_deletes id)
 -- It orders the thread at all.
 
 abbrev pub instruction_concerns : GlobalId → Instr → Bool
-instruction_concerns id (Ask target what) = is_id_of target id
+instruction_concerns id (Ask target what) = may_name id target
 instruction_concerns id _ = false
 
 abbrev pub is_orderable : Machine → GlobalId → Bool
 is_orderable m id = is_among_others m id (instruction_concerns id)
 
--- It sends to the thread with time zero. `last` may be anybody.
-
-abbrev pub may_name : GlobalId → To → Bool
-may_name id (ToId to) = is_id_of to id
-may_name id ToLast = true
+-- It sends to the thread with time zero.
 
 abbrev pub instruction_tries : GlobalId → Instr → Bool
 instruction_tries id (Ipc to from send_period receive_period) =

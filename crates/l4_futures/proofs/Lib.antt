@@ -6,6 +6,7 @@ pub mod Kept
 pub mod Led
 pub mod Listing
 pub mod Endings
+pub mod Searched
 pub mod Looked
 pub mod Stuck
 pub mod Asked

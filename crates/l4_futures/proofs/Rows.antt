@@ -5,7 +5,7 @@ use Rattle.std.proofs.lemmas.List.{length-map}
 use Rattle.std.specs.Prelude.{slice_get, unwrap_or, IfSome}
 use Rattle.std.specs.Option.{option_map}
 use Rattle.l4_model.specs.Words.{NilThread, AnyThread}
-use Rattle.l4_model.specs.Machine.{Machine, ToId, Set, Ipc, Ask, Delete, machine_of}
+use Rattle.l4_model.specs.Machine.{Machine, Fixed, Set, Ipc, Ask, Delete, machine_of}
 use Rattle.l4_model.specs.World.{World, Thread, Send, opening}
 use Rattle.l4_model.specs.Conditions.{◌>>=◌}
 use Rattle.l4_model.specs.Steps.{Step, Local, Begin, Queue, Wait, ReceiveTimeout, Order, Obey, Tick, next}
@@ -73,7 +73,7 @@ not_at_its_end depth is_whole all =
 
 -- A thread is deleted, before it writes a register or behind that.
 abbrev gone : Machine
-gone = machine_of 1 (declared 1 0 1 (Set 1 5 ∷ []) ∷ declared 2 0 1 (Ask (id 1) Delete ∷ []) ∷ [])
+gone = machine_of 1 (declared 1 0 1 (Set 1 5 ∷ []) ∷ declared 2 0 1 (Ask (Fixed (id 1)) Delete ∷ []) ∷ [])
 
 abbrev quick : List Step
 quick = Order (thread 2) (thread 1) Delete ∷ Obey (thread 2) ∷ []
@@ -159,7 +159,7 @@ not_cut l = elim (l.cut refl) [
 
 -- A thread that waits five ticks.
 abbrev sleeper : Machine
-sleeper = machine_of 1 (declared 1 0 1 (Ipc (ToId NilThread) AnyThread None (Some 5) ∷ []) ∷ [])
+sleeper = machine_of 1 (declared 1 0 1 (Ipc (Fixed NilThread) (Fixed AnyThread) None (Some 5) ∷ []) ∷ [])
 
 told_with_its_tick : trace_along sleeper (4 ∷ 6 ∷ 0 ∷ []) ≡ Wait (thread 1) ∷ Tick 0 5 ∷ ReceiveTimeout (thread 1) ∷ Local (thread 1) ∷ []
 told_with_its_tick = refl
@@ -175,9 +175,9 @@ is_stuck_after m h = option_map is_stuck_world (reached m h)
 abbrev pair : Machine
 pair = machine_of 1 (
     declared 1 0 1 (sends 2 ∷ [])
-    ∷ declared 2 0 1 (Ipc (ToId NilThread) (id 3) None None ∷ [])
+    ∷ declared 2 0 1 (Ipc (Fixed NilThread) (Fixed (id 3)) None None ∷ [])
     ∷ declared 3 0 1 (receives ∷ [])
-    ∷ declared 4 0 1 (Ask (id 1) Delete ∷ []) ∷ [])
+    ∷ declared 4 0 1 (Ask (Fixed (id 1)) Delete ∷ []) ∷ [])
 
 at_first : is_stuck_after pair [] ≡ Some false
 at_first = refl

@@ -11,7 +11,7 @@ use Rattle.std.specs.Option.{option_map}
 use Rattle.l4_model.specs.Words.{GlobalId, Id, NilThread, AnyThread, AnyLocalThread, LocalThread, GlobalThread, Period}
 use Rattle.l4_model.specs.Machine.{Machine, Declaration, OrderKind, CancelSend, CancelReceive, CancelBoth, Delete, Instr, Run, Ipc, Ask, End, place_of}
 use Rattle.l4_model.specs.World.{World, Thread, Context, Send, Receive, Owed, Phase, Ready, Sending, Receiving, Ordering, Ended, Deleted, Name, changed, opening, opening_thread, is_alive, is_deleted, is_in, list_at, owed_of, must_wait}
-use Rattle.l4_model.specs.Rules.{receive_code, send_code, Act, Orders, RunsAlone, ipc_act, ask_act, act, is_admitted, destination, receive_phase, received_tag, is_cross}
+use Rattle.l4_model.specs.Rules.{receive_code, send_code, Act, Orders, RunsAlone, ipc_act, ask_act, act, is_admitted, id_from, receive_phase, received_tag, is_cross}
 use Rattle.l4_model.specs.Effects.{runs, begins, waits, fails, decided, refused, receives, goes_on, delivered, asked, orders, obeyed, turns, turns_in}
 use Rattle.l4_model.specs.Conditions.{◌>>=◌, Found, found, found_at, found_by, Pending, undecided, receiver_of, instruction, is_waiting, shows_accepted, first_accepted, is_zero, is_no_destination}
 use Rattle.l4_model.specs.Steps.{Step, Queue, Deliver, SendTimeout, ReceiveTimeout, SendNobody, Order, Tick, Retarget, send_of, next, OfThread, OfSend, Runs, Waits, Fails, Obeys, Begun, Queued, Failed, Dropped, Retargeted}
@@ -146,8 +146,8 @@ ask_goes m id (GlobalThread t) what = by (is_admitted m id t what)
     by false = tt
 
 act_goes : (m : Machine) (id : GlobalId) (now : ℕ) (c : Context) (i : Instr) → ActGoes (act m id now c i)
-act_goes m id now c (Ipc to from send_period receive_period) = ipc_goes m id now c (destination c to) send_period (receive_phase from receive_period)
-act_goes m id now c (Ask target what) = ask_goes m id target what
+act_goes m id now c (Ipc to from send_period receive_period) = ipc_goes m id now c (id_from c to) send_period (receive_phase (id_from c from) receive_period)
+act_goes m id now c (Ask target what) = ask_goes m id (id_from c target) what
 act_goes m id now c (Run own) = tt
 act_goes m id now c End = tt
 

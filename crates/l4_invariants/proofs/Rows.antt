@@ -1,8 +1,8 @@
 -- Worked rows: which steps a condition sees, which worlds on its way a history meets, and that a step
 -- told alone need not be one of a shortest history.
 use Rattle.std.proofs.Common.{◌≡◌, ℕ, Bool, true, false, Option, Some, None, List, [], ◌∷◌, refl}
-use Rattle.std.specs.Prelude.{◌==◌, ◌&&◌, slice_get}
-use Rattle.l4_model.specs.Machine.{Machine, Instr, ToId, CancelReceive, Delete, Set, Copy, Add, Tag, Vs, Jump, OnErr, Ipc, Ask, machine_of}
+use Rattle.std.specs.Prelude.{◌==◌, ◌&&◌, slice_get, map, replicate}
+use Rattle.l4_model.specs.Machine.{Machine, Instr, Fixed, CancelReceive, Delete, Set, Copy, Add, From, Tag, Vs, Jump, OnErr, OnLabel, OnWord, OnFrom, Ipc, Ask, machine_of}
 use Rattle.l4_model.specs.Words.{NilThread, W64}
 use Rattle.l4_model.specs.World.{World, Thread, opening}
 use Rattle.l4_model.specs.Rules.{register}
@@ -64,7 +64,7 @@ add_seen = refl
 tag_seen : seen_by (Tag 5) (Local (thread 1)) ≡ false ∷ false ∷ false ∷ true ∷ false ∷ []
 tag_seen = refl
 
-vs_seen : seen_by (Vs (id 2)) (Local (thread 1)) ≡ false ∷ false ∷ true ∷ false ∷ false ∷ []
+vs_seen : seen_by (Vs (Fixed (id 2))) (Local (thread 1)) ≡ false ∷ false ∷ true ∷ false ∷ false ∷ []
 vs_seen = refl
 
 jump_seen : seen_by (Jump 0) (Local (thread 1)) ≡ false ∷ false ∷ false ∷ false ∷ false ∷ []
@@ -73,12 +73,19 @@ jump_seen = refl
 onerr_seen : seen_by (OnErr 0) (Local (thread 1)) ≡ false ∷ false ∷ false ∷ false ∷ false ∷ []
 onerr_seen = refl
 
+from_seen : seen_by (From W64 1) (Local (thread 1)) ≡ false ∷ false ∷ false ∷ true ∷ false ∷ []
+from_seen = refl
+
+branches_seen : map (λ i. seen_by i (Local (thread 1))) (OnLabel 7 0 ∷ OnWord 1 5 0 ∷ OnFrom NilThread 0 ∷ [])
+    ≡ replicate 3 (false ∷ false ∷ false ∷ false ∷ false ∷ [])
+branches_seen = refl
+
 -- An ipc without phases, an order that is refused, and an end
-no_phases_seen : seen_by (Ipc (ToId NilThread) NilThread None None) (Local (thread 1))
+no_phases_seen : seen_by (Ipc (Fixed NilThread) (Fixed NilThread) None None) (Local (thread 1))
     ≡ false ∷ true ∷ true ∷ true ∷ false ∷ []
 no_phases_seen = refl
 
-refused_seen : seen_by (Ask (id 2) CancelReceive) (Local (thread 1)) ≡ false ∷ true ∷ false ∷ false ∷ false ∷ []
+refused_seen : seen_by (Ask (Fixed (id 2)) CancelReceive) (Local (thread 1)) ≡ false ∷ true ∷ false ∷ false ∷ false ∷ []
 refused_seen = refl
 
 end_seen : seen_by (Jump 0) (Local (thread 2)) ≡ true ∷ false ∷ false ∷ false ∷ false ∷ []
@@ -91,7 +98,7 @@ begin_seen = refl
 wait_seen : seen_by receives (Wait (thread 1)) ≡ true ∷ false ∷ false ∷ false ∷ false ∷ []
 wait_seen = refl
 
-order_seen : seen_by (Ask (id 2) Delete) (Order (thread 1) (thread 2) Delete)
+order_seen : seen_by (Ask (Fixed (id 2)) Delete) (Order (thread 1) (thread 2) Delete)
     ≡ true ∷ false ∷ false ∷ false ∷ false ∷ []
 order_seen = refl
 

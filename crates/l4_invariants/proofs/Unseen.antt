@@ -5,7 +5,7 @@ use Rattle.std.specs.Prelude.{◌==◌, ◌||◌, not, slice_get}
 use Rattle.std.specs.List.{list_any}
 use Rattle.std.specs.Option.{option_map}
 use Rattle.l4_model.specs.Words.{GlobalId}
-use Rattle.l4_model.specs.Machine.{Declaration, Machine, Assign, AssignTag, AssignVs, GoTo, GoToOnErr, Instr, Run, Ipc, Ask, End}
+use Rattle.l4_model.specs.Machine.{Declaration, Machine, Assign, AssignTag, AssignVs, GoTo, GoToOnErr, GoToOnLabel, GoToOnWord, GoToOnFrom, Instr, Run, Ipc, Ask, End}
 use Rattle.l4_model.specs.World.{Thread, World, Ready, change, changed}
 use Rattle.l4_model.specs.Conditions.{Found, found, instruction}
 use Rattle.l4_model.specs.Effects.{runs, begins, waits, orders}
@@ -63,11 +63,11 @@ same_ran r (Run (AssignTag word)) t ready apart = record {
   registers = λ is. absurd (unread r (written (Run (AssignTag word))) 0 InRegisters apart refl is);
   send = λ is. refl;
 }
-same_ran r (Run (AssignVs id)) t ready apart = record {
+same_ran r (Run (AssignVs from)) t ready apart = record {
   state = λ is. ap state_of ready;
   code = λ is. refl;
   from = λ is. refl;
-  actual = λ is. absurd (unread r (written (Run (AssignVs id))) 0 InSenders apart refl is);
+  actual = λ is. absurd (unread r (written (Run (AssignVs from))) 0 InSenders apart refl is);
   registers = λ is. refl;
   send = λ is. refl;
 }
@@ -80,6 +80,30 @@ same_ran r (Run (GoTo place)) t ready apart = record {
   send = λ is. refl;
 }
 same_ran r (Run (GoToOnErr place)) t ready apart = record {
+  state = λ is. ap state_of ready;
+  code = λ is. refl;
+  from = λ is. refl;
+  actual = λ is. refl;
+  registers = λ is. refl;
+  send = λ is. refl;
+}
+same_ran r (Run (GoToOnLabel label place)) t ready apart = record {
+  state = λ is. ap state_of ready;
+  code = λ is. refl;
+  from = λ is. refl;
+  actual = λ is. refl;
+  registers = λ is. refl;
+  send = λ is. refl;
+}
+same_ran r (Run (GoToOnWord a word place)) t ready apart = record {
+  state = λ is. ap state_of ready;
+  code = λ is. refl;
+  from = λ is. refl;
+  actual = λ is. refl;
+  registers = λ is. refl;
+  send = λ is. refl;
+}
+same_ran r (Run (GoToOnFrom id place)) t ready apart = record {
   state = λ is. ap state_of ready;
   code = λ is. refl;
   from = λ is. refl;

@@ -12,7 +12,7 @@ use Rattle.l4_core_model.specs.Runs.{Run as CoreRun}
 use Rattle.l4_core_model.specs.Schedules.{replay_entries}
 use Rattle.l4_expect.specs.Expected.{Expected, expectations_of}
 use Rattle.l4_trace.specs.Lines.{IsTraceOf}
-use Rattle.l4_script.specs.Texts.{machine_of_text}
+use Rattle.l4_script.specs.Versions.{machine_of_text}
 use Rattle.l4_script.specs.declared.text.fault.TextFault.{TextFault}
 use Rattle.l4_next.specs.Nexts.{nexts_fault}
 use Rattle.l4_schedules.specs.InFiles.{schedule_in_file}

@@ -2,7 +2,7 @@
 use Rattle.std.proofs.Common.{◌≡◌, ℕ, ◌+◌, Bool, Option, Some, None, Ok, List, [], ◌∷◌, ◌++◌, Bor, length, take, refl, ap, ap₂, sym, subst, ◌∙◌, append-nil}
 use Rattle.std.specs.Prelude.{◌⊎◌, ◌==◌}
 use Rattle.l4_model.specs.Machine.{Machine}
-use Rattle.l4_script.specs.Texts.{machine_of_text}
+use Rattle.l4_script.specs.Versions.{machine_of_text}
 use Rattle.l4_lint.specs.Doubts.{doubts_text, lint_text}
 use Rattle.l4_lint.specs.Faults.{Fault as LintFault, faults_of, fault_in, first_in}
 use Rattle.l4_lint.specs.Spelling.{faults_text as texts_of_faults, status_of}

@@ -6,7 +6,7 @@ use Rattle.l4_model.specs.Machine.{Machine}
 use Rattle.l4_expect.specs.Expected.{Expected}
 use Rattle.l4_core_model.specs.Runs.{Run as CoreRun}
 use Rattle.l4_expect.specs.Unmet.{expected_status}
-use Rattle.l4_script.specs.Texts.{machine_of_text}
+use Rattle.l4_script.specs.Versions.{machine_of_text}
 use Rattle.l4_script.specs.declared.text.fault.TextFault.{TextFault}
 use Rattle.l4_commands.specs.Files.{file_of}
 use Rattle.l4_commands.specs.declared.job.Job.{Job}

@@ -7,7 +7,7 @@ use Rattle.std.proofs.lemmas.List.{length-take, take_all}
 use Rattle.std.specs.Prelude.{Result}
 use Rattle.std.specs.declared.io.ErrorKind.{ErrorKind}
 use Rattle.l4_script.specs.Faults.{fault_at}
-use Rattle.l4_script.specs.Texts.{machine_of_text}
+use Rattle.l4_script.specs.Versions.{machine_of_text}
 use Rattle.l4_script.specs.declared.text.fault.TextFaultKind.TheVariants.{TooLong}
 use Rattle.l4_lint.specs.Doubts.{doubts_of}
 use Rattle.l4_lint.specs.Excerpts.{excerpt, fault_shown, first_shown, line_in}

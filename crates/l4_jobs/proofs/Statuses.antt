@@ -16,7 +16,7 @@ use Rattle.l4_questions.specs.Stuck.{if_cut, is_any, stuck_status}
 use Rattle.l4_questions.specs.declared.question.Question.{Question}
 use Rattle.l4_questions.specs.declared.question.Wanted.{Wanted}
 use Rattle.l4_questions.specs.declared.question.Wanted.TheVariants as wanted
-use Rattle.l4_script.specs.Texts.{machine_of_text}
+use Rattle.l4_script.specs.Versions.{machine_of_text}
 use Rattle.l4_script.specs.declared.text.fault.TextFault.{TextFault}
 use Rattle.l4_types.specs.declared.reports.Ending.{Ending}
 use Rattle.l4_types.specs.declared.reports.Ending.TheVariants.{Quiet, Spent}

@@ -1,7 +1,7 @@
 -- What is written of a job.
 use Rattle.std.specs.Prelude.{◌≡◌, ◌⊎◌, ℕ, Bool, true, false, Option, Some, None, Result, Ok, Err, List, [], ◌∷◌}
 use Rattle.std.specs.declared.io.ErrorKind.{ErrorKind}
-use Rattle.l4_script.specs.Texts.{machine_of_text}
+use Rattle.l4_script.specs.Versions.{machine_of_text}
 use Rattle.l4_commands.specs.Files.{expected_of, file_of, second_file_of}
 use Rattle.l4_commands.specs.declared.job.Job.{Job}
 use Rattle.l4_jobs.specs.FaultLines.{IsReported}

@@ -192,6 +192,7 @@ fn spelled_kind(kind: TextFaultKind) -> &'static str
         TextFaultKind::BadLine => "BadLine",
         TextFaultKind::BadNumber => "BadNumber",
         TextFaultKind::BadId => "BadId",
+        TextFaultKind::BadName => "BadName",
         TextFaultKind::BadCpu => "BadCpu",
         TextFaultKind::TypedItems => "TypedItems",
         TextFaultKind::DoubleId => "DoubleId",

@@ -2,7 +2,7 @@
 ghost use Rattle.std.specs.Prelude.{◌≡◌, ◌≢◌, ◌⊎◌, IfOk, IfErr, List, None, Ok, Some};
 ghost use Rattle.std.specs.Option.{option_copied};
 ghost use Rattle.l4_expect.specs.Expected.{Expected, expectations_of};
-ghost use Rattle.l4_script.specs.Texts.{machine_of_text};
+ghost use Rattle.l4_script.specs.Versions.{machine_of_text};
 ghost use Rattle.l4_script.specs.declared.text.fault.TextFaultKind.TheVariants.{NoMemory as NoMemoryKind};
 ghost use Rattle.l4_commands.specs.Files.{second_file_of};
 ghost use Rattle.l4_jobs.specs.Expectations.{scope_of};

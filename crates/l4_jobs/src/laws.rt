@@ -8,7 +8,7 @@ ghost use Rattle.l4_expect.specs.Expected.{Expected};
 ghost use Rattle.l4_json.specs.Lines.{lines_told};
 ghost use Rattle.l4_machine.specs.Outcomes.{Findings, IsTrueOf};
 ghost use Rattle.l4_model.specs.Machine.{Machine as ModelMachine};
-ghost use Rattle.l4_script.specs.Texts.{machine_of_text};
+ghost use Rattle.l4_script.specs.Versions.{machine_of_text};
 ghost use Rattle.l4_jobs.specs.Inputs.{gives_one};
 ghost use Rattle.l4_jobs.specs.Jobs.{IsDoneFor, IsFaultFor};
 ghost use Rattle.l4_jobs.specs.Outputs.{Output};

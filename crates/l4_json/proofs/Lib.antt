@@ -1,3 +1,4 @@
+mod Adding
 mod Again
 mod Aligned
 mod Escapes
@@ -6,4 +7,5 @@ mod Fitting
 mod Going
 mod Objects
 pub mod Reading
+mod SecondAligned
 mod Texts

@@ -6,7 +6,7 @@ use Rattle.std.proofs.lemmas.Bool.{and_parts, lt-ltb, or_from}
 use Rattle.l4_model.specs.Words.{GlobalId, Id, NilThread, AnyThread, AnyLocalThread, LocalThread, GlobalThread, Period, same_id}
 use Rattle.l4_model.specs.Machine.{Machine, Declaration, Instr, Run, Ipc, Ask, End, OrderKind, CancelSend, CancelReceive, CancelBoth, Delete, declaration_of, is_declared, agree, same_space}
 use Rattle.l4_model.specs.World.{World, Owed, Name, PendingOrder, Receive, Context, same_name, one_more, owed_of, opening}
-use Rattle.l4_model.specs.Rules.{act, ipc_act, ask_act, is_admitted, destination, receive_phase, owed_by, Orders, RunsAlone}
+use Rattle.l4_model.specs.Rules.{act, ipc_act, ask_act, is_admitted, id_from, receive_phase, owed_by, Orders, RunsAlone}
 use Rattle.l4_model.specs.Conditions.{Found, found, Pending, undecided}
 use Rattle.l4_model.specs.Steps.{Step, Deliver, Order, Tick, Retarget, order_of, next, OfThread, OfSend, Begun, Queued, Failed, Dropped, Retargeted}
 use Rattle.l4_model.specs.History.{run, reached}
@@ -83,10 +83,10 @@ ipc_orders_nothing m id now c (GlobalThread t) period receive = refl
 
 act_declared : (m : Machine) (id : GlobalId) (now : ℕ) (c : Context) (i : Instr) (order : PendingOrder) → order_of (act m id now c i) ≡ Some order →
     is_declared m order.target ≡ true
-act_declared m id now c (Ask target what) order h = ask_declared m id target what order h
+act_declared m id now c (Ask target what) order h = ask_declared m id (id_from c target) what order h
 act_declared m id now c (Ipc to from send_period receive_period) order h =
     absurd (no_order (order_of (act m id now c (Ipc to from send_period receive_period))) order
-    (ipc_orders_nothing m id now c (destination c to) send_period (receive_phase from receive_period)) h)
+    (ipc_orders_nothing m id now c (id_from c to) send_period (receive_phase (id_from c from) receive_period)) h)
   where
     no_order : (o : Option PendingOrder) (order : PendingOrder) → o ≡ None → o ≡ Some order → ⊥
     no_order o order e f = cc

@@ -4,9 +4,9 @@ use Rattle.std.proofs.Common.{subst, ◌≡◌, ℕ, zero, suc, ◌<◌, Bool, t
 use Rattle.std.specs.Prelude.{slice_index, slice_set, IfSome}
 use Rattle.std.specs.Option.{option_map}
 use Rattle.l4_model.specs.Words.{GlobalId, Id, NilThread, AnyThread, AnyLocalThread, LocalThread, GlobalThread, Period}
-use Rattle.l4_model.specs.Machine.{Machine, Declaration, Assign, Instr, Run, Tag, Vs, Ipc, Ask, Jump, OnErr, End, OrderKind, CancelSend, CancelReceive, CancelBoth, Delete, instruction_at}
+use Rattle.l4_model.specs.Machine.{Machine, Declaration, IdFrom, Fixed, Assign, Instr, Run, Tag, Vs, Ipc, Ask, Jump, OnErr, OnLabel, OnWord, OnFrom, End, OrderKind, CancelSend, CancelReceive, CancelBoth, Delete, instruction_at}
 use Rattle.l4_model.specs.World.{Context, Thread, Message, Send, Receive, Owed, Phase, Ready, Sending, Receiving, Ordering, Ended, Deleted, opening, is_alive, receive_now}
-use Rattle.l4_model.specs.Rules.{act, ipc_act, ask_act, is_admitted, destination, receive_phase, ran, register, message_of}
+use Rattle.l4_model.specs.Rules.{act, ipc_act, ask_act, is_admitted, id_from, receive_phase, ran, register, message_of}
 use Rattle.l4_model.specs.Steps.{send_of, receive_of}
 use Rattle.l4_model.specs.Effects.{phase_after, fails, decided, goes_on, asked, turned_send, turned_receive, turns_in, turns}
 use Rattle.l4_model.proofs.Chains.{some_is, cond_keeps}
@@ -18,8 +18,8 @@ use Rattle.l4_lint.proofs.Changes.{Fact, Each, IsKept}
 abbrev pub Allows : (ℕ → Id → Type 0) → Instr → Type 0
 Allows C (Run (Assign a value)) = 0 < a
 Allows C (Tag word) = (tag : ℕ) (actual : Id) → C tag actual → C word actual
-Allows C (Vs id) = (tag : ℕ) (actual : Id) → C tag actual → C tag id
-Allows C (Ipc to from send_period receive_period) = from ≡ NilThread
+Allows C (Vs from) = (tag : ℕ) (actual : Id) → C tag actual → (c : Context) → C tag (id_from c from)
+Allows C (Ipc to from send_period receive_period) = from ≡ Fixed NilThread
 Allows C _ = Unit {0}
 
 -- A script keeps a fact of both registers, and each message that such registers give has a fact too.
@@ -54,11 +54,14 @@ ran_keeps : (m : Machine) (d : Declaration) (C : ℕ → Id → Type 0) (M : Mes
     C (register c 0) c.actual → C (register (ran i c) 0) (ran i c).actual
 ran_keeps m d C M (Run (Assign a value)) c closed i h = subst (λ n. C n c.actual) (sym (above_first c.words a _ i)) h
 ran_keeps m d C M (Tag word) c closed i h = first_set (λ n. C n c.actual) c.words word (closed.zero _ _ h) (i _ _ h)
-ran_keeps m d C M (Vs id) c closed i h = i _ _ h
+ran_keeps m d C M (Vs from) c closed i h = i _ _ h c
 ran_keeps m d C M (Ipc to from send_period receive_period) c closed i h = first_set (λ n. C n c.actual) c.words 0 (closed.zero _ _ h) (closed.zero _ _ h)
 ran_keeps m d C M (Ask target what) c closed i h = h
 ran_keeps m d C M (Jump place) c closed i h = h
 ran_keeps m d C M (OnErr place) c closed i h = h
+ran_keeps m d C M (OnLabel label place) c closed i h = h
+ran_keeps m d C M (OnWord a word place) c closed i h = h
+ran_keeps m d C M (OnFrom id place) c closed i h = h
 ran_keeps m d C M End c closed i h = h
 
 waits_not_after : (i : Instr) → receive_now (phase_after i) ≡ None
@@ -102,18 +105,18 @@ not_both o x e f = cc
 act_calls_nobody : (m : Machine) (id : GlobalId) (now : ℕ) (c : Context) (C : ℕ → Id → Type 0) (i : Instr) (send : Send) → Allows C i →
     send_of (act m id now c i) ≡ Some send → send.receive ≡ None
 act_calls_nobody m id now c C (Ipc to from send_period receive_period) send i h =
-    ipc_calls_nobody m id now c (destination c to) send_period send
-    (subst (λ (x : Id). send_of (ipc_act m id now c (destination c to) send_period (receive_phase x receive_period)) ≡ Some send) i h)
-act_calls_nobody m id now c C (Ask target what) send i h = absurd (not_both _ send (ask_sends_nothing m id target what).0 h)
+    ipc_calls_nobody m id now c (id_from c to) send_period send
+    (subst (λ (x : IdFrom). send_of (ipc_act m id now c (id_from c to) send_period (receive_phase (id_from c x) receive_period)) ≡ Some send) i h)
+act_calls_nobody m id now c C (Ask target what) send i h = absurd (not_both _ send (ask_sends_nothing m id (id_from c target) what).0 h)
 act_calls_nobody m id now c C (Run own) send i h = cc
 act_calls_nobody m id now c C End send i h = cc
 
 act_waits_not : (m : Machine) (id : GlobalId) (now : ℕ) (c : Context) (C : ℕ → Id → Type 0) (i : Instr) (receive : Receive) → Allows C i →
     receive_of (act m id now c i) ≡ Some receive → ⊥
 act_waits_not m id now c C (Ipc to from send_period receive_period) receive i h =
-    not_both _ receive (ipc_waits_not m id now c (destination c to) send_period)
-    (subst (λ (x : Id). receive_of (ipc_act m id now c (destination c to) send_period (receive_phase x receive_period)) ≡ Some receive) i h)
-act_waits_not m id now c C (Ask target what) receive i h = not_both _ receive (ask_sends_nothing m id target what).1 h
+    not_both _ receive (ipc_waits_not m id now c (id_from c to) send_period)
+    (subst (λ (x : IdFrom). receive_of (ipc_act m id now c (id_from c to) send_period (receive_phase (id_from c x) receive_period)) ≡ Some receive) i h)
+act_waits_not m id now c C (Ask target what) receive i h = not_both _ receive (ask_sends_nothing m id (id_from c target) what).1 h
 act_waits_not m id now c C (Run own) receive i h = cc
 act_waits_not m id now c C End receive i h = cc
 

@@ -42,5 +42,6 @@ operands_of these.Format name =
     operands_behind name (codes "l4") (operand.Profile ∷ operand.Width ∷ [])
 operands_of these.Processors name = operands_behind name (codes "cpus") (operand.Processors ∷ [])
 operands_of these.Thread name = operands_behind name (codes "thread") thread_operands
+operands_of these.Names name = None
 operands_of these.Script name =
     if bytes_eq name (codes "thread") then Some thread_operands else instruction_operands name

@@ -48,12 +48,15 @@ is_right c operand.Destination word = is_ok (destination_of c.format word)
 is_right c operand.Time word = is_ok (time_from word)
 is_right c operand.Bits word = is_some (bits_of word)
 is_right c operand.Place word = is_some (number_of word)
+is_right c other word = false
 
 -- A keyword is judged with the form of its line.
 abbrev pub is_keyword : Operand → Bool
 is_keyword operand.CpuKeyword = true
 is_keyword operand.SpaceKeyword = true
 is_keyword operand.Bits = true
+is_keyword operand.ToKeyword = true
+is_keyword operand.AsKeyword = true
 is_keyword other = false
 
 -- `N.V`, V a multiple of 64: the low six bits of a thread's version are not all zero.

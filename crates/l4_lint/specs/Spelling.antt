@@ -18,6 +18,7 @@ kind_word kinds.NoMemory = codes "NoMemory"
 kind_word kinds.BadLine = codes "BadLine"
 kind_word kinds.BadNumber = codes "BadNumber"
 kind_word kinds.BadId = codes "BadId"
+kind_word kinds.BadName = codes "BadName"
 kind_word kinds.BadCpu = codes "BadCpu"
 kind_word kinds.TypedItems = codes "TypedItems"
 kind_word kinds.DoubleId = codes "DoubleId"
@@ -45,35 +46,79 @@ operand_text operand.Destination =
 operand_text operand.Time = codes "wanted: never, zero, or a time, 0 to 0x7fff"
 operand_text operand.Bits = codes "wanted: S, R or SR"
 operand_text operand.Place = codes "wanted: a place of the script, 0 to its number of instructions"
+operand_text operand.NamedThread = codes "wanted: a thread N.V, or its name"
+operand_text operand.ToKeyword = codes "wanted: to"
+operand_text operand.LastThread = codes "wanted: a thread of the same version and no lower number"
+operand_text operand.AsKeyword = codes "wanted: as"
+operand_text operand.Heir = codes "wanted: a thread that is declared before"
+operand_text operand.NewName = codes "wanted: a name"
+operand_text operand.NamedId =
+    codes "wanted: a name, nil, any, anylocal, a thread N.V, or # and all digits of a word"
+operand_text operand.IdOrRegister = codes
+    "wanted: a name, mr0 to mr63, nil, any, anylocal, a thread N.V, or # and all digits of a word"
+operand_text operand.IdOrLast = codes
+    "wanted: a name, last, mr0 to mr63, nil, any, anylocal, a thread N.V, or # and all digits of a word"
+operand_text operand.CountedTime =
+    codes "wanted: never, zero, a time as 5us, 5ms or 0s, or its bits, 0 to 0x7fff"
+operand_text operand.Label = codes "wanted: a label of the format of line 1"
+operand_text operand.NamedPlace =
+    codes "wanted: a name in this script, or a place, 0 to its number of instructions"
 
 abbrev pub lines_text : Lines → List ℕ
 lines_text these.Format = codes "wanted: the first line, l4 P B"
 lines_text these.Processors = codes "wanted: the second line, cpus N"
 lines_text these.Thread = codes "wanted: a line thread N.V cpu P space S"
 lines_text these.Script = codes "wanted: an instruction, or a line thread N.V cpu P space S"
+lines_text these.Names = codes "wanted: a line name NAME ID, or a line thread N.V cpu P space S"
+
+-- The words of a hint that has no number.
+abbrev pub plain_hint : Hint → List ℕ
+plain_hint hints.LongText = codes "a text has at most 1048576 bytes"
+plain_hint hints.NoLineEnd = codes "the last line has no line end"
+plain_hint hints.ByteOrderMark = codes "a byte order mark; a text begins with its first line"
+plain_hint hints.CarriageReturn = codes "a carriage return; a line ends with the byte 0x0a alone"
+plain_hint hints.Tab = codes "a tab; one space stands between two words"
+plain_hint hints.Unprintable = codes "no printable ASCII"
+plain_hint hints.Space = codes "a space too many; one stands between two words and none elsewhere"
+plain_hint (hints.Begins which) = lines_text which
+plain_hint hints.OtherComment = codes "a comment begins with ;"
+plain_hint hints.CommentBehind = codes "a comment stands on a line of its own"
+plain_hint hints.Surplus = codes "a word too many"
+plain_hint (hints.Wanted what) = operand_text what
+plain_hint hints.Hexadecimal = codes "a hexadecimal number is 0x and lower-case digits"
+plain_hint hints.TimeUnit =
+    codes "a time has no unit: N below 1024 is N microseconds, E * 1024 + N is N * 2^E of them"
+plain_hint hints.Last = codes "last stands only where an ipc sends to"
+plain_hint hints.Version = codes "no thread has this version; its low six bits are not all zero"
+plain_hint hints.TypedItems = codes "t, bits 6 to 11 of a tag, is not zero"
+plain_hint hints.DoubleNumber = codes "a thread before has this number"
+plain_hint hints.ManyThreads = codes "a machine has at most 1024 threads"
+plain_hint hints.ManyInstructions = codes "a script has at most 1024 instructions"
+plain_hint hints.NoName = codes
+    "a name is a letter and then letters, digits, - and _, at most 31 bytes, and no keyword"
+plain_hint hints.Unknown = codes "no line declares this name"
+plain_hint hints.OfHeir = codes "a thread with the script of another has no line of its own"
+plain_hint other = []
+
+abbrev pub declared_text : (line : ℕ) → List ℕ
+declared_text line = codes "line " ++ decimal line ++ codes " declares this name"
+
+abbrev pub near_text : (line : ℕ) → List ℕ
+near_text line = codes "line " ++ decimal line ++ codes " declares a name that is near"
+
+abbrev pub counted_text : (ticks : ℕ) → List ℕ
+counted_text ticks = decimal ticks ++ codes "us"
+
+abbrev pub near_times_text : (below above : ℕ) → List ℕ
+near_times_text below above =
+    codes "no time means this; the nearest are " ++ counted_text below ++ codes " and "
+    ++ counted_text above
 
 abbrev pub hint_text : Hint → List ℕ
-hint_text hints.LongText = codes "a text has at most 1048576 bytes"
-hint_text hints.NoLineEnd = codes "the last line has no line end"
-hint_text hints.ByteOrderMark = codes "a byte order mark; a text begins with its first line"
-hint_text hints.CarriageReturn = codes "a carriage return; a line ends with the byte 0x0a alone"
-hint_text hints.Tab = codes "a tab; one space stands between two words"
-hint_text hints.Unprintable = codes "no printable ASCII"
-hint_text hints.Space = codes "a space too many; one stands between two words and none elsewhere"
-hint_text (hints.Begins which) = lines_text which
-hint_text hints.OtherComment = codes "a comment begins with ;"
-hint_text hints.CommentBehind = codes "a comment stands on a line of its own"
-hint_text hints.Surplus = codes "a word too many"
-hint_text (hints.Wanted what) = operand_text what
-hint_text hints.Hexadecimal = codes "a hexadecimal number is 0x and lower-case digits"
-hint_text hints.TimeUnit =
-    codes "a time has no unit: N below 1024 is N microseconds, E * 1024 + N is N * 2^E of them"
-hint_text hints.Last = codes "last stands only where an ipc sends to"
-hint_text hints.Version = codes "no thread has this version; its low six bits are not all zero"
-hint_text hints.TypedItems = codes "t, bits 6 to 11 of a tag, is not zero"
-hint_text hints.DoubleNumber = codes "a thread before has this number"
-hint_text hints.ManyThreads = codes "a machine has at most 1024 threads"
-hint_text hints.ManyInstructions = codes "a script has at most 1024 instructions"
+hint_text (hints.DeclaredOn line) = declared_text line
+hint_text (hints.NearOn line) = near_text line
+hint_text (hints.NearTimes below above) = near_times_text below above
+hint_text hint = plain_hint hint
 
 -- What stands there, its bytes escaped as Rust escapes them in ASCII, if anything stands there.
 abbrev pub shown_word : (word : List ℕ) → List ℕ

@@ -1,32 +1,41 @@
 //! What is doubtful in a text that declares a machine.
-ghost use Rattle.std.specs.Prelude.{ℕ, List, ◌≡◌, ◌≤◌, ◌++◌, length, map, IfOk, OnOk};
+ghost use Rattle.std.specs.Prelude.{ℕ, List, ◌≡◌, ◌++◌, ◌==◌, map, IfOk, OnOk};
 ghost use Rattle.std.specs.List.{list_any};
 ghost use Rattle.std.specs.Option.{option_copied};
 ghost use Rattle.std.specs.Str.{bytes_eq};
-ghost use Rattle.l4_script.specs.Inner.Scripts.{instr_of};
+ghost use Rattle.l4_script.specs.Inner.Scripts.{id_from_of, instr_of};
+ghost use Rattle.l4_script.specs.Inner.Second.{stage_of};
 ghost use Rattle.l4_script.specs.Numbers.{time_from};
-ghost use Rattle.l4_script.specs.Texts.{machine_of_text};
+ghost use Rattle.l4_script.specs.Second.Texts.{Start, begins_second};
+ghost use Rattle.l4_words.specs.Lines.{parts_of as text_parts};
+ghost use Rattle.l4_script.specs.Versions.{machine_of_text};
 ghost use Rattle.l4_lint.specs.Always.{AreAlwaysSo};
 ghost use Rattle.l4_lint.specs.Doubts.{answer_doubts, asks_to_propagate, doubt_line, doubt_text};
-ghost use Rattle.l4_lint.specs.Doubts.{doubted, doubts_text, lines_of};
+ghost use Rattle.l4_lint.specs.Doubts.{doubted, doubts_in, doubts_text};
+ghost use Rattle.l4_lint.specs.Doubts.{second_doubts_from, second_line_doubts, stage_behind, thread_at};
+ghost use Rattle.l4_lint.specs.Lines.{lines_of};
 ghost use Rattle.l4_lint.specs.Doubts.{doubtful_at, doubts_from, doubts_of, id_doubts, ipc_doubts};
 ghost use Rattle.l4_lint.specs.Doubts.{is_endless, is_no_thread, is_one_of_ids, is_write};
-ghost use Rattle.l4_lint.specs.Doubts.{line_doubts, mark_word, marked, names_originator, number_in};
+ghost use Rattle.l4_lint.specs.Doubts.{words_doubts, mark_word, marked, names_originator, number_in};
 ghost use Rattle.l4_lint.specs.Doubts.{from_doubts, is_decimal, is_foreign, is_long, is_own};
 ghost use Rattle.l4_lint.specs.Doubts.{order_doubts};
 ghost use Rattle.l4_lint.specs.Doubts.{receives, time_doubts, to_doubts};
+ghost use Rattle.l4_lint.specs.Doubts.{is_taken_from, may_receive};
 ghost use Rattle.l4_lint.specs.Doubts.{script_doubts, tag_doubts, thread_after, uses, write_doubts};
 ghost use Rattle.l4_lint.specs.Reading.{begins_script};
+ghost use Rattle.l4_lint.specs.Second.Parts.{parts_of};
 ghost use Rattle.l4_lint.specs.Inner.Views.{doubtful_of};
 
 use crate::bytes::split_word;
 use crate::commands::first_operand;
 use crate::hints::Operand;
 use crate::judging::is_digit;
+use crate::second::parts_of;
 use crate::spelling::push_place;
-use l4_script::instructions::Instr;
+use l4_script::instructions::{IdFrom, Instr, Source};
 use l4_script::machine::{Declaration, Machine};
-use l4_script::text::{TextFaultKind, number, time};
+use l4_script::text::second::{Stage, begins_second};
+use l4_script::text::{TextFaultKind, law_canonical_text, number, time};
 use l4_types::errors::NoMemory;
 use l4_types::ids::{GlobalId, ThreadId};
 use l4_types::times::Period;
@@ -113,12 +122,11 @@ fn is(word: &[u8], other: &[u8]) -> bool
 
 // The first word of the rest of a line, with its doubt.
 fn doubtful_at<'a>(number: usize, line: &'a [u8], rest: &'a [u8], doubt: Doubt) -> Doubtful<'a>
-    requires { length rest.now ≤ length line.now }
     ensures { doubtful_of result ≡ doubtful_at number line.now rest.now doubt }
 {
     Doubtful {
         line: number,
-        column: line.len() - rest.len() + 1,
+        column: line.len().saturating_sub(rest.len()) + 1,
         word: split_word(rest).0,
         doubt,
     }
@@ -156,7 +164,6 @@ fn push_id<'a>(
     rest: &'a [u8],
     found: &mut Vec<Doubtful<'a>>,
 ) -> Result<(), NoMemory>
-    requires { length rest.now ≤ length line.now }
     ensures { OnOk result (map doubtful_of found.new.items ≡
         map doubtful_of found.old.items ++ id_doubts machine.now number line.now rest.now) }
 {
@@ -182,7 +189,6 @@ fn push_answer<'a>(
     time: &'a [u8],
     found: &mut Vec<Doubtful<'a>>,
 ) -> Result<(), NoMemory>
-    requires { length time.now ≤ length line.now }
     ensures { OnOk result (map doubtful_of found.new.items ≡
         map doubtful_of found.old.items ++ answer_doubts number line.now to.now time.now) }
 {
@@ -213,7 +219,6 @@ fn push_to<'a>(
     to: &'a [u8],
     found: &mut Vec<Doubtful<'a>>,
 ) -> Result<(), NoMemory>
-    requires { length to.now ≤ length line.now }
     ensures { OnOk result (map doubtful_of found.new.items ≡ map doubtful_of found.old.items ++
         to_doubts machine.now (option_copied declared.entry) number line.now to.now) }
 {
@@ -240,7 +245,6 @@ fn push_from<'a>(
     from: &'a [u8],
     found: &mut Vec<Doubtful<'a>>,
 ) -> Result<(), NoMemory>
-    requires { length from.now ≤ length line.now }
     ensures { OnOk result (map doubtful_of found.new.items ≡ map doubtful_of found.old.items ++
         from_doubts machine.now (option_copied declared.entry) number line.now from.now) }
 {
@@ -273,7 +277,6 @@ fn push_time<'a>(
     time: &'a [u8],
     found: &mut Vec<Doubtful<'a>>,
 ) -> Result<(), NoMemory>
-    requires { length time.now ≤ length line.now }
     ensures { OnOk result (map doubtful_of found.new.items ≡
         map doubtful_of found.old.items ++ time_doubts number line.now time.now) }
 {
@@ -293,7 +296,6 @@ fn push_ipc<'a>(
     to: &'a [u8],
     found: &mut Vec<Doubtful<'a>>,
 ) -> Result<(), NoMemory>
-    requires { length to.now ≤ length line.now }
     ensures { OnOk result (map doubtful_of found.new.items ≡ map doubtful_of found.old.items ++
         ipc_doubts machine.now (option_copied declared.entry) number line.now to.now) }
 {
@@ -325,12 +327,13 @@ fn push_order<'a>(
     declared: Option<&Declaration>,
     number: usize,
     line: &'a [u8],
+    words: &'a [u8],
     found: &mut Vec<Doubtful<'a>>,
 ) -> Result<(), NoMemory>
     ensures { OnOk result (map doubtful_of found.new.items ≡ map doubtful_of found.old.items ++
-        order_doubts machine.now (option_copied declared.entry) number line.now) }
+        order_doubts machine.now (option_copied declared.entry) number line.now words.now) }
 {
-    let (word, rest) = split_word(line);
+    let (word, rest) = split_word(words);
     push_id(machine, number, line, rest, found)?;
     let is_doubted = is(word, b"exregs")
         && is_foreign(machine, declared, thread(split_word(rest).0));
@@ -341,20 +344,44 @@ fn push_order<'a>(
     )
 }
 
-fn receives(from: ThreadId) -> bool
-    ensures { result ≡ receives from }
+// Whether a receive phase may follow: `last` and a register may have any id.
+fn may_receive(from: IdFrom) -> bool
+    ensures { result ≡ may_receive (id_from_of from) }
 {
-    from != ThreadId::NIL
+    match from {
+        IdFrom::Fixed(id) => id != ThreadId::NIL,
+        IdFrom::Last | IdFrom::InRegister(_) | IdFrom::InShortRegister(_) => true,
+    }
 }
 
-// Whether an instruction copies this register, or sends or may send it.
+fn is_register(register: u64, source: Source) -> bool
+    ensures { result ≡ (source == register) }
+{
+    u64::from(source.number()) == register
+}
+
+fn is_taken_from(register: u64, from: IdFrom) -> bool
+    ensures { result ≡ is_taken_from register (id_from_of from) }
+{
+    match from {
+        IdFrom::InRegister(source) | IdFrom::InShortRegister(source) => {
+            is_register(register, source)
+        }
+        IdFrom::Fixed(_) | IdFrom::Last => false,
+    }
+}
+
+// Whether an instruction copies or tests this register, takes an id from it, or sends or may send
+// it.
 fn uses(register: u64, instruction: &Instr) -> bool
     ensures { result ≡ uses register (instr_of instruction.now) }
 {
     match *instruction {
         Instr::Tag(tag) => register <= tag.raw() % 64,
-        Instr::Copy(_, from) => u64::from(from.number()) == register,
-        Instr::Ipc(ipc) => receives(ipc.from()),
+        Instr::Copy(_, from) => is_register(register, from),
+        Instr::OnWord(source, _, _) => is_register(register, source),
+        Instr::Vs(from) | Instr::Order(from, _) => is_taken_from(register, from),
+        Instr::Ipc(ipc) => may_receive(ipc.from()) || is_taken_from(register, ipc.to()),
         _ => false,
     }
 }
@@ -384,7 +411,6 @@ fn push_write<'a>(
     rest: &'a [u8],
     found: &mut Vec<Doubtful<'a>>,
 ) -> Result<(), NoMemory>
-    requires { length rest.now ≤ length line.now }
     ensures { OnOk result (map doubtful_of found.new.items ≡
         map doubtful_of found.old.items ++ write_doubts declared.now number line.now rest.now) }
 {
@@ -401,8 +427,9 @@ fn names_originator(machine: &Machine, sender: GlobalId, instruction: &Instr) ->
     ensures { result ≡ names_originator machine.now sender (instr_of instruction.now) }
 {
     match *instruction {
-        Instr::Vs(id) => machine.may_show(sender, id),
-        Instr::Ipc(ipc) => receives(ipc.from()),
+        Instr::Vs(IdFrom::Fixed(id)) => machine.may_show(sender, id),
+        Instr::Vs(_) => true,
+        Instr::Ipc(ipc) => may_receive(ipc.from()),
         _ => false,
     }
 }
@@ -433,7 +460,6 @@ fn push_tag<'a>(
     rest: &'a [u8],
     found: &mut Vec<Doubtful<'a>>,
 ) -> Result<(), NoMemory>
-    requires { length rest.now ≤ length line.now }
     ensures { OnOk result (map doubtful_of found.new.items ≡ map doubtful_of found.old.items ++
         tag_doubts machine.now declared.now number line.now rest.now) }
 {
@@ -464,15 +490,16 @@ fn push_of_script<'a>(
     declared: Option<&Declaration>,
     number: usize,
     line: &'a [u8],
+    words: &'a [u8],
     found: &mut Vec<Doubtful<'a>>,
 ) -> Result<(), NoMemory>
     ensures { OnOk result (map doubtful_of found.new.items ≡ map doubtful_of found.old.items ++
-        script_doubts machine.now (option_copied declared.entry) number line.now) }
+        script_doubts machine.now (option_copied declared.entry) number line.now words.now) }
 {
     let Some(declared) = declared else {
         return Ok(());
     };
-    let (word, rest) = split_word(line);
+    let (word, rest) = split_word(words);
     if is_write(word) {
         return push_write(declared, number, line, rest, found);
     }
@@ -482,25 +509,26 @@ fn push_of_script<'a>(
     Ok(())
 }
 
-// Appends the doubts of a line.
-fn push_line<'a>(
+// Appends the doubts of the words that a line ends with.
+fn push_words<'a>(
     machine: &Machine,
     declared: Option<&Declaration>,
     number: usize,
     line: &'a [u8],
+    words: &'a [u8],
     found: &mut Vec<Doubtful<'a>>,
 ) -> Result<(), NoMemory>
     ensures { OnOk result (map doubtful_of found.new.items ≡ map doubtful_of found.old.items ++
-        line_doubts machine.now (option_copied declared.entry) number line.now) }
+        words_doubts machine.now (option_copied declared.entry) number line.now words.now) }
 {
-    let (word, rest) = split_word(line);
+    let (word, rest) = split_word(words);
     if is(word, b"ipc") {
         return push_ipc(machine, declared, number, line, rest, found);
     }
     if is_one_of_ids(word) {
-        return push_order(machine, declared, number, line, found);
+        return push_order(machine, declared, number, line, words, found);
     }
-    push_of_script(machine, declared, number, line, found)
+    push_of_script(machine, declared, number, line, words, found)
 }
 
 fn begins_script(line: &[u8]) -> bool
@@ -530,10 +558,11 @@ fn doubts_in<'a>(
     let mut begun = 0;
     let mut before = 0;
     'lines: while let Some((line, rest)) = split_line(left) {
-        push_line(
+        push_words(
             machine,
             thread_after(machine, begun),
             before + 1,
+            line,
             line,
             &mut found,
         )?;
@@ -544,11 +573,94 @@ fn doubts_in<'a>(
     Ok(found)
 }
 
+// The thread whose script is the last that was read so far, as the whole text declares it.
+fn thread_at<'m>(machine: &'m Machine, stage: &Stage<'_>) -> Option<&'m Declaration>
+    ensures { option_copied result ≡ thread_at machine.now (stage_of stage.now) }
+{
+    match stage {
+        Stage::Threads(reading) => thread_after(machine, reading.machine().threads().len()),
+        Stage::Start | Stage::Processors(_) => None,
+    }
+}
+
+// Reads the line of this number. What is faulty changes nothing.
+fn read_on<'a>(
+    alloc: Global,
+    stage: &mut Stage<'a>,
+    number: usize,
+    line: &'a [u8],
+) -> Result<(), NoMemory>
+    ensures { OnOk result
+        (stage_of stage.new ≡ stage_behind number (stage_of stage.old) line.now) }
+{
+    match stage.read_line(number, alloc, line) {
+        Err(TextFaultKind::NoMemory) => Err(NoMemory),
+        _ => Ok(()),
+    }
+}
+
+// Appends the doubts of a line with scripts of version 2.
+fn push_second_line<'a>(
+    machine: &Machine,
+    declared: Option<&Declaration>,
+    number: usize,
+    line: &'a [u8],
+    found: &mut Vec<Doubtful<'a>>,
+) -> Result<(), NoMemory>
+    ensures { OnOk result (map doubtful_of found.new.items ≡ map doubtful_of found.old.items ++
+        second_line_doubts machine.now (option_copied declared.entry) number
+        (parts_of line.now)) }
+{
+    let parts = parts_of(line);
+    push_words(machine, declared, number, parts.front, parts.words, found)
+}
+
+// The doubts of the text of a machine with scripts of version 2, line by line.
+fn second_doubts_in<'a>(
+    alloc: Global,
+    machine: &Machine,
+    text: &'a [u8],
+) -> Result<Vec<Doubtful<'a>>, NoMemory>
+    ensures { IfOk result (λ found. map doubtful_of found.items ≡
+        second_doubts_from machine.now (lines_of text.now) Start 1) }
+{
+    let mut found = Vec::new(alloc);
+    let mut stage = Stage::Start;
+    let mut left = text;
+    let mut before = 0;
+    'lines: while let Some((line, rest)) = split_line(left) {
+        read_on(alloc, &mut stage, before + 1, line)?;
+        let declared = thread_at(machine, &stage);
+        push_second_line(machine, declared, before + 1, line, &mut found)?;
+        before += 1;
+        left = rest;
+    }
+    Ok(found)
+}
+
+// The doubts of the text of a machine.
+fn doubts_on<'a>(
+    alloc: Global,
+    machine: &Machine,
+    text: &'a [u8],
+) -> Result<Vec<Doubtful<'a>>, NoMemory>
+    ensures { IfOk result (λ found. map doubtful_of found.items ≡
+        doubts_in (begins_second (text_parts text.now)) machine.now (lines_of text.now)) }
+{
+    if begins_second(text) {
+        second_doubts_in(alloc, machine, text)
+    } else {
+        doubts_in(alloc, machine, text)
+    }
+}
+
 /// What a doubt says that is marked `Always` holds in every history of the machine that the text
 /// declares.
 pub fn law_always()
     ensures { (text : List ℕ) → AreAlwaysSo text (doubts_of text) }
-{}
+{
+    law_canonical_text();
+}
 
 /// What is doubtful in a text that declares a machine, in order of its lines and from left to
 /// right. A text with a fault has no doubts. What is marked `Always` holds in every history.
@@ -558,7 +670,7 @@ pub fn doubts<'a>(alloc: Global, text: &'a [u8]) -> Result<Vec<Doubtful<'a>>, No
 {
     law_always();
     match Machine::parse(alloc, text) {
-        Ok(machine) => doubts_in(alloc, &machine, text),
+        Ok(machine) => doubts_on(alloc, &machine, text),
         Err(fault) if fault.kind == TextFaultKind::NoMemory => Err(NoMemory),
         Err(_) => Ok(Vec::new(alloc)),
     }

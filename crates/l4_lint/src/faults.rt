@@ -3,7 +3,7 @@ ghost use Rattle.std.specs.Prelude.{◌≡◌, ◌≤◌, ◌+◌, ◌++◌, ◌
 ghost use Rattle.std.specs.Prelude.{IfOk, IfSome, MatchOption, OnOk};
 ghost use Rattle.l4_words.specs.Lines.{parts_of};
 ghost use Rattle.l4_script.specs.Inner.Stages.{stage_of};
-ghost use Rattle.l4_script.specs.Texts.{machine_of_text};
+ghost use Rattle.l4_script.specs.Versions.{machine_of_text};
 ghost use Rattle.l4_lint.specs.Faults.{Fault as FaultView, step, followed, faults_from, faults_of};
 ghost use Rattle.l4_lint.specs.Faults.{too_long, not_read, unended, text_ends, ended, first_in};
 ghost use Rattle.l4_lint.specs.Faults.{fault_in};
@@ -16,6 +16,8 @@ use crate::hints::Hint;
 use crate::missed::push_missed;
 use crate::places::Place;
 use crate::reading::Reader;
+use crate::second;
+use l4_script::text::second::begins_second;
 use l4_script::text::{MOST_BYTES, Stage, TextFaultKind};
 use l4_types::errors::NoMemory;
 use l4_words::lines::split_line;
@@ -49,6 +51,9 @@ pub fn faults<'a>(alloc: Global, text: &'a [u8]) -> Result<Vec<Fault<'a>>, NoMem
         keep(&mut found, too_long())?;
         return Ok(found);
     }
+    if begins_second(text) {
+        return second::faults_in(alloc, text);
+    }
     faults_in(alloc, text)
 }
 
@@ -73,7 +78,7 @@ fn too_long<'a>() -> Fault<'a>
 }
 
 /// The fault of a last line without a line end.
-fn unended<'a>(number: usize, line: &[u8]) -> Fault<'a>
+pub(crate) fn unended<'a>(number: usize, line: &[u8]) -> Fault<'a>
     requires { length line.now ≤ 0x10_0000 }
     ensures { fault_of result ≡ unended number line.now }
 {

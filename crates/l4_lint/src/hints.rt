@@ -37,6 +37,30 @@ pub enum Operand {
     Bits,
     /// A place of the script: 0 to its number of instructions.
     Place,
+    /// A thread `N.V`, or a name (scripts of version 2, as all below).
+    NamedThread,
+    /// The word `to`.
+    ToKeyword,
+    /// A thread of the same version with no lower number, or its name.
+    LastThread,
+    /// The word `as`.
+    AsKeyword,
+    /// A thread that is declared before.
+    Heir,
+    /// A name that may be declared.
+    NewName,
+    /// A thread id, or a name.
+    NamedId,
+    /// A thread id, a name, or a register `mrA`.
+    IdOrRegister,
+    /// The same, or `last`.
+    IdOrLast,
+    /// A time of version 1, or so many microseconds, milliseconds or seconds.
+    CountedTime,
+    /// A label of the text's format.
+    Label,
+    /// A place of the script, or the name of an instruction.
+    NamedPlace,
 }
 
 /// Which lines may stand in a place of a text.
@@ -50,6 +74,8 @@ pub enum Lines {
     Thread,
     /// A thread line, or an instruction.
     Script,
+    /// A line `name NAME ID`, or a thread line (scripts of version 2).
+    Names,
 }
 
 /// The hint of a fault: what stands there, or what may stand there.
@@ -95,4 +121,16 @@ pub enum Hint {
     ManyThreads,
     /// One instruction more than a script may have.
     ManyInstructions,
+    /// A word that is no name.
+    NoName,
+    /// A name that no line declares, nor one that is near.
+    Unknown,
+    /// The line of this number declares the name.
+    DeclaredOn(usize),
+    /// The line of this number declares a name that is near.
+    NearOn(usize),
+    /// No time means so many microseconds, but these two numbers of them.
+    NearTimes(u64, u64),
+    /// No instruction follows a thread line that names another thread's script.
+    OfHeir,
 }

@@ -79,6 +79,8 @@ pub(crate) fn is_right(context: Context, operand: Operand, word: &[u8]) -> bool
         Operand::Time => time(word).is_ok(),
         Operand::Bits => bits(word).is_some(),
         Operand::Place => number(word).is_some(),
+        // Those of scripts of version 2 are judged beside their names.
+        _ => false,
     }
 }
 
@@ -88,7 +90,11 @@ pub(crate) fn is_keyword(operand: Operand) -> bool
 {
     matches!(
         operand,
-        Operand::CpuKeyword | Operand::SpaceKeyword | Operand::Bits
+        Operand::CpuKeyword
+            | Operand::SpaceKeyword
+            | Operand::Bits
+            | Operand::ToKeyword
+            | Operand::AsKeyword
     )
 }
 
@@ -103,7 +109,7 @@ fn is_threadless(number: Option<u64>, version: Option<u64>) -> bool
 }
 
 /// Whether a word is `N.V` with a version that no thread has.
-fn has_no_thread(word: &[u8]) -> bool
+pub(crate) fn has_no_thread(word: &[u8]) -> bool
     ensures { result ≡ has_no_thread word.now }
 {
     let (number, version) = split_at_byte(b'.', word);
@@ -222,7 +228,7 @@ fn is_time(operand: Operand) -> bool
 }
 
 /// The hint for a word that is no number, or is out of range.
-fn number_hint(wanted: Operand, word: &[u8]) -> Hint
+pub(crate) fn number_hint(wanted: Operand, word: &[u8]) -> Hint
     ensures { result ≡ number_hint wanted word.now }
 {
     if is_like_hexadecimal(word) {

@@ -31,5 +31,6 @@ mod missed;
 pub mod places;
 pub mod printed;
 mod reading;
+mod second;
 pub mod spelling;
 mod walks;

@@ -2,7 +2,8 @@
 ghost use Rattle.std.specs.Prelude.{◌≡◌, ◌++◌, codes, decimal, flat_map, map, OnOk};
 ghost use Rattle.std.specs.Char.Escape.{escape_ascii};
 ghost use Rattle.std.specs.Option.{option_copied};
-ghost use Rattle.l4_lint.specs.Spelling.{kind_word, operand_text, lines_text, hint_text};
+ghost use Rattle.l4_lint.specs.Spelling.{kind_word, operand_text, lines_text, plain_hint, hint_text};
+ghost use Rattle.l4_lint.specs.Spelling.{counted_text, declared_text, near_text, near_times_text};
 ghost use Rattle.l4_lint.specs.Spelling.{shown_word, place_text, fault_line, faults_text};
 ghost use Rattle.l4_lint.specs.Inner.Views.{fault_of};
 
@@ -20,6 +21,7 @@ fn kind_word(kind: TextFaultKind) -> &'static str
         TextFaultKind::BadLine => "BadLine",
         TextFaultKind::BadNumber => "BadNumber",
         TextFaultKind::BadId => "BadId",
+        TextFaultKind::BadName => "BadName",
         TextFaultKind::BadCpu => "BadCpu",
         TextFaultKind::TypedItems => "TypedItems",
         TextFaultKind::DoubleId => "DoubleId",
@@ -52,6 +54,30 @@ fn operand_text(operand: Operand) -> &'static str
         Operand::Time => "wanted: never, zero, or a time, 0 to 0x7fff",
         Operand::Bits => "wanted: S, R or SR",
         Operand::Place => "wanted: a place of the script, 0 to its number of instructions",
+        Operand::NamedThread => "wanted: a thread N.V, or its name",
+        Operand::ToKeyword => "wanted: to",
+        Operand::LastThread => "wanted: a thread of the same version and no lower number",
+        Operand::AsKeyword => "wanted: as",
+        Operand::Heir => "wanted: a thread that is declared before",
+        Operand::NewName => "wanted: a name",
+        Operand::NamedId => {
+            "wanted: a name, nil, any, anylocal, a thread N.V, or # and all digits of a word"
+        }
+        Operand::IdOrRegister => {
+            "wanted: a name, mr0 to mr63, nil, any, anylocal, a thread N.V, or # and all digits of a \
+             word"
+        }
+        Operand::IdOrLast => {
+            "wanted: a name, last, mr0 to mr63, nil, any, anylocal, a thread N.V, or # and all \
+             digits of a word"
+        }
+        Operand::CountedTime => {
+            "wanted: never, zero, a time as 5us, 5ms or 0s, or its bits, 0 to 0x7fff"
+        }
+        Operand::Label => "wanted: a label of the format of line 1",
+        Operand::NamedPlace => {
+            "wanted: a name in this script, or a place, 0 to its number of instructions"
+        }
     }
 }
 
@@ -63,11 +89,13 @@ fn lines_text(lines: Lines) -> &'static str
         Lines::Processors => "wanted: the second line, cpus N",
         Lines::Thread => "wanted: a line thread N.V cpu P space S",
         Lines::Script => "wanted: an instruction, or a line thread N.V cpu P space S",
+        Lines::Names => "wanted: a line name NAME ID, or a line thread N.V cpu P space S",
     }
 }
 
-fn hint_text(hint: Hint) -> &'static str
-    ensures { result.now ≡ hint_text hint }
+// The words of a hint that has no number.
+fn plain_hint(hint: Hint) -> &'static str
+    ensures { result.now ≡ plain_hint hint }
 {
     match hint {
         Hint::LongText => "a text has at most 1048576 bytes",
@@ -92,6 +120,68 @@ fn hint_text(hint: Hint) -> &'static str
         Hint::DoubleNumber => "a thread before has this number",
         Hint::ManyThreads => "a machine has at most 1024 threads",
         Hint::ManyInstructions => "a script has at most 1024 instructions",
+        Hint::NoName => {
+            "a name is a letter and then letters, digits, - and _, at most 31 bytes, and no keyword"
+        }
+        Hint::Unknown => "no line declares this name",
+        Hint::OfHeir => "a thread with the script of another has no line of its own",
+        Hint::DeclaredOn(_) | Hint::NearOn(_) | Hint::NearTimes(_, _) => "",
+    }
+}
+
+// Appends on which line a name is declared.
+fn push_declared(line: usize, out: &mut Vec<u8>) -> Result<(), NoMemory>
+    ensures { OnOk result (out.new.items ≡ out.old.items ++ declared_text line) }
+{
+    let mut said = String::new(*out.allocator());
+    write!(said, "line {line} declares this name")?;
+    out.extend_from_slice(said.as_bytes())?;
+    Ok(())
+}
+
+// Appends on which line a name is declared that is near.
+fn push_near(line: usize, out: &mut Vec<u8>) -> Result<(), NoMemory>
+    ensures { OnOk result (out.new.items ≡ out.old.items ++ near_text line) }
+{
+    let mut said = String::new(*out.allocator());
+    write!(said, "line {line} declares a name that is near")?;
+    out.extend_from_slice(said.as_bytes())?;
+    Ok(())
+}
+
+// Appends so many microseconds.
+fn push_counted(ticks: u64, out: &mut Vec<u8>) -> Result<(), NoMemory>
+    ensures { OnOk result (out.new.items ≡ out.old.items ++ counted_text ticks) }
+{
+    let mut said = String::new(*out.allocator());
+    write!(said, "{ticks}us")?;
+    out.extend_from_slice(said.as_bytes())?;
+    Ok(())
+}
+
+// Appends which times are nearest.
+fn push_near_times(below: u64, above: u64, out: &mut Vec<u8>) -> Result<(), NoMemory>
+    ensures { OnOk result (out.new.items ≡ out.old.items ++ near_times_text below above) }
+{
+    out.extend_from_slice(b"no time means this; the nearest are ")?;
+    push_counted(below, out)?;
+    out.extend_from_slice(b" and ")?;
+    push_counted(above, out)?;
+    Ok(())
+}
+
+/// Appends what is said about a place.
+fn push_hint(hint: Hint, out: &mut Vec<u8>) -> Result<(), NoMemory>
+    ensures { OnOk result (out.new.items ≡ out.old.items ++ hint_text hint) }
+{
+    match hint {
+        Hint::DeclaredOn(line) => push_declared(line, out),
+        Hint::NearOn(line) => push_near(line, out),
+        Hint::NearTimes(below, above) => push_near_times(below, above, out),
+        _ => {
+            out.extend_from_slice(plain_hint(hint).as_bytes())?;
+            Ok(())
+        }
     }
 }
 
@@ -161,7 +251,7 @@ pub(crate) fn push_fault(
     out.extend_from_slice(kind_word(fault.kind).as_bytes())?;
     out.extend_from_slice(b": ")?;
     push_shown(fault.place.word, out)?;
-    out.extend_from_slice(hint_text(fault.place.hint).as_bytes())?;
+    push_hint(fault.place.hint, out)?;
     out.extend_from_slice(b"\n")?;
     Ok(())
 }

@@ -6,7 +6,7 @@ use Rattle.std.specs.Option.{option_map}
 use Rattle.l4_model.specs.Words.{GlobalId, Id, NilThread, AnyThread, AnyLocalThread, LocalThread, GlobalThread, Period}
 use Rattle.l4_model.specs.Machine.{Machine, Declaration, OrderKind, Instr, Run, Ipc, Ask, End, place_of}
 use Rattle.l4_model.specs.World.{World, Thread, Context, Send, Receive, Phase, Ready, Sending, Receiving, Ordering, Ended, Deleted, Name}
-use Rattle.l4_model.specs.Rules.{Failure, TimeOver, NobodyThere, CancelAsked, Act, RunsAlone, Sends, Receives, Orders, act, ipc_act, ask_act, is_admitted, destination, receive_phase}
+use Rattle.l4_model.specs.Rules.{Failure, TimeOver, NobodyThere, CancelAsked, Act, RunsAlone, Sends, Receives, Orders, act, ipc_act, ask_act, is_admitted, id_from, receive_phase}
 use Rattle.l4_model.specs.Conditions.{Found, found, found_at, found_by, Pending, undecided, receiver_of, instruction, act_of, is_nobody, is_no_destination, has_passed, is_refusable, is_timed_out, ◌>>=◌, ◌>>◌}
 use Rattle.l4_model.specs.Steps.{Step, Deliver, Order, Tick, runs_alone, send_of, receive_of, order_of, receive_passed, may_fail, may_refuse, next, OfThread, OfSend, Runs, Waits, Fails, Obeys, Begun, Queued, Failed, Dropped, Retargeted}
 use Rattle.l4_model.specs.Still.{is_tick}
@@ -127,8 +127,8 @@ ask_retimed m id later (GlobalThread t) what = by (is_admitted m id t what)
 
 act_retimed : (m : Machine) (id : GlobalId) (now later : ℕ) (c : Context) (i : Instr) → act m id later c i ≡ retimed later (act m id now c i)
 act_retimed m id now later c (Run own) = refl
-act_retimed m id now later c (Ipc to from send_period receive_period) = ipc_retimed m id now later c (destination c to) send_period (receive_phase from receive_period)
-act_retimed m id now later c (Ask target what) = ask_retimed m id later target what
+act_retimed m id now later c (Ipc to from send_period receive_period) = ipc_retimed m id now later c (id_from c to) send_period (receive_phase (id_from c from) receive_period)
+act_retimed m id now later c (Ask target what) = ask_retimed m id later (id_from c target) what
 act_retimed m id now later c End = refl
 
 act_at : (m : Machine) (clocks : List ℕ) (t : Found) → act_of m (at_clocks clocks t) ≡ retimed (slice_index clocks t.declared.cpu) (act_of m t)

@@ -1,13 +1,13 @@
 -- Registers and messages keep to the format of the machine's scripts.
-use Rattle.std.proofs.Common.{subst, ◌≡◌, ℕ, zero, suc, ◌+◌, ◌*◌, ◌/◌, ◌%◌, ◌^◌, ◌<◌, ◌≤◌, Bool, true, false, Option, Some, None, List, [], ◌∷◌, length, take, drop, refl, ap, ◌∙◌, arith}
-use Rattle.std.specs.Prelude.{slice_get, slice_index, slice_set, IfSome}
+use Rattle.std.proofs.Common.{subst, ◌≡◌, ℕ, zero, suc, ◌+◌, ◌*◌, ◌/◌, ◌%◌, ◌^◌, ◌-◌, ◌<◌, ◌≤◌, Bool, true, false, cond, Option, Some, None, List, [], ◌∷◌, length, take, drop, refl, ap, ◌∙◌, arith}
+use Rattle.std.specs.Prelude.{◌&&◌, slice_get, slice_index, slice_set, IfSome, nat_lt, unwrap_or}
 use Rattle.std.specs.List.{list_all}
 use Rattle.std.specs.Option.{option_map}
 use Rattle.std.proofs.lemmas.Bool.{and_parts, and_from, ltb-true, lt-ltb, eqb-true}
 use Rattle.std.proofs.lemmas.List.Folds.{list_all-append}
 use Rattle.std.proofs.lemmas.Slice.Eq.{bytes_eq-Decides}
-use Rattle.l4_model.specs.Words.{Format, W64, W32, word_limit, label_limit_in, is_word_in, same_format, GlobalId}
-use Rattle.l4_model.specs.Machine.{Machine, Declaration, Value, Word, Register, Sum, Own, Assign, AssignTag, AssignVs, GoTo, GoToOnErr, Instr, Run, Ipc, Ask, End, OrderKind, CancelSend, CancelReceive, CancelBoth, Delete, instruction_at}
+use Rattle.l4_model.specs.Words.{Format, W64, W32, word_limit, label_limit_in, is_word_in, same_format, GlobalId, Id, NilThread, AnyThread, AnyLocalThread, LocalThread, GlobalThread, has_word_in, word_by, word_in, number_limit, version_limit}
+use Rattle.l4_model.specs.Machine.{Machine, Declaration, Value, Word, Register, Sum, FromWord, Own, Assign, AssignTag, AssignVs, GoTo, GoToOnErr, GoToOnLabel, GoToOnWord, GoToOnFrom, Instr, Run, Ipc, Ask, End, OrderKind, CancelSend, CancelReceive, CancelBoth, Delete, instruction_at}
 use Rattle.l4_model.specs.World.{Context, Thread, World, Message, Send, Receive, Owed, Phase, Ready, Sending, Receiving, Ordering, Ended, Deleted, opening, opening_thread, is_alive}
 use Rattle.l4_model.specs.Rules.{assigned, words_after, ran, received_tag, is_cross, message_of, bit}
 use Rattle.l4_model.specs.Steps.{Step, Deliver, next}
@@ -78,20 +78,65 @@ sum_fits W32 W32 sum h = lt-ltb (sum % 2 ^ 32) (2 ^ 32) (omega arith)
 sum_fits W64 W32 sum h = cc
 sum_fits W32 W64 sum h = cc
 
-assigned_fits : (f : Format) (value : Value) (a : ℕ) (words : List ℕ) → gives_words f value ≡ true → list_all (is_word_in f) words ≡ true → is_word_in f (assigned value a words) ≡ true
-assigned_fits f (Word word) a words i h = i
-assigned_fits f (Register b) a words i h = all_at f words b h
-assigned_fits f (Sum format word) a words i h = sum_fits f format (slice_index words a + word) i
+-- The word of an id is one of the format.
 
-own_fits : (f : Format) (own : Own) (words : List ℕ) → writes_words f (Run own) ≡ true → list_all (is_word_in f) words ≡ true → list_all (is_word_in f) (words_after own words) ≡ true
-own_fits f (Assign a value) words i h = all_set f words a _ h (assigned_fits f value a words i h)
-own_fits f (AssignTag word) words i h = all_set f words 0 word h i
-own_fits f (AssignVs id) words i h = h
-own_fits f (GoTo place) words i h = h
-own_fits f (GoToOnErr place) words i h = h
+global_fits : (f : Format) (t : GlobalId) → nat_lt t.number (number_limit f) ≡ true → nat_lt t.version (version_limit f) ≡ true → is_word_in f (t.number * version_limit f + t.version) ≡ true
+global_fits W64 t n v = let number = ltb-true t.number (2 ^ 32) n in let version = ltb-true t.version (2 ^ 32) v in lt-ltb _ (2 ^ 64) (omega (arith, number, version))
+global_fits W32 t n v = let number = ltb-true t.number (2 ^ 18) n in let version = ltb-true t.version (2 ^ 14) v in lt-ltb _ (2 ^ 32) (omega (arith, number, version))
+
+any_fits : (f : Format) → is_word_in f (word_limit f - 1) ≡ true
+any_fits W64 = refl
+any_fits W32 = refl
+
+local_fits : (f : Format) → is_word_in f (word_limit f - 64) ≡ true
+local_fits W64 = refl
+local_fits W32 = refl
+
+id_fits : (f : Format) (id : Id) → has_word_in f id ≡ true → is_word_in f (word_by f id) ≡ true
+id_fits f NilThread h = zero_fits f
+id_fits f AnyThread h = any_fits f
+id_fits f AnyLocalThread h = local_fits f
+id_fits f (LocalThread word) h = first _ _ _ _ h
+  where
+    first : (a b c d : Bool) → (a && b && c && d) ≡ true → a ≡ true
+    first a b c d h = (and_parts a b (and_parts (a && b) c (and_parts (a && b && c) d h).0).0).0
+id_fits f (GlobalThread t) h = let both = two _ _ _ _ h in global_fits f t both.0 both.1
+  where
+    two : (a b c d : Bool) → (a && b && c && d) ≡ true → (a ≡ true) × (b ≡ true)
+    two a b c d h = and_parts a b (and_parts (a && b) c (and_parts (a && b && c) d h).0).0
+
+from_fits : (f format : Format) (id : Id) → same_format format f ≡ true → is_word_in f (unwrap_or (word_in format id) 0) ≡ true
+from_fits W64 W64 id h = by (has_word_in W64 id) refl
+  where
+    by : (b : Bool) → has_word_in W64 id ≡ b → is_word_in W64 (unwrap_or (cond b (Some (word_by W64 id)) None) 0) ≡ true
+    by true e = id_fits W64 id e
+    by false e = refl
+from_fits W32 W32 id h = by (has_word_in W32 id) refl
+  where
+    by : (b : Bool) → has_word_in W32 id ≡ b → is_word_in W32 (unwrap_or (cond b (Some (word_by W32 id)) None) 0) ≡ true
+    by true e = id_fits W32 id e
+    by false e = refl
+from_fits W64 W32 id h = cc
+from_fits W32 W64 id h = cc
+
+assigned_fits : (f : Format) (value : Value) (a : ℕ) (c : Context) → gives_words f value ≡ true → list_all (is_word_in f) c.words ≡ true → is_word_in f (assigned c a value) ≡ true
+assigned_fits f (Word word) a c i h = i
+assigned_fits f (Register b) a c i h = all_at f c.words b h
+assigned_fits f (Sum format word) a c i h = sum_fits f format (slice_index c.words a + word) i
+assigned_fits f (FromWord format) a c i h = from_fits f format c.from i
+
+own_fits : (f : Format) (own : Own) (c : Context) → writes_words f (Run own) ≡ true → list_all (is_word_in f) c.words ≡ true → list_all (is_word_in f) (words_after c own) ≡ true
+own_fits f (Assign a value) c i h = all_set f c.words a _ h (assigned_fits f value a c i h)
+own_fits f (AssignTag word) c i h = all_set f c.words 0 word h i
+own_fits f (AssignVs from) c i h = h
+own_fits f (GoTo place) c i h = h
+own_fits f (GoToOnErr place) c i h = h
+own_fits f (GoToOnLabel label place) c i h = h
+own_fits f (GoToOnWord a word place) c i h = h
+own_fits f (GoToOnFrom id place) c i h = h
 
 registers_ran : (f : Format) (i : Instr) (c : Context) → writes_words f i ≡ true → list_all (is_word_in f) c.words ≡ true → list_all (is_word_in f) (ran i c).words ≡ true
-registers_ran f (Run own) c i h = own_fits f own c.words i h
+registers_ran f (Run own) c i h = own_fits f own c i h
 registers_ran f (Ipc to from send_period receive_period) c i h = all_set f c.words 0 0 h (zero_fits f)
 registers_ran f (Ask target what) c i h = h
 registers_ran f End c i h = h

@@ -7,7 +7,7 @@ use Rattle.std.specs.List.{position_or_len}
 use Rattle.l4_model.specs.Words.{GlobalId, Id, NilThread, AnyThread, AnyLocalThread, LocalThread, GlobalThread, Period, same_id}
 use Rattle.l4_model.specs.Machine.{Machine, Declaration, OrderKind, Instr, Run, Ipc, Ask, End, declaration_of, is_declared, agree, same_space}
 use Rattle.l4_model.specs.World.{Context, Receive, Send}
-use Rattle.l4_model.specs.Rules.{act, ipc_act, ask_act, is_admitted, message_of, destination, receive_phase, register, originator, permitted}
+use Rattle.l4_model.specs.Rules.{act, ipc_act, ask_act, is_admitted, message_of, id_from, receive_phase, register, originator, permitted}
 use Rattle.l4_model.specs.Steps.{send_of}
 use Rattle.l4_model.proofs.Chains.{some_is}
 
@@ -38,8 +38,8 @@ ask_sends_nothing m id (GlobalThread t) what = by (is_admitted m id t what) refl
 
 pub act_request : (m : Machine) (id : GlobalId) (now : ℕ) (c : Context) (i : Instr) (send : Send) → send_of (act m id now c i) ≡ Some send → IsRequest m id now c send
 act_request m id now c (Run own) send h = cc
-act_request m id now c (Ipc to from send_period receive_period) send h = ipc_request m id now c (destination c to) send_period (receive_phase from receive_period) send h
-act_request m id now c (Ask target what) send h = let none = ask_sends_nothing m id target what in absurd (no_send (send_of (ask_act m id target what)) send none h)
+act_request m id now c (Ipc to from send_period receive_period) send h = ipc_request m id now c (id_from c to) send_period (receive_phase (id_from c from) receive_period) send h
+act_request m id now c (Ask target what) send h = let none = ask_sends_nothing m id (id_from c target) what in absurd (no_send (send_of (ask_act m id (id_from c target) what)) send none h)
   where
     no_send : (o : Option Send) (send : Send) → o ≡ None → o ≡ Some send → ⊥
     no_send o send e f = cc

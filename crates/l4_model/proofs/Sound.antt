@@ -77,7 +77,7 @@ suits_gone Deleted send order h = tt
 
 -- An instruction leaves as many registers as there were.
 registers_ran : (i : Instr) (c : Context) → length (ran i c).words ≡ length c.words
-registers_ran (Run own) c = own_sets (λ words. length words ≡ length c.words) own c.words refl (length-set c.words)
+registers_ran (Run own) c = own_sets (λ words. length words ≡ length c.words) own c refl (length-set c.words)
 registers_ran (Ipc to from send_period receive_period) c = length-set c.words 0 0
 registers_ran (Ask target what) c = refl
 registers_ran End c = refl

@@ -2,10 +2,12 @@
 use Rattle.std.specs.Prelude.{ℕ, Bool, ◌==◌, true, false, Option, Some, None, is_some, List, find, position, slice_get, unwrap_or}
 use Rattle.l4_model.specs.Words.{Format, GlobalId, Id, same_id, Period}
 
--- Where an ipc sends to (manual: Ipc, `to`): an id, or what the register `from` has at that moment.
-pub data To : Type 0 where
-  ToId : Id → To
-  ToLast : To
+-- Where an instruction has an id from: it stands there, or is what the register `from` has at that
+-- moment, or the id whose word a message register has then, by a format (own; manual: ThreadId).
+pub data IdFrom : Type 0 where
+  Fixed : Id → IdFrom
+  Last : IdFrom
+  InRegister : (format : Format) (a : ℕ) → IdFrom
 
 -- What one thread may ask of another: a cancellation, by the bits S and R of the control word
 -- (manual: ExchangeRegisters), or a deletion (manual: ThreadControl).
@@ -15,27 +17,32 @@ pub data OrderKind : Type 0 where
   CancelBoth : OrderKind
   Delete : OrderKind
 
--- What a register becomes: a word, what another one has, or the sum of what it has and a word, as a
--- format counts it.
+-- What a register becomes: a word, what another one has, the sum of what it has and a word, as a
+-- format counts it, or the word of `from` in a format.
 pub data Value : Type 0 where
   Word : (word : ℕ) → Value
   Register : (b : ℕ) → Value
   Sum : (format : Format) (word : ℕ) → Value
+  FromWord : (format : Format) → Value
 
 -- An instruction that concerns its thread alone. A register becomes a value, MR0 a tag, and
--- VirtualSender an id; or the script goes on elsewhere, at once or where ErrorCode is not 0.
+-- VirtualSender an id; or the script goes on elsewhere, at once, where ErrorCode is not 0, or where
+-- the label of MR0, a register or `from` is this one.
 pub data Own : Type 0 where
   Assign : (a : ℕ) → Value → Own
   AssignTag : (word : ℕ) → Own
-  AssignVs : Id → Own
+  AssignVs : IdFrom → Own
   GoTo : (place : ℕ) → Own
   GoToOnErr : (place : ℕ) → Own
+  GoToOnLabel : (label place : ℕ) → Own
+  GoToOnWord : (a word place : ℕ) → Own
+  GoToOnFrom : Id → (place : ℕ) → Own
 
 -- One instruction of a script. `Ask` is an ExchangeRegisters or a deletion.
 pub data Instr : Type 0 where
   Run : Own → Instr
-  Ipc : (to : To) (from : Id) (send_period receive_period : Period) → Instr
-  Ask : (target : Id) (what : OrderKind) → Instr
+  Ipc : (to from : IdFrom) (send_period receive_period : Period) → Instr
+  Ask : (target : IdFrom) (what : OrderKind) → Instr
   End : Instr
 
 -- Instructions that concern their thread alone, by the words of a machine text.
@@ -49,17 +56,29 @@ Copy a b = Run (Assign a (Register b))
 pattern abbrev pub Add : (format : Format) (a word : ℕ) → Instr
 Add format a word = Run (Assign a (Sum format word))
 
+pattern abbrev pub From : (format : Format) (a : ℕ) → Instr
+From format a = Run (Assign a (FromWord format))
+
 pattern abbrev pub Tag : (word : ℕ) → Instr
 Tag word = Run (AssignTag word)
 
-pattern abbrev pub Vs : Id → Instr
-Vs id = Run (AssignVs id)
+pattern abbrev pub Vs : IdFrom → Instr
+Vs from = Run (AssignVs from)
 
 pattern abbrev pub Jump : (place : ℕ) → Instr
 Jump place = Run (GoTo place)
 
 pattern abbrev pub OnErr : (place : ℕ) → Instr
 OnErr place = Run (GoToOnErr place)
+
+pattern abbrev pub OnLabel : (label place : ℕ) → Instr
+OnLabel label place = Run (GoToOnLabel label place)
+
+pattern abbrev pub OnWord : (a word place : ℕ) → Instr
+OnWord a word place = Run (GoToOnWord a word place)
+
+pattern abbrev pub OnFrom : Id → (place : ℕ) → Instr
+OnFrom id place = Run (GoToOnFrom id place)
 
 -- A declared thread: its id, its processor, its address space by a number, and its script.
 pub record Declaration : Type 0 where

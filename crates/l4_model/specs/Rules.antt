@@ -1,8 +1,8 @@
 -- What an instruction, a message and a failure do to the registers of a thread, and what an
 -- instruction asks for.
 use Rattle.std.specs.Prelude.{ℕ, ◌+◌, ◌*◌, ◌/◌, ◌%◌, ◌^◌, Bool, if◌then◌else◌, ◌==◌, not, ◌&&◌, false, Option, Some, None, is_some, unwrap_or, true, ◌∷◌, ◌++◌, List, take, drop, length, slice_index, slice_set}
-use Rattle.l4_model.specs.Words.{word_limit, GlobalId, Id, NilThread, AnyThread, AnyLocalThread, LocalThread, GlobalThread, same_id, Period}
-use Rattle.l4_model.specs.Machine.{To, ToId, ToLast, OrderKind, Delete, Value, Word, Register, Sum, Own, Assign, AssignTag, AssignVs, GoTo, GoToOnErr, Instr, Run, Ipc, Ask, End, Machine, is_declared, same_space, same_cpu}
+use Rattle.l4_model.specs.Words.{word_limit, GlobalId, Id, NilThread, AnyThread, AnyLocalThread, LocalThread, GlobalThread, same_id, is_same, Period, word_in, id_in, tag_of_word}
+use Rattle.l4_model.specs.Machine.{IdFrom, Fixed, Last, InRegister, OrderKind, Delete, Value, Word, Register, Sum, FromWord, Own, Assign, AssignTag, AssignVs, GoTo, GoToOnErr, GoToOnLabel, GoToOnWord, GoToOnFrom, Instr, Run, Ipc, Ask, End, Machine, is_declared, same_space, same_cpu}
 use Rattle.l4_model.specs.World.{Name, Context, Receive, Message, Send, PendingOrder, Owed}
 
 -- Who is accepted (manual: Ipc, `FromSpecifier`): anythread takes every sender, anylocalthread
@@ -98,28 +98,47 @@ received message mr0 c =
 abbrev pub ordered : ℕ → Context → Context
 ordered code c = advanced (record c { error = code })
 
+-- The id that an instruction names, as the registers are when it is run. `last` is the content of
+-- the register `from`. What a message register has is the word of one id (manual: ThreadId). In 32
+-- bits a number that is no word there counts as that of nilthread (own); no register of a text of 32
+-- bits has one.
+abbrev pub id_from : Context → IdFrom → Id
+id_from c (Fixed id) = id
+id_from c Last = c.from
+id_from c (InRegister format a) = unwrap_or (id_in format (register c a)) NilThread
+
 -- What an instruction that concerns its thread alone leaves: in the message registers, in
 -- VirtualSender, and as the place where the script goes on.
 
--- What is assigned to MR a.
-abbrev pub assigned : Value → (a : ℕ) → (words : List ℕ) → ℕ
-assigned (Word word) a words = word
-assigned (Register b) a words = slice_index words b
-assigned (Sum format word) a words = (slice_index words a + word) % word_limit format
+-- What is assigned to MR a. In 32 bits an id that has no word there counts as nilthread (own); no
+-- text of 32 bits has one.
+abbrev pub assigned : Context → (a : ℕ) → Value → ℕ
+assigned c a (Word word) = word
+assigned c a (Register b) = register c b
+assigned c a (Sum format word) = (register c a + word) % word_limit format
+assigned c a (FromWord format) = unwrap_or (word_in format c.from) 0
 
-abbrev pub words_after : Own → List ℕ → List ℕ
-words_after (Assign a value) words = slice_set words a (assigned value a words)
-words_after (AssignTag word) words = slice_set words 0 word
-words_after _ words = words
+abbrev pub words_after : Context → Own → List ℕ
+words_after c (Assign a value) = slice_set c.words a (assigned c a value)
+words_after c (AssignTag word) = slice_set c.words 0 word
+words_after c _ = c.words
 
-abbrev pub actual_after : Own → Id → Id
-actual_after (AssignVs id) actual = id
-actual_after _ actual = actual
+abbrev pub actual_after : Context → Own → Id
+actual_after c (AssignVs from) = id_from c from
+actual_after c _ = c.actual
 
-abbrev pub place_after : Own → (error place : ℕ) → ℕ
-place_after (GoTo target) error place = target
-place_after (GoToOnErr target) error place = if error == 0 then place + 1 else target
-place_after _ error place = place + 1
+-- The script goes on at a target where a test holds, else with the next instruction.
+abbrev pub place_if : Context → (target : ℕ) → Bool → ℕ
+place_if c target b = if b then target else c.place + 1
+
+abbrev pub place_after : Context → Own → ℕ
+place_after c (GoTo target) = target
+place_after c (GoToOnErr target) = if c.error == 0 then c.place + 1 else target
+place_after c (GoToOnLabel label target) =
+    place_if c target ((tag_of_word (register c 0)).label == label)
+place_after c (GoToOnWord a word target) = place_if c target (register c a == word)
+place_after c (GoToOnFrom id target) = place_if c target (is_same c.from id)
+place_after c _ = c.place + 1
 
 -- The register that an instruction assigns a value.
 abbrev pub assigned_by : Instr → Option ℕ
@@ -130,9 +149,9 @@ assigned_by _ = None
 -- is refused.
 abbrev pub ran : Instr → Context → Context
 ran (Run own) c = record c {
-  words = words_after own c.words;
-  actual = actual_after own c.actual;
-  place = place_after own c.error c.place;
+  words = words_after c own;
+  actual = actual_after c own;
+  place = place_after c own;
 }
 ran (Ipc to from send_period receive_period) c = advanced (sent c)
 ran (Ask target what) c = ordered order_refused_code c
@@ -145,11 +164,6 @@ pub data Act : Type 0 where
   Sends : Send → Act
   Receives : Receive → Act
   Orders : PendingOrder → Act
-
--- The destination that an ipc names. `last` is the content of the register `from`.
-abbrev pub destination : Context → To → Id
-destination c (ToId id) = id
-destination c ToLast = c.from
 
 -- The receive phase of an ipc, unless its specifier is nilthread.
 abbrev pub receive_phase : Id → Period → Option Receive
@@ -214,8 +228,8 @@ ask_act m caller _ what = RunsAlone
 
 abbrev pub act : Machine → GlobalId → (now : ℕ) → Context → Instr → Act
 act m t now c (Ipc to from send_period receive_period) =
-    ipc_act m t now c (destination c to) send_period (receive_phase from receive_period)
-act m t now c (Ask target what) = ask_act m t target what
+    ipc_act m t now c (id_from c to) send_period (receive_phase (id_from c from) receive_period)
+act m t now c (Ask target what) = ask_act m t (id_from c target) what
 act m t now c _ = RunsAlone
 
 -- What a receiver gets

@@ -49,6 +49,15 @@ pub data Id : Type 0 where
 abbrev pub same_id : GlobalId → GlobalId → Bool
 same_id a b = (a.number == b.number) && (a.version == b.version)
 
+-- It is the same id.
+abbrev pub is_same : Id → Id → Bool
+is_same NilThread NilThread = true
+is_same AnyThread AnyThread = true
+is_same AnyLocalThread AnyLocalThread = true
+is_same (LocalThread a) (LocalThread b) = a == b
+is_same (GlobalThread a) (GlobalThread b) = same_id a b
+is_same a b = false
+
 -- The id is that of this thread alone.
 abbrev pub is_id_of : Id → GlobalId → Bool
 is_id_of (GlobalThread t) thread = same_id t thread

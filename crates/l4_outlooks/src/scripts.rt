@@ -5,13 +5,13 @@ ghost use Rattle.l4_model.specs.Conditions.{is_zero};
 ghost use Rattle.l4_model.specs.Words.{is_id_of};
 ghost use Rattle.l4_types.specs.Inner.PeriodView.{period_of};
 ghost use Rattle.l4_types.specs.StepView.{order_kind_of};
-ghost use Rattle.l4_script.specs.Inner.Scripts.{instr_of, to_of};
+ghost use Rattle.l4_script.specs.Inner.Scripts.{id_from_of, instr_of};
 ghost use Rattle.l4_first.specs.First.{is_delete, instruction_deletes, instruction_concerns};
 ghost use Rattle.l4_first.specs.First.{instruction_tries, tag_asks, may_ask, may_name, may_turn};
 ghost use Rattle.l4_first.specs.First.{is_among_others};
 ghost use Rattle.l4_outlooks.specs.Inner.Touches.{touches, script_asks};
 
-use l4_script::instructions::{Instr, To};
+use l4_script::instructions::{IdFrom, Instr};
 use l4_script::machine::Machine;
 use l4_types::ids::{GlobalId, ThreadId};
 use l4_types::steps::OrderKind;
@@ -47,11 +47,21 @@ fn is_delete(what: OrderKind) -> bool
     }
 }
 
+// Whether an instruction may name the thread: `last` and a register may have any id.
+fn may_name(id: GlobalId, from: IdFrom) -> bool
+    ensures { result ≡ may_name id (id_from_of from) }
+{
+    match from {
+        IdFrom::Fixed(named) => is_id_of(named, id),
+        IdFrom::Last | IdFrom::InRegister(_) | IdFrom::InShortRegister(_) => true,
+    }
+}
+
 fn deletes(id: GlobalId, instr: &Instr) -> bool
     ensures { result ≡ instruction_deletes id (instr_of instr.now) }
 {
     match *instr {
-        Instr::Order(target, what) => is_id_of(target, id) && is_delete(what),
+        Instr::Order(target, what) => may_name(id, target) && is_delete(what),
         _ => false,
     }
 }
@@ -60,7 +70,7 @@ fn orders(id: GlobalId, instr: &Instr) -> bool
     ensures { result ≡ instruction_concerns id (instr_of instr.now) }
 {
     match *instr {
-        Instr::Order(target, _) => is_id_of(target, id),
+        Instr::Order(target, _) => may_name(id, target),
         _ => false,
     }
 }
@@ -70,16 +80,6 @@ fn is_zero(period: Period) -> bool
     ensures { result ≡ is_zero (period_of period) }
 {
     matches!(period, Period::Zero | Period::Ticks(0))
-}
-
-// Whether a send may go to the thread: `last` may be anybody.
-fn may_name(id: GlobalId, to: To) -> bool
-    ensures { result ≡ may_name id (to_of to) }
-{
-    match to {
-        To::Id(named) => is_id_of(named, id),
-        To::Last => true,
-    }
 }
 
 fn tries(id: GlobalId, instr: &Instr) -> bool

@@ -2,10 +2,10 @@
 use Rattle.std.proofs.Common.{subst, ◌≡◌, ℕ, ◌+◌, ◌<◌, Bool, true, false, cond, Option, Some, None, [], ◌∷◌, length, refl, ap, sym, ◌∙◌}
 use Rattle.std.specs.Prelude.{◌==◌, ◌||◌, is_some, IfSome}
 use Rattle.std.specs.Option.{option_map}
-use Rattle.l4_model.specs.Words.{GlobalId, Id, NilThread, AnyThread, AnyLocalThread, LocalThread, GlobalThread, Period}
-use Rattle.l4_model.specs.Machine.{Machine, To, ToId, ToLast, Assign, AssignTag, AssignVs, GoTo, GoToOnErr, Instr, Run, Ipc, Ask, End, OrderKind, CancelSend, CancelReceive, CancelBoth, Delete, place_of}
+use Rattle.l4_model.specs.Words.{GlobalId, Id, NilThread, AnyThread, AnyLocalThread, LocalThread, GlobalThread, Period, tag_of_word, is_same}
+use Rattle.l4_model.specs.Machine.{Machine, IdFrom, Fixed, Last, InRegister, Assign, AssignTag, AssignVs, GoTo, GoToOnErr, GoToOnLabel, GoToOnWord, GoToOnFrom, Instr, Run, Ipc, Ask, End, OrderKind, CancelSend, CancelReceive, CancelBoth, Delete, place_of}
 use Rattle.l4_model.specs.World.{Context, Thread, Send, Receive, PendingOrder, Owed, Phase, Ready, Sending, Receiving, Ordering, Ended, Deleted, is_in, is_alive, is_ready}
-use Rattle.l4_model.specs.Rules.{ran, Orders, RunsAlone, act, ipc_act, ask_act, is_admitted, destination, receive_phase}
+use Rattle.l4_model.specs.Rules.{ran, register, Orders, RunsAlone, act, ipc_act, ask_act, is_admitted, id_from, receive_phase}
 use Rattle.l4_model.specs.Effects.{runs, begins, waits, fails, goes_on, asked, orders, obeyed, turned_send, turns_in, turns}
 use Rattle.l4_model.specs.Steps.{send_of, receive_of, order_of}
 use Rattle.l4_model.proofs.Chains.{some_is, cond_keeps}
@@ -14,7 +14,7 @@ use Rattle.l4_core_model.specs.Runs.{IsMachine}
 use Rattle.l4_core_model.proofs.Changed.{same_nat}
 use Rattle.l4_refines.proofs.Lists.{other_is}
 use Rattle.l4_refines.proofs.Relation.Views.{home}
-use Rattle.l4_persistent.specs.Inner.Posts.{is_at, names, At, AtLast, has_aim, places_behind, Aims, AreAims, instruction_of, sends_to, orders_to, goes_on_at, may_propagate}
+use Rattle.l4_persistent.specs.Inner.Posts.{is_at, names, Aim, At, AtLast, may_name, has_aim, places_behind, Aims, AreAims, instruction_of, sends_to, orders_to, goes_on_at, may_propagate}
 use Rattle.l4_persistent.proofs.ByPlace.{Keeps, at_hand}
 use Rattle.l4_persistent.proofs.Tame.{IsPlain, IsTame, tame_kept}
 
@@ -52,20 +52,28 @@ ready_alive Deleted h = cc
 
 -- Where a script goes on
 
+either_place : (b : Bool) (place target : ℕ) → is_in (cond b place target) (place ∷ target ∷ []) ≡ true
+either_place true place target = rw (same_nat place) refl
+either_place false place target = by (target == place)
+  where
+    by : (b : Bool) → (b || ((target == target) || false)) ≡ true
+    by true = refl
+    by false = rw (same_nat target) refl
+
+other_place : (b : Bool) (place target : ℕ) → is_in (cond b target place) (place ∷ target ∷ []) ≡ true
+other_place true place target = either_place false place target
+other_place false place target = either_place true place target
+
 goes_behind : (i : Instr) (c : Context) → is_in (ran i c).place (places_behind i c.place) ≡ true
 goes_behind (Run (Assign a value)) c = rw (same_nat (c.place + 1)) refl
 goes_behind (Run (AssignTag word)) c = rw (same_nat (c.place + 1)) refl
-goes_behind (Run (AssignVs id)) c = rw (same_nat (c.place + 1)) refl
+goes_behind (Run (AssignVs from)) c = rw (same_nat (c.place + 1)) refl
 goes_behind (Run (GoTo target)) c = rw (same_nat target) refl
-goes_behind (Run (GoToOnErr target)) c = by (c.error == 0)
-  where
-    by : (b : Bool) → is_in (cond b (c.place + 1) target) ((c.place + 1) ∷ target ∷ []) ≡ true
-    by true = rw (same_nat (c.place + 1)) refl
-    by false = either (target == c.place + 1)
-      where
-        either : (b : Bool) → (b || ((target == target) || false)) ≡ true
-        either true = refl
-        either false = rw (same_nat target) refl
+goes_behind (Run (GoToOnErr target)) c = either_place (c.error == 0) (c.place + 1) target
+goes_behind (Run (GoToOnLabel label target)) c =
+    other_place ((tag_of_word (register c 0)).label == label) (c.place + 1) target
+goes_behind (Run (GoToOnWord a word target)) c = other_place (register c a == word) (c.place + 1) target
+goes_behind (Run (GoToOnFrom id target)) c = other_place (is_same c.from id) (c.place + 1) target
 goes_behind (Ipc to from send_period receive_period) c = rw (same_nat (c.place + 1)) refl
 goes_behind (Ask target what) c = rw (same_nat (c.place + 1)) refl
 goes_behind End c = rw (same_nat c.place) refl
@@ -79,12 +87,12 @@ from_ran P End c h none = h
 -- What an instruction that begins a send, or a receive phase, or gives an order is
 
 pub record IsCall (instr : Instr) (c : Context) (goal : Id) : Type 0 where
-  pub to : To
-  pub from : Id
+  pub to : IdFrom
+  pub from : IdFrom
   pub send_period : Period
   pub receive_period : Period
   pub is : instr ≡ Ipc to from send_period receive_period
-  pub goal_is : goal ≡ destination c to
+  pub goal_is : goal ≡ id_from c to
 
 ipc_goal : (m : Machine) (id : GlobalId) (now : ℕ) (c : Context) (to : Id) (period : Period) (receive : Option Receive)
     (send : Send) →
@@ -123,9 +131,9 @@ call_of m id now c (Ipc to from send_period receive_period) send h = record {
   send_period = send_period;
   receive_period = receive_period;
   is = refl;
-  goal_is = ipc_goal m id now c (destination c to) send_period (receive_phase from receive_period) send h;
+  goal_is = ipc_goal m id now c (id_from c to) send_period (receive_phase (id_from c from) receive_period) send h;
 }
-call_of m id now c (Ask target what) send h = ask_alone m id target what
+call_of m id now c (Ask target what) send h = ask_alone m id (id_from c target) what
     (λ o is none. none_some o send none (sym is ∙ h))
 call_of m id now c End send h = cc
 
@@ -146,7 +154,7 @@ waits_behind : (m : Machine) (id : GlobalId) (now : ℕ) (c : Context) (i : Inst
     is_in (k + 1) (places_behind i k) ≡ true
 waits_behind m id now c (Run own) receive k h = cc
 waits_behind m id now c (Ipc to from send_period receive_period) receive k h = rw (same_nat (k + 1)) refl
-waits_behind m id now c (Ask target what) receive k h = none_some _ receive (ask_receives m id target what) h
+waits_behind m id now c (Ask target what) receive k h = none_some _ receive (ask_receives m id (id_from c target) what) h
 waits_behind m id now c End receive k h = cc
 
 ipc_orders : (m : Machine) (id : GlobalId) (now : ℕ) (c : Context) (to : Id) (period : Period)
@@ -159,31 +167,38 @@ ipc_orders m id now c AnyLocalThread period receive = refl
 ipc_orders m id now c (LocalThread word) period receive = refl
 ipc_orders m id now c (GlobalThread t) period receive = refl
 
--- An instruction that gives an order is aimed at its target, and the script goes on behind it.
-record IsAsking (m : Machine) (cpu : ℕ) (instr : Instr) (k : ℕ) (order : PendingOrder) : Type 0 where
-  aimed : has_aim m instr (At cpu) ≡ orders_to m cpu (Some order)
-  behind : is_in (k + 1) (places_behind instr k) ≡ true
+-- An instruction that gives an order names its target.
+record IsAsking (instr : Instr) (c : Context) (order : PendingOrder) : Type 0 where
+  target : IdFrom
+  what : OrderKind
+  is : instr ≡ Ask target what
+  target_is : id_from c target ≡ GlobalThread order.target
 
-asking : (m : Machine) (cpu : ℕ) (id : GlobalId) (now : ℕ) (c : Context) (i : Instr) (k : ℕ) (order : PendingOrder) →
-    order_of (act m id now c i) ≡ Some order →
-    IsAsking m cpu i k order
-asking m cpu id now c (Run own) k order h = cc
-asking m cpu id now c (Ipc to from send_period receive_period) k order h =
-    none_some _ order (ipc_orders m id now c (destination c to) send_period (receive_phase from receive_period)) h
-asking m cpu id now c (Ask NilThread what) k order h = cc
-asking m cpu id now c (Ask AnyThread what) k order h = cc
-asking m cpu id now c (Ask AnyLocalThread what) k order h = cc
-asking m cpu id now c (Ask (LocalThread word) what) k order h = cc
-asking m cpu id now c (Ask (GlobalThread t) what) k order h = by (is_admitted m id t what) h
+ask_target : (m : Machine) (id : GlobalId) (target : Id) (what : OrderKind) (order : PendingOrder) →
+    order_of (ask_act m id target what) ≡ Some order → target ≡ GlobalThread order.target
+ask_target m id NilThread what order h = cc
+ask_target m id AnyThread what order h = cc
+ask_target m id AnyLocalThread what order h = cc
+ask_target m id (LocalThread word) what order h = cc
+ask_target m id (GlobalThread t) what order h = by (is_admitted m id t what) h
   where
     by : (b : Bool) → order_of (cond b (Orders (record { target = t; what = what })) RunsAlone) ≡ Some order →
-        IsAsking m cpu (Ask (GlobalThread t) what) k order
-    by true h = record {
-      aimed = ap (λ (o : PendingOrder). orders_to m cpu (Some o)) (some_is _ order h);
-      behind = rw (same_nat (k + 1)) refl;
-    }
+        GlobalThread t ≡ GlobalThread order.target
+    by true h = ap (λ (o : PendingOrder). GlobalThread o.target) (some_is _ order h)
     by false h = cc
-asking m cpu id now c End k order h = cc
+
+asking : (m : Machine) (id : GlobalId) (now : ℕ) (c : Context) (i : Instr) (order : PendingOrder) →
+    order_of (act m id now c i) ≡ Some order → IsAsking i c order
+asking m id now c (Run own) order h = cc
+asking m id now c (Ipc to from send_period receive_period) order h =
+    none_some _ order (ipc_orders m id now c (id_from c to) send_period (receive_phase (id_from c from) receive_period)) h
+asking m id now c (Ask target what) order h = record {
+  target = target;
+  what = what;
+  is = refl;
+  target_is = ask_target m id (id_from c target) what order h;
+}
+asking m id now c End order h = cc
 
 -- Every change of a thread
 
@@ -228,6 +243,19 @@ module _ (m : Machine) (aims : Aims) (from to : ℕ) (right : AreAims m aims) wh
       (λ lacks. from_ran (λ id. names m to id ≡ false) instr t.context lacks refl) c.send c.order (c.to refl)
       (c.last refl))
 
+  -- Whom its instruction names is no thread of the processor.
+  named_clear : (i : ℕ) (t : Thread) (x : IdFrom) →
+      ((aim : Aim) → has_aim m (at_hand m i t) aim ≡ may_name m x aim) →
+      aims i t.context.place (At to) ≡ false →
+      (aims i t.context.place AtLast ≡ true → names m to t.context.from ≡ false) →
+      names m to (id_from t.context x) ≡ false
+  named_clear i t (Fixed id) is lacks last =
+      not_so (names m to id) (aims i t.context.place (At to))
+      (λ yes. right.here i t.context.place (At to) (is (At to) ∙ yes)) lacks
+  named_clear i t Last is lacks last = last (right.here i t.context.place AtLast (is AtLast))
+  named_clear i t (InRegister format a) is lacks last =
+      true_false _ (right.here i t.context.place (At to) (is (At to))) lacks
+
   begin_clear : (i now : ℕ) (t : Thread) (send : Send) → is_ready t.phase ≡ true → t.order ≡ None →
       send_of (act m (declared m i).id now t.context (at_hand m i t)) ≡ Some send →
       IsClear m aims to i t → IsClear m aims to i (begins send t)
@@ -241,17 +269,8 @@ module _ (m : Machine) (aims : Aims) (from to : ℕ) (right : AreAims m aims) wh
       on_at i (begins send t) none
       (goes_clear i _ t.context.place (t.context.place + 1) t.context.from t.context.from (Some send) t.order behind
       (λ lacks. lacks) (ap (names m to) call.goal_is
-      ∙ goal call.to call.from call.send_period call.receive_period call.is (c.to refl) (c.last refl)) c.order
+      ∙ named_clear i t call.to (λ aim. ap (λ (x : Instr). has_aim m x aim) call.is) (c.to refl) (c.last refl)) c.order
       (c.to refl) (c.last refl))
-    where
-      goal : (x : To) (f : Id) (a b : Period) → at_hand m i t ≡ Ipc x f a b → aims i t.context.place (At to) ≡ false →
-          (aims i t.context.place AtLast ≡ true → names m to t.context.from ≡ false) →
-          names m to (destination t.context x) ≡ false
-      goal (ToId id) f a b is lacks last =
-          not_so (names m to id) (aims i t.context.place (At to))
-          (λ yes. right.here i t.context.place (At to) (ap (λ (x : Instr). has_aim m x (At to)) is ∙ yes)) lacks
-      goal ToLast f a b is lacks last = last (right.here i t.context.place AtLast
-          (ap (λ (x : Instr). has_aim m x AtLast) is))
 
   wait_clear : (i now : ℕ) (t : Thread) (receive : Receive) → is_ready t.phase ≡ true → t.order ≡ None →
       receive_of (act m (declared m i).id now t.context (at_hand m i t)) ≡ Some receive →
@@ -268,11 +287,14 @@ module _ (m : Machine) (aims : Aims) (from to : ℕ) (right : AreAims m aims) wh
       IsClear m aims to i t → IsClear m aims to i (orders order t)
   order_clear i now t order ready none ordered h =
       let c = at_place i t ready none h in
-      let a = asking m to (declared m i).id now t.context (at_hand m i t) t.context.place order ordered in
-      goes_clear i _ t.context.place (t.context.place + 1) t.context.from t.context.from t.send (Some order) a.behind
+      let a = asking m (declared m i).id now t.context (at_hand m i t) order ordered in
+      let behind : is_in (t.context.place + 1) (places_behind (at_hand m i t) t.context.place) ≡ true =
+      ap (λ (x : Instr). is_in (t.context.place + 1) (places_behind x t.context.place)) a.is
+      ∙ rw (same_nat (t.context.place + 1)) refl in
+      goes_clear i _ t.context.place (t.context.place + 1) t.context.from t.context.from t.send (Some order) behind
       (λ lacks. lacks) c.send
-      (not_so (orders_to m to (Some order)) (aims i t.context.place (At to))
-      (λ yes. right.here i t.context.place (At to) (a.aimed ∙ yes)) (c.to refl))
+      (ap (names m to) (sym a.target_is)
+      ∙ named_clear i t a.target (λ aim. ap (λ (x : Instr). has_aim m x aim) a.is) (c.to refl) (c.last refl))
       (c.to refl) (c.last refl)
 
   -- Elsewhere it stays where it is, with its order; of its register `from` and its send no more is there than before.

@@ -1,6 +1,6 @@
 -- Of the states that a search by persistent sets has looked at, those at rest are all endings.
-use Rattle.std.proofs.Common.{◌≡◌, ℕ, zero, suc, ◌+◌, ◌<◌, ◌≤◌, Bool, true, false, cond, ◌⊎◌, inl, inr, Some, List, [], ◌∷◌, ◌++◌, length, map, refl, ap, sym, subst, ◌∙◌, arith}
-use Rattle.std.specs.Prelude.{filter, slice_get, slice_index_or}
+use Rattle.std.proofs.Common.{◌≡◌, ℕ, zero, suc, ◌+◌, ◌<◌, ◌≤◌, Bool, true, ◌⊎◌, inl, inr, Some, List, [], ◌∷◌, ◌++◌, length, map, refl, ap, sym, subst, ◌∙◌, arith}
+use Rattle.std.specs.Prelude.{slice_get}
 use Rattle.std.specs.Option.{option_map}
 use Rattle.std.specs.List.{AllByRecursion}
 use Rattle.std.proofs.lemmas.List.{length-append, length-map}
@@ -13,170 +13,83 @@ use Rattle.l4_explore.specs.Tries.{State}
 use Rattle.l4_explore.specs.Search.{Seen, seen_at, unseen, IsCut, IsExplored, IsFound}
 use Rattle.l4_explore.proofs.Orders.{not_after_length}
 use Rattle.l4_states.specs.Choices.{after_choices, choice, state_in, state_after, IsLeastRun}
-use Rattle.l4_states.specs.Endings.{AreApart, ends_of, entries_of, IsAmong, led}
+use Rattle.l4_states.specs.Endings.{ends_of, entries_of, IsAmong, led}
 use Rattle.l4_states.specs.Listed.{IsListed}
 use Rattle.l4_states.proofs.Chosen.{least_run}
-use Rattle.l4_states.proofs.Endings.{replayed, IsReplayed}
+use Rattle.l4_states.proofs.Endings.{all_ends, all_places, all_unlike, among, AreUnlike, IsReplayed, replayed}
 use Rattle.l4_states.proofs.Following.{at_rest_similar, code_similar, state_led, similar_state}
 use Rattle.l4_persistent.specs.Endings.{AreAllEndings, AreEndings, AreLookedAt, IsCutOff, IsEnding, IsGoneOn, IsPossible, LeadsThere}
 use Rattle.l4_persistent.specs.Inner.Ends.{AreOfSet, CanGoOn}
 use Rattle.l4_persistent.specs.Rests.{AreRestsListed}
 
--- A fact of all elements of a list, by their places
-all_places : {A : Type 0} (P : A → Type 0) (d : A) (xs : List A) →
-    ((i : ℕ) → i < length xs → P (slice_index_or xs i d)) → AllByRecursion P xs
-all_places P d [] h = tt
-all_places P d (x ∷ xs) h =
-    (h 0 (omega arith), all_places P d xs (λ i l. h (suc i) (omega (arith, l))))
+module _ (m : Machine) (found : List Seen) (depth : ℕ) (is_whole : Bool)
+    (looked : AreLookedAt m found depth is_whole) (rests : AreRestsListed m found depth is_whole) where
+  -- The replay of a found schedule
+  replay : (i : ℕ) (inside : i < length found) →
+      IsReplayed m (opening_run m) (looked.led i inside).system (seen_at found i).schedule
+  replay i inside =
+      let l = looked.led i inside in
+      replayed m (seen_at found i).schedule (opening_run m) l.system l.leads
 
-module _ (m : Machine) where
-  -- What is so of each end is so of its entries.
-  all_ends : (P : List Entry → Type 0) (found : List Seen) →
-      AllByRecursion (λ s. s.state.is_end ≡ true → P (entries_of m s.schedule)) found →
-      AllByRecursion P (map (entries_of m) (ends_of found))
-  all_ends P [] h = tt
-  all_ends P (x ∷ xs) h = by x.state.is_end refl (all_ends P xs h.1)
-    where
-      by : (b : Bool) → x.state.is_end ≡ b →
-          AllByRecursion P (map (entries_of m) (ends_of xs)) →
-          AllByRecursion P (map (entries_of m) (map (λ (s : Seen). s.schedule)
-          (cond b (x ∷ filter (λ s. s.state.is_end) xs) (filter (λ s. s.state.is_end) xs))))
-      by true is rest = (h.0 is, rest)
-      by false is rest = rest
+  led_is : (i : ℕ) (inside : i < length found) →
+      led m (entries_of m (seen_at found i).schedule) ≡ (looked.led i inside).system
+  led_is i inside = let r = replay i inside in r.system
 
-  -- An end that was found is among them.
-  among : (found : List Seen) (g : System) (i : ℕ) → i < length found →
-      (seen_at found i).state.is_end ≡ true →
-      IsShifted (led m (entries_of m (seen_at found i).schedule)) g →
-      IsAmong m (map (entries_of m) (ends_of found)) g
-  among [] g i inside is similar = absurd (omega (arith, inside))
-  among (x ∷ xs) g zero inside is similar = by x.state.is_end is
-    where
-      by : (b : Bool) → b ≡ true →
-          IsAmong m (map (entries_of m) (map (λ (s : Seen). s.schedule)
-          (cond b (x ∷ filter (λ s. s.state.is_end) xs) (filter (λ s. s.state.is_end) xs)))) g
-      by true e = record { place = 0; inside = omega arith; similar = similar }
-      by false e = cc
-  among (x ∷ xs) g (suc i) inside is similar =
-      by x.state.is_end (among xs g i (omega (arith, inside)) is similar)
-    where
-      by : (b : Bool) → IsAmong m (map (entries_of m) (ends_of xs)) g →
-          IsAmong m (map (entries_of m) (map (λ (s : Seen). s.schedule)
-          (cond b (x ∷ filter (λ s. s.state.is_end) xs) (filter (λ s. s.state.is_end) xs)))) g
-      by true a = record {
-        place = suc a.place;
-        inside = omega (arith, a.inside);
-        similar = a.similar;
-      }
-      by false a = a
-
-  -- States that were found, by their schedules
-  abbrev AreUnlike : Seen → Seen → Type 0
-  AreUnlike x y =
-      (IsShifted (led m (entries_of m x.schedule)) (led m (entries_of m y.schedule)) → ⊥)
-      × (length x.schedule ≤ length y.schedule)
-
-  all_unlike : (found : List Seen) →
-      ((i j : ℕ) → i < j → j < length found → AreUnlike (seen_at found i) (seen_at found j)) →
-      AreApart m (map (entries_of m) (ends_of found))
-  all_unlike [] h = tt
-  all_unlike (x ∷ xs) h =
-      by x.state.is_end (all_unlike xs (λ i j l k. h (suc i) (suc j) (omega (arith, l))
-      (omega (arith, k))))
-    where
-      all : AllByRecursion (λ (f : List Entry).
-          (IsShifted (led m (entries_of m x.schedule)) (led m f) → ⊥)
-          × (length (entries_of m x.schedule) ≤ length f)) (map (entries_of m) (ends_of xs))
-      all = all_ends (λ (f : List Entry).
-          (IsShifted (led m (entries_of m x.schedule)) (led m f) → ⊥)
-          × (length (entries_of m x.schedule) ≤ length f)) xs
-          (all_places (λ s. s.state.is_end ≡ true →
-          (IsShifted (led m (entries_of m x.schedule)) (led m (entries_of m s.schedule)) → ⊥)
-          × (length (entries_of m x.schedule) ≤ length (entries_of m s.schedule))) unseen xs
-          (λ j l is. let u = h 0 (suc j) (omega arith) (omega (arith, l)) in (
-            u.0,
+  is_ending : (i : ℕ) → i < length found → (seen_at found i).state.is_end ≡ true →
+      IsEnding m (entries_of m (seen_at found i).schedule)
+  is_ending i inside is =
+      let s = (seen_at found i).schedule in
+      let l = looked.led i inside in
+      let r = replay i inside in
+      let long = length-map s (choice m) in
+      record {
+        run = subst (λ (n : ℕ). IsLeastRun m n (led m (entries_of m s))) (sym long)
+            (subst (IsLeastRun m (length s)) (sym (led_is i inside)) l.run);
+        events = omega (arith, r.count, long);
+        rest = ap (at_rest m) (led_is i inside) ∙ sym l.is_end ∙ is;
+        shortest = λ g events run similar.
             omega (
               arith,
-              u.1,
-              length-map x.schedule (choice m),
-              length-map (seen_at xs j).schedule (choice m),
-            ),
-          )))
+              long,
+              rests.shortest i l.system g events inside l.leads run
+                  (subst (λ (k : System). IsShifted k g) (led_is i inside) similar),
+            );
+      }
 
-      by : (b : Bool) → AreApart m (map (entries_of m) (ends_of xs)) →
-          AreApart m (map (entries_of m) (map (λ (s : Seen). s.schedule)
-          (cond b (x ∷ filter (λ s. s.state.is_end) xs) (filter (λ s. s.state.is_end) xs))))
-      by true rest = (all, rest)
-      by false rest = rest
+  listed_among : (g : System) (events : ℕ) → at_rest m g ≡ true → IsListed m found g events →
+      IsAmong m (map (entries_of m) (ends_of found)) g
+  listed_among g events rest l =
+      let s = looked.led l.place l.inside in
+      let same = some_is l.system s.system (sym l.leads ∙ s.leads) in
+      let similar = subst (λ (k : System). IsShifted k g) same l.similar in
+      among m found g l.place l.inside
+      (s.is_end ∙ at_rest_similar m s.system g similar ∙ rest)
+      (subst (λ (k : System). IsShifted k g) (sym (led_is l.place l.inside)) similar)
 
-  module _ (found : List Seen) (depth : ℕ) (is_whole : Bool)
-      (looked : AreLookedAt m found depth is_whole) (rests : AreRestsListed m found depth is_whole) where
-    -- The replay of a found schedule
-    replay : (i : ℕ) (inside : i < length found) →
-        IsReplayed m (opening_run m) (looked.led i inside).system (seen_at found i).schedule
-    replay i inside =
-        let l = looked.led i inside in
-        replayed m (seen_at found i).schedule (opening_run m) l.system l.leads
+  unlike : (i j : ℕ) → i < j → j < length found → AreUnlike m (seen_at found i) (seen_at found j)
+  unlike i j less inside =
+      let below : i < length found = omega (arith, less, inside) in
+      let x = looked.led i below in
+      let y = looked.led j inside in (
+        λ similar.
+            let same = looked.once i j x.system y.system below inside x.leads y.leads
+            (subst (λ (k : System). IsShifted k y.system) (led_is i below)
+            (subst (IsShifted (led m (entries_of m (seen_at found i).schedule))) (led_is j inside)
+            similar)) in
+            omega (arith, less, same),
+        not_after_length (seen_at found i).schedule (seen_at found j).schedule
+            (inr (looked.rising i j less inside)),
+      )
 
-    led_is : (i : ℕ) (inside : i < length found) →
-        led m (entries_of m (seen_at found i).schedule) ≡ (looked.led i inside).system
-    led_is i inside = let r = replay i inside in r.system
-
-    is_ending : (i : ℕ) → i < length found → (seen_at found i).state.is_end ≡ true →
-        IsEnding m (entries_of m (seen_at found i).schedule)
-    is_ending i inside is =
-        let s = (seen_at found i).schedule in
-        let l = looked.led i inside in
-        let r = replay i inside in
-        let long = length-map s (choice m) in
-        record {
-          run = subst (λ (n : ℕ). IsLeastRun m n (led m (entries_of m s))) (sym long)
-              (subst (IsLeastRun m (length s)) (sym (led_is i inside)) l.run);
-          events = omega (arith, r.count, long);
-          rest = ap (at_rest m) (led_is i inside) ∙ sym l.is_end ∙ is;
-          shortest = λ g events run similar.
-              omega (
-                arith,
-                long,
-                rests.shortest i l.system g events inside l.leads run
-                    (subst (λ (k : System). IsShifted k g) (led_is i inside) similar),
-              );
-        }
-
-    listed_among : (g : System) (events : ℕ) → at_rest m g ≡ true → IsListed m found g events →
-        IsAmong m (map (entries_of m) (ends_of found)) g
-    listed_among g events rest l =
-        let s = looked.led l.place l.inside in
-        let same = some_is l.system s.system (sym l.leads ∙ s.leads) in
-        let similar = subst (λ (k : System). IsShifted k g) same l.similar in
-        among found g l.place l.inside
-        (s.is_end ∙ at_rest_similar m s.system g similar ∙ rest)
-        (subst (λ (k : System). IsShifted k g) (sym (led_is l.place l.inside)) similar)
-
-    unlike : (i j : ℕ) → i < j → j < length found → AreUnlike (seen_at found i) (seen_at found j)
-    unlike i j less inside =
-        let below : i < length found = omega (arith, less, inside) in
-        let x = looked.led i below in
-        let y = looked.led j inside in (
-          λ similar.
-              let same = looked.once i j x.system y.system below inside x.leads y.leads
-              (subst (λ (k : System). IsShifted k y.system) (led_is i below)
-              (subst (IsShifted (led m (entries_of m (seen_at found i).schedule))) (led_is j inside)
-              similar)) in
-              omega (arith, less, same),
-          not_after_length (seen_at found i).schedule (seen_at found j).schedule
-              (inr (looked.rising i j less inside)),
-        )
-
-    of_found : AreAllEndings m (map (entries_of m) (ends_of found)) depth is_whole
-    of_found = record {
-      sound = all_ends (IsEnding m) found
-          (all_places (λ s. s.state.is_end ≡ true → IsEnding m (entries_of m s.schedule)) unseen
-          found (λ i l. is_ending i l));
-      complete = λ g events c short. listed_among g events c.rest (rests.complete g events c short);
-      whole = λ w g events c. listed_among g events c.rest (rests.whole w g events c);
-      apart = all_unlike found unlike;
-    }
+  of_found : AreAllEndings m (map (entries_of m) (ends_of found)) depth is_whole
+  of_found = record {
+    sound = all_ends m (IsEnding m) found
+        (all_places (λ s. s.state.is_end ≡ true → IsEnding m (entries_of m s.schedule)) unseen
+        found (λ i l. is_ending i l));
+    complete = λ g events c short. listed_among g events c.rest (rests.complete g events c short);
+    whole = λ w g events c. listed_among g events c.rest (rests.whole w g events c);
+    apart = all_unlike m found unlike;
+  }
 
 pub all_endings : (m : Machine) (endings : List (List Entry)) (states asked most depth : ℕ)
     (is_whole : Bool) → AreEndings m endings states asked most depth is_whole →

@@ -1,7 +1,7 @@
 -- Small machines: who may post to whom.
-use Rattle.std.specs.Prelude.{ℕ, ◌≡◌, Bool, true, false, Option, Some, None, List, [], ◌∷◌, ◌++◌, slice_get, refl}
-use Rattle.l4_model.specs.Words.{NilThread}
-use Rattle.l4_model.specs.Machine.{Machine, ToLast, CancelSend, Delete, Jump, Tag, Vs, Ipc, Ask, machine_of}
+use Rattle.std.specs.Prelude.{ℕ, ◌≡◌, Bool, true, false, Option, Some, None, List, [], ◌∷◌, ◌++◌, slice_get, map, refl}
+use Rattle.l4_model.specs.Words.{W64, NilThread}
+use Rattle.l4_model.specs.Machine.{Machine, Instr, Fixed, Last, InRegister, CancelSend, Delete, Set, Tag, Vs, Ipc, Ask, Jump, OnErr, OnLabel, OnWord, OnFrom, End, machine_of}
 use Rattle.l4_model.specs.Conditions.{◌>>=◌}
 use Rattle.l4_model.proofs.Rows.Writing.{id, sends, receives, declared}
 use Rattle.l4_core_model.specs.Runs.{Action, Handles, Turns, core_run, opening_run, letters, is_empty}
@@ -55,7 +55,7 @@ comes_back = refl
 abbrev pub answering : Machine
 answering = machine_of 2 (
     declared 1 0 1 (sends 2 ∷ [])
-    ∷ declared 2 1 1 (receives ∷ Ipc ToLast NilThread None None ∷ []) ∷ [])
+    ∷ declared 2 1 1 (receives ∷ Ipc Last (Fixed NilThread) None None ∷ []) ∷ [])
 
 nothing_came : tells answering [] 1 0 ≡ Some false
 nothing_came = refl
@@ -65,7 +65,7 @@ answers = refl
 
 -- An order is aimed at its target, whose processor tells that it is done.
 abbrev pub ordering : Machine
-ordering = machine_of 2 (declared 1 0 1 (Ask (id 2) CancelSend ∷ []) ∷ declared 2 1 1 (receives ∷ []) ∷ [])
+ordering = machine_of 2 (declared 1 0 1 (Ask (Fixed (id 2)) CancelSend ∷ []) ∷ declared 2 1 1 (receives ∷ []) ∷ [])
 
 may_order : tells ordering [] 0 1 ≡ Some true
 may_order = refl
@@ -76,12 +76,53 @@ is_ordered = refl
 has_ordered : tells ordering (Turns 0 ∷ []) 0 1 ≡ Some false
 has_ordered = refl
 
+-- Who sends, or gives an order, to the id that a register has may post to any processor.
+abbrev pub by_a_register : Machine
+by_a_register = machine_of 3 (
+    declared 1 0 1 (Set 4 0x200000001 ∷ Ipc (InRegister W64 4) (Fixed NilThread) None None ∷ [])
+    ∷ declared 2 1 1 (receives ∷ [])
+    ∷ declared 3 2 1 (Ask (InRegister W64 4) CancelSend ∷ []) ∷ [])
+
+sends_by_it : tells by_a_register [] 0 1 ≡ Some true
+sends_by_it = refl
+
+sends_to_any : tells by_a_register [] 0 2 ≡ Some true
+sends_to_any = refl
+
+orders_any : tells by_a_register [] 2 1 ≡ Some true
+orders_any = refl
+
+-- An order to `last` is aimed at whom the last message came from.
+abbrev pub ordering_last : Machine
+ordering_last = machine_of 2 (declared 1 0 1 (sends 2 ∷ []) ∷ declared 2 1 1 (receives ∷ Ask Last CancelSend ∷ []) ∷ [])
+
+nobody_came : tells ordering_last [] 1 0 ≡ Some false
+nobody_came = refl
+
+orders_last : tells ordering_last decided 1 0 ≡ Some true
+orders_last = refl
+
+-- A branch may go on at its target, and behind it.
+abbrev pub branching : Instr → Machine
+branching branch = machine_of 3 (
+    declared 1 0 1 (branch ∷ sends 2 ∷ End ∷ sends 3 ∷ [])
+    ∷ declared 2 1 1 (receives ∷ [])
+    ∷ declared 3 2 1 (receives ∷ []) ∷ [])
+
+goes_behind : map (λ i. tells (branching i) [] 0 1) (OnErr 3 ∷ OnLabel 7 3 ∷ OnWord 1 5 3 ∷ OnFrom NilThread 3 ∷ [])
+    ≡ Some true ∷ Some true ∷ Some true ∷ Some true ∷ []
+goes_behind = refl
+
+goes_to_its_target : map (λ i. tells (branching i) [] 0 2) (OnErr 3 ∷ OnLabel 7 3 ∷ OnWord 1 5 3 ∷ OnFrom NilThread 3 ∷ [])
+    ≡ Some true ∷ Some true ∷ Some true ∷ Some true ∷ []
+goes_to_its_target = refl
+
 -- Of a deletion all processors are told.
 abbrev pub deleting : Machine
 deleting = machine_of 3 (
     declared 1 0 1 (receives ∷ [])
     ∷ declared 2 1 1 (receives ∷ [])
-    ∷ declared 3 2 1 (Ask (id 2) Delete ∷ []) ∷ [])
+    ∷ declared 3 2 1 (Ask (Fixed (id 2)) Delete ∷ []) ∷ [])
 
 tells_of_a_deletion : tells deleting [] 1 0 ≡ Some true
 tells_of_a_deletion = refl
@@ -107,8 +148,8 @@ is_never_deleted = refl
 abbrev pub handing_on : Machine
 handing_on = machine_of 3 (
     declared 1 0 1 (receives ∷ [])
-    ∷ declared 2 1 1 (Vs (id 1) ∷ Tag 0x1000 ∷ sends 3 ∷ [])
-    ∷ declared 3 2 2 (receives ∷ Ipc ToLast NilThread None None ∷ []) ∷ [])
+    ∷ declared 2 1 1 (Vs (Fixed (id 1)) ∷ Tag 0x1000 ∷ sends 3 ∷ [])
+    ∷ declared 3 2 2 (receives ∷ Ipc Last (Fixed NilThread) None None ∷ []) ∷ [])
 
 abbrev pub handed_on : List Action
 handed_on = Turns 1 ∷ Turns 1 ∷ Turns 1 ∷ Turns 2 ∷ Handles 2 1 ∷ Turns 2 ∷ []

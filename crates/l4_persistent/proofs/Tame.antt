@@ -5,7 +5,7 @@ use Rattle.std.specs.Prelude.{◌==◌, ◌||◌, slice_get, slice_index, slice_
 use Rattle.std.specs.List.{list_any}
 use Rattle.std.specs.Option.{option_map}
 use Rattle.l4_model.specs.Words.{GlobalId}
-use Rattle.l4_model.specs.Machine.{Machine, Declaration, Own, Assign, AssignTag, AssignVs, GoTo, GoToOnErr, Instr, Run, Ipc, Ask, End, OrderKind, CancelSend, CancelReceive, CancelBoth, Delete, place_of}
+use Rattle.l4_model.specs.Machine.{Machine, Declaration, Own, Assign, AssignTag, AssignVs, GoTo, GoToOnErr, GoToOnLabel, GoToOnWord, GoToOnFrom, Instr, Run, Ipc, Ask, End, OrderKind, CancelSend, CancelReceive, CancelBoth, Delete, place_of}
 use Rattle.l4_model.specs.World.{Context, Thread, Message, Send, Receive, PendingOrder, Owed, Phase, Ready, Sending, Receiving, Ordering, Ended, Deleted, opening, opening_thread, is_alive, is_deleted}
 use Rattle.l4_model.specs.Rules.{words_after, ran, bit, received_tag, message_of, permitted, act}
 use Rattle.l4_model.specs.Effects.{phase_after, runs, fails, decided, goes_on, asked, obeyed, turned_send, turns_in, turns}
@@ -54,15 +54,18 @@ other_set [] a word h = refl
 other_set (x ∷ words) zero word h = cc
 other_set (x ∷ words) (suc a) word h = refl
 
-own_quiet : (own : Own) (words : List ℕ) → may_ask (Run own) ≡ false → IsQuiet words → IsQuiet (words_after own words)
-own_quiet (Assign a value) words i h = ap asks_to_propagate (other_set words a _ i) ∙ h
-own_quiet (AssignTag word) words i h = first_set words word i h
-own_quiet (AssignVs id) words i h = h
-own_quiet (GoTo place) words i h = h
-own_quiet (GoToOnErr place) words i h = h
+own_quiet : (own : Own) (c : Context) → may_ask (Run own) ≡ false → IsQuiet c.words → IsQuiet (words_after c own)
+own_quiet (Assign a value) c i h = ap asks_to_propagate (other_set c.words a _ i) ∙ h
+own_quiet (AssignTag word) c i h = first_set c.words word i h
+own_quiet (AssignVs from) c i h = h
+own_quiet (GoTo place) c i h = h
+own_quiet (GoToOnErr place) c i h = h
+own_quiet (GoToOnLabel label place) c i h = h
+own_quiet (GoToOnWord a word place) c i h = h
+own_quiet (GoToOnFrom id place) c i h = h
 
 ran_quiet : (i : Instr) (c : Context) → may_ask i ≡ false → IsQuiet c.words → IsQuiet (ran i c).words
-ran_quiet (Run own) c i h = own_quiet own c.words i h
+ran_quiet (Run own) c i h = own_quiet own c i h
 ran_quiet (Ipc to from send_period receive_period) c i h = first_set c.words 0 refl h
 ran_quiet (Ask target what) c i h = h
 ran_quiet End c i h = h
@@ -162,7 +165,7 @@ module _ (m : Machine) (cpu : ℕ) where
     orders = λ j own within.
         let id = (declared m j).id in
         (deletes_test id).orders m (declared m i).id now t.context (at_hand m i t) order is
-        ∙ no_instruction m (instruction_deletes id) i t.context.place refl own.1;
+        (no_instruction m (instruction_deletes id) i t.context.place refl own.1);
     alive = λ own. refl;
   }
 

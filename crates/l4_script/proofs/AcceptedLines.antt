@@ -4,7 +4,7 @@ use Rattle.std.specs.Prelude.{◌==◌, nat_lt, nat_le, codes, bytes_eq}
 use Rattle.std.specs.Option.{option_map}
 use Rattle.std.proofs.lemmas.Bool.{ltb-true, le-leb, and_from}
 use Rattle.l4_model.specs.Words.{Format, word_limit, GlobalId, is_global_in, has_word_in, Id, NilThread, AnyThread, AnyLocalThread, GlobalThread, id_by, id_in}
-use Rattle.l4_model.specs.Machine.{To, ToId, ToLast, OrderKind, Delete, Value, Assign, Instr, Run, Tag, Vs, Ipc, Ask, Jump, OnErr, End, Declaration}
+use Rattle.l4_model.specs.Machine.{IdFrom, Fixed, Last, OrderKind, Delete, Value, Assign, Instr, Run, Tag, Vs, Ipc, Ask, Jump, OnErr, End, Declaration}
 use Rattle.l4_script.specs.declared.text.fault.TextFaultKind.TheVariants.{BadNumber, BadId, BadCpu, BadLine, TypedItems}
 use Rattle.l4_types.proofs.InFormats.{word_of_its_id}
 use Rattle.l4_script.specs.Judged.{Judged, ◌>>=◌, must, needs}
@@ -16,21 +16,21 @@ use Rattle.l4_script.specs.Lines.{after}
 use Rattle.l4_script.specs.Numbers.{number_of, number_from, word_from, time_from}
 use Rattle.l4_script.specs.Ids.{id_digits, raw_id_of, thread_in, spelled_id_of, id_of}
 use Rattle.l4_script.specs.Statements.{processors_line, processor_of, declaration_of, value_of, assign_of, tag_of, vs_of, destination_of, ipc_of, bits_of, exregs_of, delete_of, target_of, end_of, other_of, assigned_or, instruction_of}
-use Rattle.l4_script.specs.Canonical.{is_register, has_destination, has_time, can_be_written}
+use Rattle.l4_script.specs.Canonical.{is_register, has_id, has_destination, has_time, can_be_written}
 use Rattle.l4_script.proofs.Judging.{bind_ok, then_ok, must_ok, needs_ok, chosen, says, same_ok, number_within, number_small, word_needed}
 use Rattle.l4_script.proofs.Times.{time_said}
 use Rattle.l4_script.proofs.Values.{SaysValues, value_said}
 
 -- Numbers
 
-register_within : (word : List ℕ) (n : ℕ) → number_from 1 63 word ≡ Ok n → is_register n ≡ true
+pub register_within : (word : List ℕ) (n : ℕ) → number_from 1 63 word ≡ Ok n → is_register n ≡ true
 register_within word n e =
     let within = number_within 1 63 word n e in
     and_from (nat_le 1 n) (nat_le n 63) (le-leb 1 n within.0) (le-leb n 63 within.1)
 
 -- Ids
 
-id_in_said : (f : Format) (n : ℕ) (id : Id) → id_in f n ≡ Some id → has_word_in f id ≡ true
+pub id_in_said : (f : Format) (n : ℕ) (id : Id) → id_in f n ≡ Some id → has_word_in f id ≡ true
 id_in_said f n id e = by (nat_lt n (word_limit f)) refl e
   where
     by : (b : Bool) → nat_lt n (word_limit f) ≡ b → cond b (Some (id_by f n)) None ≡ Some id → has_word_in f id ≡ true
@@ -43,7 +43,7 @@ raw_id_said f digits id e =
     (λ test h. let word = some_bind (padded_of digits) (id_in f) id h in id_in_said f word.0 id word.2)
     (λ h. absurd cc)
 
-thread_said : (f : Format) (word : List ℕ) (t : GlobalId) → thread_in f word ≡ Some t → is_global_in f t ≡ true
+pub thread_said : (f : Format) (word : List ℕ) (t : GlobalId) → thread_in f word ≡ Some t → is_global_in f t ≡ true
 unfolding thread_in
 thread_said f word t e =
     let read = some_bind (thread_of word) _ t e in
@@ -53,7 +53,7 @@ thread_said f word t e =
 named : (f : Format) (name : Id) (id : Id) → has_word_in f name ≡ true → Some name ≡ Some id → has_word_in f id ≡ true
 named f name id good e = subst (λ (id : Id). has_word_in f id ≡ true) (some_same name id e) good
 
-id_said : (f : Format) (word : List ℕ) (id : Id) → id_of f word ≡ Some id → has_word_in f id ≡ true
+pub id_said : (f : Format) (word : List ℕ) (id : Id) → id_of f word ≡ Some id → has_word_in f id ≡ true
 unfolding id_of spelled_id_of
 id_said f word id e =
     chosen (has_word_in f id ≡ true) (bytes_eq word (codes "nil")) (Some NilThread) _ (Some id) e (λ t. named f NilThread id refl) (λ e.
@@ -102,16 +102,16 @@ unfolding vs_of
 vs_said f operands instr e =
     let word = bind_ok (needs (one operands) BadLine) _ instr e in
     let id = bind_ok (needs (id_of f word.0) BadId) _ instr word.2 in
-    moved f (Vs id.0) instr (same_ok _ _ id.2) (needed_id f word.0 id.0 id.1)
+    moved f (Vs (Fixed id.0)) instr (same_ok _ _ id.2) (needed_id f word.0 id.0 id.1)
 
-destination_said : (f : Format) (word : List ℕ) (to : To) → destination_of f word ≡ Ok to → has_destination f to ≡ true
+destination_said : (f : Format) (word : List ℕ) (to : IdFrom) → destination_of f word ≡ Ok to → has_destination f to ≡ true
 unfolding destination_of
 destination_said f word to e =
-    chosen (has_destination f to ≡ true) (bytes_eq word (codes "last")) (says ToLast) _ (says to) e
-    (λ t h. subst (λ (to : To). has_destination f to ≡ true) (same_ok ToLast to h) refl)
+    chosen (has_destination f to ≡ true) (bytes_eq word (codes "last")) (says Last) _ (says to) e
+    (λ t h. subst (λ (to : IdFrom). has_destination f to ≡ true) (same_ok Last to h) refl)
     (λ h.
     let id = bind_ok (needs (id_of f word) BadId) _ to h in
-    subst (λ (to : To). has_destination f to ≡ true) (same_ok (ToId id.0) to id.2) (needed_id f word id.0 id.1))
+    subst (λ (to : IdFrom). has_destination f to ≡ true) (same_ok (Fixed id.0) to id.2) (needed_id f word id.0 id.1))
 
 ipc_said : (f : Format) (operands : List (List ℕ)) (instr : Instr) → ipc_of f operands ≡ Ok instr → is_said f instr ≡ true
 unfolding ipc_of
@@ -121,14 +121,14 @@ ipc_said f operands instr e =
     let from = bind_ok (needs (id_of f words.0.1) BadId) _ instr to.2 in
     let send = bind_ok (time_from words.0.2) _ instr from.2 in
     let receive = bind_ok (time_from words.0.3) _ instr send.2 in
-    let ids = and_from (has_destination f to.0) (has_word_in f from.0) (destination_said f words.0.0 to.0 to.1) (needed_id f words.0.1 from.0 from.1) in
-    let phases = and_from (has_destination f to.0 && has_word_in f from.0) (has_time send.0) ids (time_said words.0.2 send.0 send.1) in
-    moved f (Ipc to.0 from.0 send.0 receive.0) instr (same_ok _ _ receive.2) (and_from _ (has_time receive.0) phases (time_said words.0.3 receive.0 receive.1))
+    let ids = and_from (has_destination f to.0) (has_id f (Fixed from.0)) (destination_said f words.0.0 to.0 to.1) (needed_id f words.0.1 from.0 from.1) in
+    let phases = and_from (has_destination f to.0 && has_id f (Fixed from.0)) (has_time send.0) ids (time_said words.0.2 send.0 send.1) in
+    moved f (Ipc to.0 (Fixed from.0) send.0 receive.0) instr (same_ok _ _ receive.2) (and_from _ (has_time receive.0) phases (time_said words.0.3 receive.0 receive.1))
 
-asked : (f : Format) (what : OrderKind) (word : List ℕ) (instr : Instr) → (needs (id_of f word) BadId >>= λ target. says (Ask target what)) ≡ Ok instr → is_said f instr ≡ true
+asked : (f : Format) (what : OrderKind) (word : List ℕ) (instr : Instr) → (needs (id_of f word) BadId >>= λ target. says (Ask (Fixed target) what)) ≡ Ok instr → is_said f instr ≡ true
 asked f what word instr e =
     let target = bind_ok (needs (id_of f word) BadId) _ instr e in
-    moved f (Ask target.0 what) instr (same_ok _ _ target.2) (needed_id f word target.0 target.1)
+    moved f (Ask (Fixed target.0) what) instr (same_ok _ _ target.2) (needed_id f word target.0 target.1)
 
 exregs_said : (f : Format) (operands : List (List ℕ)) (instr : Instr) → exregs_of f operands ≡ Ok instr → is_said f instr ≡ true
 unfolding exregs_of
@@ -185,7 +185,7 @@ pub record IsOpened (f : Format) (cpus : ℕ) (d : Declaration) : Type 0 where
   pub space : d.space < 2 ^ 32
   pub script : d.script ≡ []
 
-processor_below : (cpus : ℕ) (word : List ℕ) (cpu : ℕ) → processor_of cpus word ≡ Ok cpu → cpu < cpus
+pub processor_below : (cpus : ℕ) (word : List ℕ) (cpu : ℕ) → processor_of cpus word ≡ Ok cpu → cpu < cpus
 unfolding processor_of
 processor_below cpus word cpu e =
     let read = bind_ok (needs (number_of word) BadNumber) _ cpu e in

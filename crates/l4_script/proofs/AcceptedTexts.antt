@@ -6,7 +6,7 @@ use Rattle.std.proofs.lemmas.Bool.{lt-ltb, le-leb, ltb-true, ltb-false, eq-eqb, 
 use Rattle.std.proofs.lemmas.List.{length_push, length-set, get_or_push, get_or_append_left, get_or-set_same, get_or-set_other}
 use Rattle.std.proofs.lemmas.List.Folds.{list_all-append, list_any-append}
 use Rattle.l4_model.specs.Words.{Format, is_global_in}
-use Rattle.l4_model.specs.Machine.{Assign, Instr, Run, Tag, Vs, Ipc, Ask, Jump, OnErr, End, Declaration, Machine}
+use Rattle.l4_model.specs.Machine.{Assign, Instr, Run, Tag, Vs, Ipc, Ask, Jump, OnErr, OnLabel, OnWord, OnFrom, End, Declaration, Machine}
 use Rattle.l4_core_model.specs.Local.{declared, undeclared}
 use Rattle.l4_core_model.specs.Runs.{IsMachine}
 use Rattle.l4_script.specs.declared.text.fault.TextFault.{TextFault}
@@ -83,7 +83,7 @@ new_kept targets line thread (OnErr place) = named_last targets line thread plac
 new_kept targets line thread _ = refl
 
 -- A number that no thread has, has none behind them either.
-own-push : (ds : List Declaration) (d : Declaration) → are_apart ds ≡ true → list_any (has_number d.id.number) ds ≡ false → are_apart (ds ++ d ∷ []) ≡ true
+pub own-push : (ds : List Declaration) (d : Declaration) → are_apart ds ≡ true → list_any (has_number d.id.number) ds ≡ false → are_apart (ds ++ d ∷ []) ≡ true
 own-push [] d own new = refl
 own-push (x ∷ ds) d own new =
     let parts = and_parts (not (list_any (has_number x.id.number) ds)) (are_apart ds) own in
@@ -93,12 +93,12 @@ own-push (x ∷ ds) d own new =
     and_from _ _ (not_from_false _ none) (own-push ds d parts.1 other.1)
 
 -- A change of a script changes no number.
-any-set : (n : ℕ) (ds : List Declaration) (k : ℕ) (d : Declaration) → k < length ds → d.id ≡ (get_or ds k undeclared).id → list_any (has_number n) (set ds k d) ≡ list_any (has_number n) ds
+pub any-set : (n : ℕ) (ds : List Declaration) (k : ℕ) (d : Declaration) → k < length ds → d.id ≡ (get_or ds k undeclared).id → list_any (has_number n) (set ds k d) ≡ list_any (has_number n) ds
 any-set n [] k d l e = refl
 any-set n (x ∷ ds) zero d l e = rw e refl
 any-set n (x ∷ ds) (suc k) d l e = rw (any-set n ds k d (omega arith) e) refl
 
-own-set : (ds : List Declaration) (k : ℕ) (d : Declaration) → k < length ds → d.id ≡ (get_or ds k undeclared).id → are_apart (set ds k d) ≡ are_apart ds
+pub own-set : (ds : List Declaration) (k : ℕ) (d : Declaration) → k < length ds → d.id ≡ (get_or ds k undeclared).id → are_apart (set ds k d) ≡ are_apart ds
 own-set [] k d l e = refl
 own-set (x ∷ ds) zero d l e = rw e refl
 own-set (x ∷ ds) (suc k) d l e = rw (any-set x.id.number ds k d (omega arith) e, own-set ds k d (omega arith) e) refl
@@ -253,11 +253,14 @@ instruction_hit : (f : Format) (targets : List Target) (m : Machine) (place : �
     → can_be_written f (length (declared m place).script) instr ≡ true
 instruction_hit f targets m place (Run (Assign register value)) hits said kept = said
 instruction_hit f targets m place (Tag word) hits said kept = said
-instruction_hit f targets m place (Vs id) hits said kept = said
+instruction_hit f targets m place (Vs from) hits said kept = said
 instruction_hit f targets m place (Ipc to from send receive) hits said kept = said
 instruction_hit f targets m place (Ask target what) hits said kept = said
 instruction_hit f targets m place (Jump to) hits said kept = target_hit targets m place to hits kept
 instruction_hit f targets m place (OnErr to) hits said kept = target_hit targets m place to hits kept
+instruction_hit f targets m place (OnLabel label to) hits said kept = said
+instruction_hit f targets m place (OnWord register word to) hits said kept = said
+instruction_hit f targets m place (OnFrom id to) hits said kept = said
 instruction_hit f targets m place End hits said kept = refl
 
 script_hit : (f : Format) (targets : List Target) (m : Machine) (place : ℕ) (script : List Instr) → list_any (is_missed m) targets ≡ false → list_all (is_said f) script ≡ true → list_all (is_kept targets place) script ≡ true

@@ -4,7 +4,7 @@ use Rattle.std.specs.Fmt.{digits}
 use Rattle.std.specs.List.{flat_map}
 use Rattle.std.proofs.Common.{arith}
 use Rattle.l4_model.specs.Words.{W64, W32, global_id, GlobalThread, LocalThread, NilThread, AnyThread, AnyLocalThread}
-use Rattle.l4_model.specs.Machine.{Instr, Set, Copy, Add, Tag, Vs, Ipc, ToId, ToLast, Ask, CancelSend, CancelReceive, CancelBoth, Delete, Jump, OnErr, End, Machine, machine_of, retargeting_machine_of}
+use Rattle.l4_model.specs.Machine.{Instr, Set, Copy, Add, Tag, Vs, Ipc, Fixed, Last, Ask, CancelSend, CancelReceive, CancelBoth, Delete, Jump, OnErr, End, Machine, machine_of, retargeting_machine_of}
 use Rattle.l4_script.specs.Canonical.{low_digits, exponent_of, canonical_text, HasText}
 
 abbrev text : List (List ℕ) → List ℕ
@@ -28,8 +28,8 @@ no_thread_of_profile_2_in_32_bits = refl
 
 abbrev first_path : Machine
 first_path = machine_of 1 (
-    record { id = global_id 1 1; cpu = 0; space = 1; script = Set 1 10 ∷ Tag 0x70001 ∷ Ipc (ToId (GlobalThread (global_id 2 1))) NilThread None None ∷ [] }
-    ∷ record { id = global_id 2 1; cpu = 0; space = 2; script = Ipc (ToId NilThread) AnyThread None None ∷ [] } ∷ [])
+    record { id = global_id 1 1; cpu = 0; space = 1; script = Set 1 10 ∷ Tag 0x70001 ∷ Ipc (Fixed (GlobalThread (global_id 2 1))) (Fixed NilThread) None None ∷ [] }
+    ∷ record { id = global_id 2 1; cpu = 0; space = 2; script = Ipc (Fixed NilThread) (Fixed AnyThread) None None ∷ [] } ∷ [])
 
 text_of_first_path : canonical_text W64 first_path ≡ text (
     codes "l4 1 64" ∷ codes "cpus 1"
@@ -46,17 +46,17 @@ script =
     ∷ Copy 63 0
     ∷ Add W64 1 0xffffffffffffffff
     ∷ Tag 0x70001
-    ∷ Ipc (ToId (GlobalThread (global_id 2 65))) NilThread None None
-    ∷ Ipc (ToId (LocalThread 0x4000000000000ac0)) NilThread None None
-    ∷ Ipc (ToId AnyThread) NilThread None None
-    ∷ Ipc (ToId NilThread) AnyThread None None
-    ∷ Ipc ToLast AnyLocalThread (Some 0) (Some 5)
-    ∷ Ipc (ToId (GlobalThread (global_id 2 65))) (GlobalThread (global_id 2 65)) (Some 1024) (Some 2196875771904)
-    ∷ Vs (GlobalThread (global_id 3 1))
-    ∷ Ask (GlobalThread (global_id 2 65)) CancelSend
-    ∷ Ask NilThread CancelReceive
-    ∷ Ask (GlobalThread (global_id 2 65)) CancelBoth
-    ∷ Ask (GlobalThread (global_id 2 65)) Delete
+    ∷ Ipc (Fixed (GlobalThread (global_id 2 65))) (Fixed NilThread) None None
+    ∷ Ipc (Fixed (LocalThread 0x4000000000000ac0)) (Fixed NilThread) None None
+    ∷ Ipc (Fixed AnyThread) (Fixed NilThread) None None
+    ∷ Ipc (Fixed NilThread) (Fixed AnyThread) None None
+    ∷ Ipc Last (Fixed AnyLocalThread) (Some 0) (Some 5)
+    ∷ Ipc (Fixed (GlobalThread (global_id 2 65))) (Fixed (GlobalThread (global_id 2 65))) (Some 1024) (Some 2196875771904)
+    ∷ Vs (Fixed (GlobalThread (global_id 3 1)))
+    ∷ Ask (Fixed (GlobalThread (global_id 2 65))) CancelSend
+    ∷ Ask (Fixed NilThread) CancelReceive
+    ∷ Ask (Fixed (GlobalThread (global_id 2 65))) CancelBoth
+    ∷ Ask (Fixed (GlobalThread (global_id 2 65))) Delete
     ∷ Jump 18
     ∷ OnErr 0
     ∷ End
@@ -108,8 +108,8 @@ short_script =
     Set 1 0xffffffff
     ∷ Add W32 1 2
     ∷ Tag 0xffff003f
-    ∷ Ipc (ToId (GlobalThread (global_id 262143 16382))) (LocalThread 0xffffff80) None None
-    ∷ Vs (LocalThread 64)
+    ∷ Ipc (Fixed (GlobalThread (global_id 262143 16382))) (Fixed (LocalThread 0xffffff80)) None None
+    ∷ Vs (Fixed (LocalThread 64))
     ∷ []
 
 abbrev short_machine : Machine

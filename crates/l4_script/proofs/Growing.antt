@@ -15,7 +15,7 @@ use Rattle.l4_script.specs.Machines.{AreFound, IsLawful, has_number, is_taken, w
 place : {A : Type 0} (p : A → Bool) (xs : List A) (i : ℕ) → position_or_len p xs ≡ i → i < length xs → position p xs ≡ Some i
 place p xs i e l = rw (e, lt-ltb i (length xs) l)
 
-place_is : {A : Type 0} (p : A → Bool) (xs : List A) (i : ℕ) → position p xs ≡ Some i → (position_or_len p xs ≡ i) × (i < length xs)
+pub place_is : {A : Type 0} (p : A → Bool) (xs : List A) (i : ℕ) → position p xs ≡ Some i → (position_or_len p xs ≡ i) × (i < length xs)
 place_is p xs i e = by_test (ltb (position_or_len p xs) (length xs)) refl e
   where
     by_test : (b : Bool) → ltb (position_or_len p xs) (length xs) ≡ b → cond b (Some (position_or_len p xs)) None ≡ Some i → (position_or_len p xs ≡ i) × (i < length xs)
@@ -160,7 +160,7 @@ cpu-set ds k d in_range same i =
       | inr ne ↦ rw (get_or-set_other ds k i d undeclared ne) refl
     ]
 
-lawful-set : (m : Machine) (k : ℕ) (d : Declaration) → IsLawful m → k < length m.threads → d.id ≡ (declared m k).id → d.cpu ≡ (declared m k).cpu → IsLawful (record m { threads = set m.threads k d })
+pub lawful-set : (m : Machine) (k : ℕ) (d : Declaration) → IsLawful m → k < length m.threads → d.id ≡ (declared m k).id → d.cpu ≡ (declared m k).cpu → IsLawful (record m { threads = set m.threads k d })
 lawful-set m k d lawful in_range id cpu =
     record {
       machine = record { placed = placed; homed = homed };

@@ -15,18 +15,18 @@ use Rattle.l4_script.specs.Judged.{Judged}
 use Rattle.l4_words.specs.Lines.{parts_of, line_of_words}
 use Rattle.l4_script.specs.Machines.{has_number, last_thread, extended}
 use Rattle.l4_script.specs.Statements.{Heading, declare, extend}
-use Rattle.l4_script.specs.Texts.{Stage, Start, Processors, Threads, Reading, Target, targets_of, declared_in, extended_at, thread_line, after_words, after_line, is_missed, unless_missed, judged_at, read, machine_of_text}
+use Rattle.l4_script.specs.Texts.{Stage, Start, Processors, Threads, Reading, Target, targets_of, declared_in, extended_at, thread_line, after_words, after_line, is_missed, unless_missed, judged_at, read, first_machine_of_text}
 use Rattle.l4_script.specs.Canonical.{words_of_instruction, words_of_thread, words_of_format, lines_of_thread, lines_of, canonical_text, can_be_written, can_be_declared, are_apart, HasText}
 use Rattle.l4_script.proofs.Written.{are_line, line_lacks_end, after_line_read, instruction_is_line, instruction_read, declarable, thread_is_line, thread_line_read, format_is_line, format_read, processors_read, processors_is_line}
 
 -- The parts of a text, of which the last is nothing.
-abbrev parts : List (List (List ℕ)) → List (List ℕ)
+abbrev pub parts : List (List (List ℕ)) → List (List ℕ)
 parts lines = map (join_with_byte 32) lines ++ ([] ∷ [])
 
-abbrev are_lines : List (List (List ℕ)) → Bool
+abbrev pub are_lines : List (List (List ℕ)) → Bool
 are_lines lines = list_all are_line lines
 
-text_is_split : (lines : List (List (List ℕ))) → are_lines lines ≡ true → parts_of (flat_map line_of_words lines) ≡ parts lines
+pub text_is_split : (lines : List (List (List ℕ))) → are_lines lines ≡ true → parts_of (flat_map line_of_words lines) ≡ parts lines
 text_is_split [] h = refl
 text_is_split (words ∷ lines) h =
     let both = and_parts (are_line words) (are_lines lines) h in
@@ -46,14 +46,14 @@ read_on words lines stage next n h e =
 
 -- What was read of a machine
 
-abbrev read_of : Machine → List Declaration → Machine
+abbrev pub read_of : Machine → List Declaration → Machine
 read_of m ds = record m { threads = ds }
 
 abbrev so_far : Format → Machine → List Declaration → List Target → Stage
 so_far f m ds ts = Threads (record { format = f; machine = read_of m ds; targets = ts })
 
 -- A thread with the instructions that were read of its script.
-abbrev partial : Declaration → List Instr → Declaration
+abbrev pub partial : Declaration → List Instr → Declaration
 partial d done = record d { script = done }
 
 after_thread_line : (n : ℕ) (r r' : Reading) (words : List (List ℕ)) → thread_line n r words ≡ Ok r' → after_words n (Threads r) words ≡ Ok (Threads r')
@@ -79,17 +79,17 @@ named_is_met f m k n i h = refl
 
 -- Growing
 
-last_is : (before : List Declaration) (d : Declaration) → length (before ++ d ∷ []) - 1 ≡ length before
+pub last_is : (before : List Declaration) (d : Declaration) → length (before ++ d ∷ []) - 1 ≡ length before
 last_is before d = omega (arith, length-append before (d ∷ []))
 
-last_thread_is : (m : Machine) (before : List Declaration) (d : Declaration) → last_thread (read_of m (before ++ d ∷ [])) ≡ d
+pub last_thread_is : (m : Machine) (before : List Declaration) (d : Declaration) → last_thread (read_of m (before ++ d ∷ [])) ≡ d
 last_thread_is m before d = rw (last_is before d) (get_or-append_seam before d [] undeclared)
 
 extended_is : (m : Machine) (before : List Declaration) (d : Declaration) (done : List Instr) (i : Instr) → extended i (read_of m (before ++ partial d done ∷ [])) ≡ read_of m (before ++ partial d (done ++ i ∷ []) ∷ [])
 extended_is m before d done i =
     ap (read_of m) (rw (last_is before (partial d done), get_or-append_seam before (partial d done) [] undeclared) (set-append_seam before (partial d done) [] (partial d (done ++ i ∷ []))))
 
-extend_is : (m : Machine) (before : List Declaration) (d : Declaration) (done : List Instr) (i : Instr) → length done < 1024 → extend i (read_of m (before ++ partial d done ∷ [])) ≡ Ok (read_of m (before ++ partial d (done ++ i ∷ []) ∷ []))
+pub extend_is : (m : Machine) (before : List Declaration) (d : Declaration) (done : List Instr) (i : Instr) → length done < 1024 → extend i (read_of m (before ++ partial d done ∷ [])) ≡ Ok (read_of m (before ++ partial d (done ++ i ∷ []) ∷ []))
 unfolding extend
 extend_is m before d done i room =
     rw (extended_is m before d done i, last_thread_is m before (partial d done), lt-ltb (length done) 1024 room) refl
@@ -132,14 +132,14 @@ read_script f m before d done (i ∷ rest) lines ts n at e room h met =
 -- Threads
 
 -- No thread that is left has the number of an earlier one.
-abbrev are_fresh : List Declaration → List Declaration → Bool
+abbrev pub are_fresh : List Declaration → List Declaration → Bool
 are_fresh before ds = list_all (λ d. not (list_any (has_number d.id.number) before)) ds
 
-fresh_at_first : (ds : List Declaration) → are_fresh [] ds ≡ true
+pub fresh_at_first : (ds : List Declaration) → are_fresh [] ds ≡ true
 fresh_at_first [] = refl
 fresh_at_first (d ∷ ds) = fresh_at_first ds
 
-still_fresh : (before : List Declaration) (d : Declaration) (ds : List Declaration) → are_fresh before ds ≡ true → list_any (has_number d.id.number) ds ≡ false → are_fresh (before ++ d ∷ []) ds ≡ true
+pub still_fresh : (before : List Declaration) (d : Declaration) (ds : List Declaration) → are_fresh before ds ≡ true → list_any (has_number d.id.number) ds ≡ false → are_fresh (before ++ d ∷ []) ds ≡ true
 still_fresh before d [] h other = refl
 still_fresh before d (x ∷ ds) h other =
     let fresh = and_parts (not (list_any (has_number x.id.number) before)) (are_fresh before ds) h in
@@ -187,7 +187,7 @@ threads_are_lines f cpus (d ∷ ds) limit h =
     list_all-append are_line (lines_of_thread f d) (flat_map (lines_of_thread f) ds)
     ∙ and_from _ _ (and_from _ _ (thread_is_line f cpus d limit can) (script_is_lines f (length d.script) d.script can.room can.script)) (threads_are_lines f cpus ds limit both.1)
 
-pub read_back : (f : Format) (m : Machine) → HasText f m → length (canonical_text f m) ≤ 0x100000 → machine_of_text (canonical_text f m) ≡ Ok m
+pub read_back : (f : Format) (m : Machine) → HasText f m → length (canonical_text f m) ≤ 0x100000 → first_machine_of_text (canonical_text f m) ≡ Ok m
 read_back f m h short =
     let limit = h.limit in
     let threads = flat_map (lines_of_thread f) m.threads in

@@ -6,13 +6,13 @@ use Rattle.std.specs.Fmt.{digit_glyph}
 use Rattle.std.specs.Str.Parse.{AllDigits, IsNumeral}
 use Rattle.std.specs.List.{list_all}
 use Rattle.std.specs.Option.{option_map}
-use Rattle.std.proofs.lemmas.Bool.{and_left, and_right, ltb-true, lt-ltb, le-leb, eq-eqb}
+use Rattle.std.proofs.lemmas.Bool.{false≢true, and_left, and_right, ltb-true, lt-ltb, le-leb, eq-eqb}
 use Rattle.std.proofs.lemmas.Bool.Decides.{nat_tests}
 use Rattle.std.proofs.lemmas.List.{length-append}
 use Rattle.std.proofs.lemmas.Fmt.{decimal_is_IsNumeral}
 use Rattle.l4_model.specs.Words.{Format, W64, W32, word_limit, is_word_in, GlobalId, is_global_in, has_word_in, id_by, Id, NilThread, AnyThread, AnyLocalThread, LocalThread, GlobalThread}
 use Rattle.l4_model.specs.Conditions.{◌>>=◌}
-use Rattle.l4_model.specs.Machine.{To, ToId, ToLast}
+use Rattle.l4_model.specs.Machine.{IdFrom, Fixed, Last, InRegister}
 use Rattle.l4_types.proofs.InFormats.{id_of_its_word, is_global_too}
 use Rattle.l4_words.specs.Numbers.{padded_of, with_digit, number_onto}
 use Rattle.l4_words.specs.Threads.{thread_word}
@@ -21,14 +21,12 @@ use Rattle.l4_words.proofs.Spelled.{fits, thread_is_read}
 use Rattle.l4_script.specs.Numbers.{number_of, number_from, word_from}
 use Rattle.l4_script.specs.Ids.{id_digits, raw_id_of, thread_in, spelled_id_of, id_of}
 use Rattle.l4_script.specs.Statements.{destination_of}
-use Rattle.l4_script.specs.Canonical.{low_digits, id_word, to_word, has_destination}
+use Rattle.l4_script.proofs.SimpleLines.{is_word_byte}
+use Rattle.l4_script.specs.Canonical.{low_digits, id_word, id_from_word, has_destination}
 
--- Each byte of a word is printable, and no space.
-abbrev pub is_visible : ℕ → Bool
-is_visible b = nat_lt 32 b && nat_le b 0x7e
-
+-- A word that some line may have: each byte is printable, and neither a space nor `;` nor `:`.
 abbrev pub is_plain : List ℕ → Bool
-is_plain w = nat_lt 0 (length w) && list_all is_visible w
+is_plain w = nat_lt 0 (length w) && list_all is_word_byte w
 
 -- Numbers
 
@@ -59,7 +57,7 @@ word_read f n h = rw (number_read n (word_small f n (ltb-true n (word_limit f) h
 
 -- Ids
 
-digits_of_number : (f : Format) (t : GlobalId) → is_global_in f t ≡ true → IsNumeral 10 (decimal t.number)
+pub digits_of_number : (f : Format) (t : GlobalId) → is_global_in f t ≡ true → IsNumeral 10 (decimal t.number)
 digits_of_number f t h = (decimal_is_IsNumeral t.number (fits t (is_global_too f t h)).number).0
 
 pub thread_in_read : (f : Format) (t : GlobalId) → is_global_in f t ≡ true → thread_in f (thread_word t) ≡ Some t
@@ -146,14 +144,15 @@ numeral_no_last : (front dot rest : List ℕ) → IsNumeral 10 front → bytes_e
 numeral_no_last [] dot rest h = absurd (omega (arith, h.0))
 numeral_no_last (c ∷ cs) dot rest h = rw (digit_no_l c h.1.0) refl
 
-id_no_last : (f : Format) (id : Id) → has_word_in f id ≡ true → bytes_eq (id_word f id) (codes "last") ≡ false
+pub id_no_last : (f : Format) (id : Id) → has_word_in f id ≡ true → bytes_eq (id_word f id) (codes "last") ≡ false
 id_no_last f NilThread h = refl
 id_no_last f AnyThread h = refl
 id_no_last f AnyLocalThread h = refl
 id_no_last f (LocalThread word) h = refl
 id_no_last f (GlobalThread t) h = numeral_no_last (decimal t.number) (codes ".") (decimal t.version) (digits_of_number f t h)
 
-pub destination_read : (f : Format) (to : To) → has_destination f to ≡ true → destination_of f (to_word f to) ≡ Ok to
+pub destination_read : (f : Format) (to : IdFrom) → has_destination f to ≡ true → destination_of f (id_from_word f to) ≡ Ok to
 unfolding destination_of
-destination_read f (ToId id) h = rw (id_no_last f id h, id_read f id h) refl
-destination_read f ToLast h = refl
+destination_read f (Fixed id) h = rw (id_no_last f id h, id_read f id h) refl
+destination_read f Last h = refl
+destination_read f (InRegister format a) h = absurd (false≢true h)

@@ -2,7 +2,7 @@
 use Rattle.std.specs.Prelude.{◌≡◌, ℕ, Bool, List, [], ◌∷◌, ◌++◌, map, length, filter, take, is_ok, Option, Some, None, Result, Ok, Err, codes, refl}
 use Rattle.std.specs.List.{flat_map, range_with_len}
 use Rattle.l4_model.specs.Words.{W64, W32, global_id, Id, GlobalThread, LocalThread, NilThread, AnyThread, AnyLocalThread, Period}
-use Rattle.l4_model.specs.Machine.{Instr, Set, Copy, Add, Tag, Vs, Ipc, ToId, ToLast, Ask, CancelSend, CancelReceive, CancelBoth, Delete, Jump, OnErr, End, Declaration, Machine, machine_of, retargeting_machine_of}
+use Rattle.l4_model.specs.Machine.{Instr, Set, Copy, Add, Tag, Vs, Ipc, Fixed, Last, Ask, CancelSend, CancelReceive, CancelBoth, Delete, Jump, OnErr, End, Declaration, Machine, machine_of, retargeting_machine_of}
 use Rattle.l4_script.specs.declared.text.fault.TextFault.{TextFault}
 use Rattle.l4_script.specs.declared.text.fault.TextFaultKind.{TextFaultKind}
 use Rattle.l4_script.specs.declared.text.fault.TextFaultKind.TheVariants.{BadLine, BadNumber, BadId, BadCpu, TypedItems, DoubleId, BadTarget}
@@ -13,7 +13,7 @@ use Rattle.l4_words.specs.Threads.{thread_of}
 use Rattle.l4_script.specs.Ids.{thread_in, spelled_id_of, id_of}
 use Rattle.l4_script.specs.Lines.{line_of}
 use Rattle.l4_script.specs.Statements.{format_line, processors_line, processor_of, declaration_of, value_of, assign_of, tag_of, vs_of, destination_of, ipc_of, bits_of, exregs_of, delete_of, target_of, other_of, instruction_of, declare, extend}
-use Rattle.l4_script.specs.Texts.{thread_line, after_words, after_line, machine_of_text, format_of_text}
+use Rattle.l4_script.specs.Texts.{thread_line, after_words, after_line, first_machine_of_text, format_of_text}
 
 -- Words
 
@@ -127,10 +127,10 @@ abbrev t_2_65 : Id
 t_2_65 = GlobalThread (global_id 2 65)
 
 abbrev send_to : Id → Instr
-send_to to = Ipc (ToId to) NilThread None None
+send_to to = Ipc (Fixed to) (Fixed NilThread) None None
 
 abbrev receive_from_any : Instr
-receive_from_any = Ipc (ToId NilThread) AnyThread None None
+receive_from_any = Ipc (Fixed NilThread) (Fixed AnyThread) None None
 
 abbrev thread : (number space : ℕ) → List Instr → Declaration
 thread number space script = record { id = global_id number 1; cpu = 0; space = space; script = script }
@@ -138,7 +138,7 @@ thread number space script = record { id = global_id number 1; cpu = 0; space = 
 abbrev first_path : Machine
 first_path = machine_of 1 (thread 1 1 (Set 1 10 ∷ Tag 0x70001 ∷ send_to (GlobalThread (global_id 2 1)) ∷ []) ∷ thread 2 2 (receive_from_any ∷ []) ∷ [])
 
-first_path_read : machine_of_text first_path_text ≡ Ok first_path
+first_path_read : first_machine_of_text first_path_text ≡ Ok first_path
 unfolding number_of number_from word_from period_number time_from thread_of thread_in spelled_id_of id_of line_of format_line processors_line processor_of declaration_of value_of assign_of tag_of vs_of destination_of ipc_of bits_of exregs_of delete_of target_of other_of instruction_of declare extend thread_line after_words after_line
 first_path_read = refl
 
@@ -147,7 +147,7 @@ first_path_size = refl
 
 -- The beginnings of this text that are texts: those that end with a line, behind the `cpus` line.
 abbrev is_read : ℕ → Bool
-is_read size = is_ok (machine_of_text (take size first_path_text))
+is_read size = is_ok (first_machine_of_text (take size first_path_text))
 
 beginnings_read : filter is_read (range_with_len 0 135) ≡ 15 ∷ 40 ∷ 49 ∷ 61 ∷ 85 ∷ 110 ∷ 134 ∷ []
 unfolding number_of number_from word_from period_number time_from thread_of thread_in spelled_id_of id_of line_of format_line processors_line processor_of declaration_of value_of assign_of tag_of vs_of destination_of ipc_of bits_of exregs_of delete_of target_of other_of instruction_of declare extend thread_line after_words after_line
@@ -182,43 +182,43 @@ instructions =
     ∷ (codes "ipc nil any never never", receive_from_any)
     ∷ (codes "ipc #0000000000000000 #ffffffffffffffff 0x0000 never", receive_from_any)
     -- both phases, one, or none
-    ∷ (codes "ipc 2.1 2.1 never never", Ipc (ToId t_2_1) t_2_1 None None)
-    ∷ (codes "ipc 2.1 any never never", Ipc (ToId t_2_1) AnyThread None None)
-    ∷ (codes "ipc nil 2.1 never never", Ipc (ToId NilThread) t_2_1 None None)
-    ∷ (codes "ipc nil anylocal never never", Ipc (ToId NilThread) AnyLocalThread None None)
-    ∷ (codes "ipc any anylocal zero zero", Ipc (ToId AnyThread) AnyLocalThread (Some 0) (Some 0))
-    ∷ (codes "ipc #0000000000000040 #0000000000000080 never never", Ipc (ToId (LocalThread 64)) (LocalThread 128) None None)
-    ∷ (codes "ipc last nil never never", Ipc ToLast NilThread None None)
-    ∷ (codes "ipc last any 5 0x400", Ipc ToLast AnyThread (Some 5) (Some 0))
+    ∷ (codes "ipc 2.1 2.1 never never", Ipc (Fixed t_2_1) (Fixed t_2_1) None None)
+    ∷ (codes "ipc 2.1 any never never", Ipc (Fixed t_2_1) (Fixed AnyThread) None None)
+    ∷ (codes "ipc nil 2.1 never never", Ipc (Fixed NilThread) (Fixed t_2_1) None None)
+    ∷ (codes "ipc nil anylocal never never", Ipc (Fixed NilThread) (Fixed AnyLocalThread) None None)
+    ∷ (codes "ipc any anylocal zero zero", Ipc (Fixed AnyThread) (Fixed AnyLocalThread) (Some 0) (Some 0))
+    ∷ (codes "ipc #0000000000000040 #0000000000000080 never never", Ipc (Fixed (LocalThread 64)) (Fixed (LocalThread 128)) None None)
+    ∷ (codes "ipc last nil never never", Ipc Last (Fixed NilThread) None None)
+    ∷ (codes "ipc last any 5 0x400", Ipc Last (Fixed AnyThread) (Some 5) (Some 0))
     -- every time, of the send phase and of the receive phase
-    ∷ (codes "ipc 2.1 2.1 zero never", Ipc (ToId t_2_1) t_2_1 (Some 0) None)
-    ∷ (codes "ipc 2.1 2.1 never zero", Ipc (ToId t_2_1) t_2_1 None (Some 0))
-    ∷ (codes "ipc 2.1 2.1 1024 0x7c00", Ipc (ToId t_2_1) t_2_1 (Some 0) (Some 0))
-    ∷ (codes "ipc 2.1 2.1 5 0xc03", Ipc (ToId t_2_1) t_2_1 (Some 5) (Some 24))
-    ∷ (codes "ipc 2.1 2.1 0x7fff 1", Ipc (ToId t_2_1) t_2_1 (Some 2196875771904) (Some 1))
+    ∷ (codes "ipc 2.1 2.1 zero never", Ipc (Fixed t_2_1) (Fixed t_2_1) (Some 0) None)
+    ∷ (codes "ipc 2.1 2.1 never zero", Ipc (Fixed t_2_1) (Fixed t_2_1) None (Some 0))
+    ∷ (codes "ipc 2.1 2.1 1024 0x7c00", Ipc (Fixed t_2_1) (Fixed t_2_1) (Some 0) (Some 0))
+    ∷ (codes "ipc 2.1 2.1 5 0xc03", Ipc (Fixed t_2_1) (Fixed t_2_1) (Some 5) (Some 24))
+    ∷ (codes "ipc 2.1 2.1 0x7fff 1", Ipc (Fixed t_2_1) (Fixed t_2_1) (Some 2196875771904) (Some 1))
     -- every id of the VirtualSender
-    ∷ (codes "vs 2.65", Vs t_2_65)
-    ∷ (codes "vs #0000000200000041", Vs t_2_65)
-    ∷ (codes "vs nil", Vs NilThread)
-    ∷ (codes "vs any", Vs AnyThread)
-    ∷ (codes "vs anylocal", Vs AnyLocalThread)
-    ∷ (codes "vs #0000000000000040", Vs (LocalThread 64))
+    ∷ (codes "vs 2.65", Vs (Fixed t_2_65))
+    ∷ (codes "vs #0000000200000041", Vs (Fixed t_2_65))
+    ∷ (codes "vs nil", Vs (Fixed NilThread))
+    ∷ (codes "vs any", Vs (Fixed AnyThread))
+    ∷ (codes "vs anylocal", Vs (Fixed AnyLocalThread))
+    ∷ (codes "vs #0000000000000040", Vs (Fixed (LocalThread 64)))
     -- orders, of whatever id
-    ∷ (codes "exregs 1.1 S", Ask t_1_1 CancelSend)
-    ∷ (codes "exregs 2.1 R", Ask t_2_1 CancelReceive)
-    ∷ (codes "exregs 2.1 SR", Ask t_2_1 CancelBoth)
-    ∷ (codes "exregs nil S", Ask NilThread CancelSend)
-    ∷ (codes "exregs #0000000200000041 SR", Ask t_2_65 CancelBoth)
-    ∷ (codes "delete 2.1", Ask t_2_1 Delete)
-    ∷ (codes "delete any", Ask AnyThread Delete)
-    ∷ (codes "delete #0000000000000040", Ask (LocalThread 64) Delete)
+    ∷ (codes "exregs 1.1 S", Ask (Fixed t_1_1) CancelSend)
+    ∷ (codes "exregs 2.1 R", Ask (Fixed t_2_1) CancelReceive)
+    ∷ (codes "exregs 2.1 SR", Ask (Fixed t_2_1) CancelBoth)
+    ∷ (codes "exregs nil S", Ask (Fixed NilThread) CancelSend)
+    ∷ (codes "exregs #0000000200000041 SR", Ask (Fixed t_2_65) CancelBoth)
+    ∷ (codes "delete 2.1", Ask (Fixed t_2_1) Delete)
+    ∷ (codes "delete any", Ask (Fixed AnyThread) Delete)
+    ∷ (codes "delete #0000000000000040", Ask (Fixed (LocalThread 64)) Delete)
     ∷ (codes "jump 0", Jump 0)
     ∷ (codes "jump 1", Jump 1)
     ∷ (codes "onerr 0x1", OnErr 1)
     ∷ (codes "end", End)
     ∷ []
 
-instructions_read : map (λ row. machine_of_text (behind_thread (row.0 ∷ []))) instructions ≡ map (λ row. Ok (machine_of 1 (thread 1 1 (row.1 ∷ []) ∷ []))) instructions
+instructions_read : map (λ row. first_machine_of_text (behind_thread (row.0 ∷ []))) instructions ≡ map (λ row. Ok (machine_of 1 (thread 1 1 (row.1 ∷ []) ∷ []))) instructions
 unfolding number_of number_from word_from period_number time_from thread_of thread_in spelled_id_of id_of line_of format_line processors_line processor_of declaration_of value_of assign_of tag_of vs_of destination_of ipc_of bits_of exregs_of delete_of target_of other_of instruction_of declare extend thread_line after_words after_line
 instructions_read = refl
 
@@ -304,7 +304,7 @@ no_instructions =
     ∷ (codes "jump 18446744073709551615", BadTarget)
     ∷ []
 
-no_instructions_read : map (λ row. machine_of_text (behind_thread (row.0 ∷ []))) no_instructions ≡ map (λ row. Err (fault_at 4 row.1)) no_instructions
+no_instructions_read : map (λ row. first_machine_of_text (behind_thread (row.0 ∷ []))) no_instructions ≡ map (λ row. Err (fault_at 4 row.1)) no_instructions
 unfolding number_of number_from word_from period_number time_from thread_of thread_in spelled_id_of id_of line_of format_line processors_line processor_of declaration_of value_of assign_of tag_of vs_of destination_of ipc_of bits_of exregs_of delete_of target_of other_of instruction_of declare extend thread_line after_words after_line
 no_instructions_read = refl
 
@@ -333,7 +333,7 @@ no_threads =
     ∷ (codes "l4 1 64", BadLine)
     ∷ []
 
-no_threads_read : map (λ row. machine_of_text (behind_headers (row.0 ∷ []))) no_threads ≡ map (λ row. Err (fault_at 3 row.1)) no_threads
+no_threads_read : map (λ row. first_machine_of_text (behind_headers (row.0 ∷ []))) no_threads ≡ map (λ row. Err (fault_at 3 row.1)) no_threads
 unfolding number_of number_from word_from period_number time_from thread_of thread_in spelled_id_of id_of line_of format_line processors_line processor_of declaration_of value_of assign_of tag_of vs_of destination_of ipc_of bits_of exregs_of delete_of target_of other_of instruction_of declare extend thread_line after_words after_line
 no_threads_read = refl
 
@@ -420,7 +420,7 @@ texts =
     ∷ (behind_thread (codes "end" ∷ codes "end" ∷ codes "thread 2.1 cpu 0 space 1" ∷ codes "onerr 2" ∷ []), Err (fault_at 7 BadTarget))
     ∷ []
 
-texts_read : map (λ row. machine_of_text row.0) texts ≡ map (λ row. row.1) texts
+texts_read : map (λ row. first_machine_of_text row.0) texts ≡ map (λ row. row.1) texts
 unfolding number_of number_from word_from period_number time_from thread_of thread_in spelled_id_of id_of line_of format_line processors_line processor_of declaration_of value_of assign_of tag_of vs_of destination_of ipc_of bits_of exregs_of delete_of target_of other_of instruction_of declare extend thread_line after_words after_line
 texts_read = refl
 
@@ -470,14 +470,14 @@ short_instructions =
     ∷ (codes "tag 0xffff003f", Tag 0xffff003f)
     ∷ (codes "ipc #00008001 nil never never", send_to t_2_1)
     ∷ (codes "ipc nil #ffffffff never never", receive_from_any)
-    ∷ (codes "vs 262143.16382", Vs (GlobalThread (global_id 262143 16382)))
-    ∷ (codes "exregs #00008041 SR", Ask t_2_65 CancelBoth)
-    ∷ (codes "delete #00000040", Ask (LocalThread 64) Delete)
+    ∷ (codes "vs 262143.16382", Vs (Fixed (GlobalThread (global_id 262143 16382))))
+    ∷ (codes "exregs #00008041 SR", Ask (Fixed t_2_65) CancelBoth)
+    ∷ (codes "delete #00000040", Ask (Fixed (LocalThread 64)) Delete)
     ∷ (codes "copy 1 0", Copy 1 0)
     ∷ (codes "jump 0x0000000000000001", Jump 1)
     ∷ []
 
-short_instructions_read : map (λ row. machine_of_text (behind_short_thread (row.0 ∷ []))) short_instructions ≡ map (λ row. Ok (machine_of 1 (thread 1 1 (row.1 ∷ []) ∷ []))) short_instructions
+short_instructions_read : map (λ row. first_machine_of_text (behind_short_thread (row.0 ∷ []))) short_instructions ≡ map (λ row. Ok (machine_of 1 (thread 1 1 (row.1 ∷ []) ∷ []))) short_instructions
 unfolding number_of number_from word_from period_number time_from thread_of thread_in spelled_id_of id_of line_of format_line processors_line processor_of declaration_of value_of assign_of tag_of vs_of destination_of ipc_of bits_of exregs_of delete_of target_of other_of instruction_of declare extend thread_line after_words after_line
 short_instructions_read = refl
 
@@ -505,7 +505,7 @@ no_short_instructions =
     ∷ (codes "thread 2.1 cpu 0 space 4294967296", BadNumber)
     ∷ []
 
-no_short_instructions_read : map (λ row. machine_of_text (behind_short_thread (row.0 ∷ []))) no_short_instructions ≡ map (λ row. Err (fault_at 4 row.1)) no_short_instructions
+no_short_instructions_read : map (λ row. first_machine_of_text (behind_short_thread (row.0 ∷ []))) no_short_instructions ≡ map (λ row. Err (fault_at 4 row.1)) no_short_instructions
 unfolding number_of number_from word_from period_number time_from thread_of thread_in spelled_id_of id_of line_of format_line processors_line processor_of declaration_of value_of assign_of tag_of vs_of destination_of ipc_of bits_of exregs_of delete_of target_of other_of instruction_of declare extend thread_line after_words after_line
 no_short_instructions_read = refl
 
@@ -518,13 +518,13 @@ formats_named = (refl, refl, refl, refl, refl, refl, refl)
 
 -- A sum that wraps, and an id by its word.
 short_path_read :
-    machine_of_text (behind_short_thread (codes "set 1 0xffffffff" ∷ codes "add 1 2" ∷ codes "tag 0x70001" ∷ codes "ipc #00008001 nil never never" ∷ codes "thread 2.1 cpu 0 space 2" ∷ codes "ipc nil any never never" ∷ []))
+    first_machine_of_text (behind_short_thread (codes "set 1 0xffffffff" ∷ codes "add 1 2" ∷ codes "tag 0x70001" ∷ codes "ipc #00008001 nil never never" ∷ codes "thread 2.1 cpu 0 space 2" ∷ codes "ipc nil any never never" ∷ []))
     ≡ Ok (machine_of 1 (thread 1 1 (Set 1 0xffffffff ∷ Add W32 1 2 ∷ Tag 0x70001 ∷ send_to t_2_1 ∷ []) ∷ thread 2 2 (receive_from_any ∷ []) ∷ []))
 unfolding number_of number_from word_from period_number time_from thread_of thread_in spelled_id_of id_of line_of format_line processors_line processor_of declaration_of value_of assign_of tag_of vs_of destination_of ipc_of bits_of exregs_of delete_of target_of other_of instruction_of declare extend thread_line after_words after_line
 short_path_read = refl
 
 short_sum_of_profile_2_read :
-    machine_of_text (text (codes "l4 2 32" ∷ codes "cpus 1" ∷ codes "thread 1.1 cpu 0 space 1" ∷ codes "add 1 2" ∷ []))
+    first_machine_of_text (text (codes "l4 2 32" ∷ codes "cpus 1" ∷ codes "thread 1.1 cpu 0 space 1" ∷ codes "add 1 2" ∷ []))
     ≡ Ok (retargeting_machine_of 1 (thread 1 1 (Add W32 1 2 ∷ []) ∷ []))
 unfolding number_of number_from word_from period_number time_from thread_of thread_in spelled_id_of id_of line_of format_line processors_line processor_of declaration_of value_of assign_of tag_of vs_of destination_of ipc_of bits_of exregs_of delete_of target_of other_of instruction_of declare extend thread_line after_words after_line
 short_sum_of_profile_2_read = refl

@@ -105,7 +105,7 @@ spelled_at ticks e some fits low =
     means : period_of number ≡ Some ticks
     means = time_means e (ticks / 2 ^ e) ticks small whole some
 
-exponent_found : (ticks e : ℕ) → exponent_of ticks ≡ Some e → (is_exponent ticks e ≡ true) × (e < 32)
+pub exponent_found : (ticks e : ℕ) → exponent_of ticks ≡ Some e → (is_exponent ticks e ≡ true) × (e < 32)
 unfolding exponent_of
 exponent_found ticks e h = found (is_exponent ticks) 0 32 e h
 

@@ -1,9 +1,9 @@
 -- Values in lines: what a line says can be assigned, and what can be assigned is read.
 use Rattle.std.proofs.Common.{◌≡◌, ℕ, ◌^◌, ◌<◌, true, false, not, List, get_or, Some, None, Ok, refl, ap, sym, subst, arith}
 use Rattle.std.specs.Prelude.{◌==◌, codes, decimal, bytes_eq}
-use Rattle.std.proofs.lemmas.Bool.{and_parts, and_from, ltb-true, leb-true, le-leb}
+use Rattle.std.proofs.lemmas.Bool.{false≢true, and_parts, and_from, ltb-true, leb-true, le-leb}
 use Rattle.l4_model.specs.Words.{Format, W64, W32, word_limit, is_word_in, same_format}
-use Rattle.l4_model.specs.Machine.{Value, Word, Register, Sum}
+use Rattle.l4_model.specs.Machine.{Value, Word, Register, Sum, FromWord}
 use Rattle.l4_words.proofs.Found.{some_same}
 use Rattle.l4_script.specs.Judged.{Judged}
 use Rattle.l4_script.specs.Numbers.{number_from, word_from}
@@ -31,7 +31,7 @@ register_said f operand value e =
     let source = bind_ok (number_from 0 63 operand) _ value e in
     valued f (Register source.0) value (same_ok _ _ source.2) (le-leb source.0 63 (number_within 0 63 operand source.0 source.1).1)
 
-format_itself : (f : Format) → same_format f f ≡ true
+pub format_itself : (f : Format) → same_format f f ≡ true
 format_itself W64 = refl
 format_itself W32 = refl
 
@@ -61,6 +61,7 @@ pub keyword_is : (value : Value) → IsKeyword (keyword_of value)
 keyword_is (Word word) = record { begins = refl; plain = refl; no_thread = refl }
 keyword_is (Register b) = record { begins = refl; plain = refl; no_thread = refl }
 keyword_is (Sum format word) = record { begins = refl; plain = refl; no_thread = refl }
+keyword_is (FromWord format) = record { begins = refl; plain = refl; no_thread = refl }
 
 word_is_small : (f : Format) (word : ℕ) → is_word_in f word ≡ true → word < 2 ^ 64
 word_is_small f word h = word_small f word (ltb-true word (word_limit f) h)
@@ -69,10 +70,11 @@ pub operand_small : (f : Format) (value : Value) → can_be_assigned f value ≡
 operand_small f (Word word) h = word_is_small f word (and_parts (is_word_in f word) (is_word_in f word) h).1
 operand_small f (Register b) h = let upper = leb-true b 63 h in omega (arith, upper)
 operand_small f (Sum format word) h = word_is_small f word (and_parts (same_format format f) (is_word_in f word) h).1
+operand_small f (FromWord format) h = omega arith
 
 -- What can be assigned is read.
 
-formats_are_one : (f g : Format) → same_format f g ≡ true → f ≡ g
+pub formats_are_one : (f g : Format) → same_format f g ≡ true → f ≡ g
 formats_are_one W64 W64 h = refl
 formats_are_one W32 W32 h = refl
 formats_are_one W64 W32 h = absurd cc
@@ -102,3 +104,4 @@ value_read f (Sum format word) h =
       keyword = refl;
       operand = rw (word_read f word both.1) (ap (λ (g : Format). says (Sum g word)) (sym (formats_are_one format f both.0)));
     }
+value_read f (FromWord format) h = absurd (false≢true (and_parts (same_format format f) false h).1)

@@ -5,14 +5,14 @@ use Rattle.std.specs.Char.{digit_value}
 use Rattle.std.specs.Fmt.{digit_glyph}
 use Rattle.std.specs.Str.Parse.{AllDigits}
 use Rattle.std.specs.List.{All, list_all, list_any, join_with_byte}
-use Rattle.std.proofs.lemmas.Bool.{agree_below_at, and_parts, and_from, or_from, ltb-true, leb-true, lt-ltb, ne_eqb, not-true, eqb-false}
+use Rattle.std.proofs.lemmas.Bool.{false≢true, agree_below_at, and_parts, and_from, or_from, ltb-true, leb-true, le-leb, lt-ltb, ne_eqb, not-true, eqb-false}
 use Rattle.std.proofs.lemmas.Bool.Decides.{nat_tests}
 use Rattle.std.proofs.lemmas.List.Elements.{All-nil, All-cons}
 use Rattle.std.proofs.lemmas.List.Folds.{list_all-append}
 use Rattle.std.proofs.lemmas.List.Splits.{slice_split_none, slice_split_at}
 use Rattle.std.proofs.lemmas.Fmt.{decimal_is_IsNumeral}
 use Rattle.l4_model.specs.Words.{Format, W64, W32, word_limit, is_word_in, GlobalId, is_global_in, has_word_in, Id, NilThread, AnyThread, AnyLocalThread, LocalThread, GlobalThread, Period}
-use Rattle.l4_model.specs.Machine.{To, ToId, ToLast, CancelSend, CancelReceive, CancelBoth, Delete, Value, Assign, Instr, Run, Tag, Vs, Ipc, Ask, Jump, OnErr, End, Declaration}
+use Rattle.l4_model.specs.Machine.{IdFrom, Fixed, Last, InRegister, CancelSend, CancelReceive, CancelBoth, Delete, Value, Assign, Instr, Run, Tag, Vs, Ipc, Ask, Jump, OnErr, OnLabel, OnWord, OnFrom, End, Declaration}
 use Rattle.l4_types.proofs.InFormats.{is_global_too}
 use Rattle.l4_words.specs.Threads.{thread_word}
 use Rattle.l4_words.specs.Words.{words_in}
@@ -22,12 +22,13 @@ use Rattle.l4_script.specs.Ids.{id_digits}
 use Rattle.l4_script.specs.Lines.{is_printable, has_empty_word, is_skipped, line_of}
 use Rattle.l4_script.specs.Statements.{Heading, format_line, processors_line, processor_of, declaration_of, value_of, assign_of, tag_of, vs_of, ipc_of, bits_of, exregs_of, delete_of, target_of, other_of, instruction_of}
 use Rattle.l4_script.specs.Texts.{Stage, Start, Processors, Threads, Reading, nothing_read, declared_in, extended_at, thread_line, after_words, after_line}
-use Rattle.l4_script.specs.Canonical.{low_digits, id_word, to_word, exponent_of, ticks_word, time_word, words_of_instruction, words_of_thread, words_of_format, keyword_of, operand_of, is_register, has_destination, has_time, can_be_assigned, can_be_written, can_be_declared}
-use Rattle.l4_script.proofs.Spelled.{is_visible, is_plain, number_read, ranged_read, word_small, word_read, thread_in_read, id_read, destination_read}
+use Rattle.l4_script.specs.Canonical.{low_digits, id_word, id_from_word, exponent_of, ticks_word, time_word, words_of_instruction, words_of_thread, words_of_format, keyword_of, operand_of, is_register, has_id, has_destination, has_time, can_be_assigned, can_be_written, can_be_declared}
+use Rattle.l4_script.proofs.Spelled.{is_plain, number_read, ranged_read, word_small, word_read, thread_in_read, id_read, destination_read}
+use Rattle.l4_script.proofs.SimpleLines.{is_word_byte, least, most}
 use Rattle.l4_script.proofs.Times.{IsTimeOf, spelled_time, time_read}
 use Rattle.l4_script.proofs.Values.{keyword_is, operand_small, value_read}
 
-abbrev are_plain : List (List ℕ) → Bool
+abbrev pub are_plain : List (List ℕ) → Bool
 are_plain words = list_all is_plain words
 
 -- The words of a line that is no comment; 59 is the byte of `;`.
@@ -37,23 +38,23 @@ are_line (word ∷ words) = not (get_or word 0 0 == 59) && are_plain (word ∷ w
 
 -- The bytes of a line
 
-no_space : (w : List ℕ) → list_all is_visible w ≡ true → All (λ x. eqb x 32 ≡ false) w
+no_space : (w : List ℕ) → list_all is_word_byte w ≡ true → All (λ x. eqb x 32 ≡ false) w
 no_space [] h = All-nil _
 no_space (x ∷ xs) h =
-    let parts = and_parts (is_visible x) (list_all is_visible xs) h in
-    let above = (and_parts (nat_lt 32 x) (nat_le x 0x7e) parts.0).0 in
-    let other : eqb x 32 ≡ false = grind (arith, nat_tests, above) in
+    let parts = and_parts (is_word_byte x) (list_all is_word_byte xs) h in
+    let above : 33 ≤ x = least x parts.0 in
+    let other : eqb x 32 ≡ false = ne_eqb x 32 (λ e. absurd (omega (arith, e, above))) in
     All-cons (λ x. eqb x 32 ≡ false) x xs other (no_space xs parts.1)
 
-visible_is_printable : (w : List ℕ) → list_all is_visible w ≡ true → is_printable w ≡ true
+visible_is_printable : (w : List ℕ) → list_all is_word_byte w ≡ true → is_printable w ≡ true
 visible_is_printable [] h = refl
 visible_is_printable (x ∷ xs) h =
-    let parts = and_parts (is_visible x) (list_all is_visible xs) h in
-    let ends = and_parts (nat_lt 32 x) (nat_le x 0x7e) parts.0 in
-    let above : nat_le 0x20 x ≡ true = grind (arith, nat_tests, ends.0) in
-    and_from _ _ (and_from _ _ above ends.1) (visible_is_printable xs parts.1)
+    let parts = and_parts (is_word_byte x) (list_all is_word_byte xs) h in
+    let above = le-leb 0x20 x (omega (arith, least x parts.0)) in
+    let below = le-leb x 0x7e (most x parts.0) in
+    and_from _ _ (and_from _ _ above below) (visible_is_printable xs parts.1)
 
-words_split : (word : List ℕ) (words : List (List ℕ)) → are_plain (word ∷ words) ≡ true → words_in (join_with_byte 32 (word ∷ words)) ≡ word ∷ words
+pub words_split : (word : List ℕ) (words : List (List ℕ)) → are_plain (word ∷ words) ≡ true → words_in (join_with_byte 32 (word ∷ words)) ≡ word ∷ words
 words_split word [] h = slice_split_none (λ x. x == 32) word (no_space word (and_parts _ _ (and_parts _ _ h).0).1)
 words_split word (next ∷ words) h =
     let parts = and_parts (is_plain word) (are_plain (next ∷ words)) h in
@@ -76,7 +77,7 @@ printable_lacks_end (x ∷ xs) h =
     let other : eqb x 10 ≡ false = grind (arith, nat_tests, above) in
     All-cons (λ x. eqb x 10 ≡ false) x xs other (printable_lacks_end xs parts.1)
 
-are_plain_words : (words : List (List ℕ)) → are_line words ≡ true → are_plain words ≡ true
+pub are_plain_words : (words : List (List ℕ)) → are_line words ≡ true → are_plain words ≡ true
 are_plain_words [] h = refl
 are_plain_words (word ∷ words) h = (and_parts _ _ h).1
 
@@ -112,63 +113,68 @@ after_line_read n stage words h = rw (line_read words h) refl
 
 -- The words of a thread and of an instruction
 
-digits_are_visible : (radix : ℕ) (w : List ℕ) → radix ≤ 16 → AllDigits radix w → list_all is_visible w ≡ true
+digits_are_visible : (radix : ℕ) (w : List ℕ) → radix ≤ 16 → AllDigits radix w → list_all is_word_byte w ≡ true
 digits_are_visible radix [] upper h = refl
 digits_are_visible radix (c ∷ cs) upper h =
     let value : digit_value c < radix = h.0 in
-    let low : nat_lt 32 c ≡ true = grind (arith, nat_tests, value) in
-    let high : nat_le c 0x7e ≡ true = grind (arith, nat_tests, value) in
-    and_from _ _ (and_from _ _ low high) (digits_are_visible radix cs upper h.1)
+    let shown : is_word_byte c ≡ true = grind (arith, nat_tests, value) in
+    and_from _ _ shown (digits_are_visible radix cs upper h.1)
 
-number_is_visible : (n : ℕ) → n < 2 ^ 64 → list_all is_visible (decimal n) ≡ true
-number_is_visible n small = digits_are_visible 10 (decimal n) (omega arith) (decimal_is_IsNumeral n small).0.1
+number_is_word_byte : (n : ℕ) → n < 2 ^ 64 → list_all is_word_byte (decimal n) ≡ true
+number_is_word_byte n small = digits_are_visible 10 (decimal n) (omega arith) (decimal_is_IsNumeral n small).0.1
 
-glyph_is_visible : (d : ℕ) → d < 16 → is_visible (digit_glyph false d) ≡ true
-glyph_is_visible d l = agree_below_at (λ d. is_visible (digit_glyph false d)) (λ d. true) 16 d refl l
+glyph_is_word_byte : (d : ℕ) → d < 16 → is_word_byte (digit_glyph false d) ≡ true
+glyph_is_word_byte d l = agree_below_at (λ d. is_word_byte (digit_glyph false d)) (λ d. true) 16 d refl l
 
-low_digits_are_visible : (k n : ℕ) → list_all is_visible (low_digits k n) ≡ true
+low_digits_are_visible : (k n : ℕ) → list_all is_word_byte (low_digits k n) ≡ true
 unfolding low_digits
 low_digits_are_visible zero n = refl
 low_digits_are_visible (suc k) n =
-    list_all-append is_visible (low_digits k (n / 16)) (digit_glyph false (n % 16) ∷ [])
-    ∙ and_from _ _ (low_digits_are_visible k (n / 16)) (and_from _ true (glyph_is_visible (n % 16) (omega arith)) refl)
+    list_all-append is_word_byte (low_digits k (n / 16)) (digit_glyph false (n % 16) ∷ [])
+    ∙ and_from _ _ (low_digits_are_visible k (n / 16)) (and_from _ true (glyph_is_word_byte (n % 16) (omega arith)) refl)
 
-number_is_plain : (n : ℕ) → n < 2 ^ 64 → is_plain (decimal n) ≡ true
-number_is_plain n small = and_from _ _ (lt-ltb 0 (length (decimal n)) (decimal_is_IsNumeral n small).0.0) (number_is_visible n small)
+pub number_is_plain : (n : ℕ) → n < 2 ^ 64 → is_plain (decimal n) ≡ true
+number_is_plain n small = and_from _ _ (lt-ltb 0 (length (decimal n)) (decimal_is_IsNumeral n small).0.0) (number_is_word_byte n small)
 
-filled_front : (xs ys : List ℕ) → is_plain xs ≡ true → list_all is_visible ys ≡ true → is_plain (xs ++ ys) ≡ true
+pub filled_front : (xs ys : List ℕ) → is_plain xs ≡ true → list_all is_word_byte ys ≡ true → is_plain (xs ++ ys) ≡ true
 filled_front [] ys p q = absurd cc
 filled_front (x ∷ xs) ys p q =
-    let parts = and_parts (nat_lt 0 (length (x ∷ xs))) (list_all is_visible (x ∷ xs)) p in
-    and_from _ _ (lt-ltb 0 (length (x ∷ xs ++ ys)) (omega arith)) (list_all-append is_visible (x ∷ xs) ys ∙ and_from _ _ parts.1 q)
+    let parts = and_parts (nat_lt 0 (length (x ∷ xs))) (list_all is_word_byte (x ∷ xs)) p in
+    and_from _ _ (lt-ltb 0 (length (x ∷ xs ++ ys)) (omega arith)) (list_all-append is_word_byte (x ∷ xs) ys ∙ and_from _ _ parts.1 q)
 
-thread_is_plain : (f : Format) (t : GlobalId) → is_global_in f t ≡ true → is_plain (thread_word t) ≡ true
+pub thread_is_plain : (f : Format) (t : GlobalId) → is_global_in f t ≡ true → is_plain (thread_word t) ≡ true
 thread_is_plain f t h =
     let small = fits t (is_global_too f t h) in
-    filled_front (decimal t.number ++ codes ".") (decimal t.version) (filled_front (decimal t.number) (codes ".") (number_is_plain t.number small.number) refl) (number_is_visible t.version small.version)
+    filled_front (decimal t.number ++ codes ".") (decimal t.version) (filled_front (decimal t.number) (codes ".") (number_is_plain t.number small.number) refl) (number_is_word_byte t.version small.version)
 
-id_is_plain : (f : Format) (id : Id) → has_word_in f id ≡ true → is_plain (id_word f id) ≡ true
+pub id_is_plain : (f : Format) (id : Id) → has_word_in f id ≡ true → is_plain (id_word f id) ≡ true
 id_is_plain f NilThread h = refl
 id_is_plain f AnyThread h = refl
 id_is_plain f AnyLocalThread h = refl
 id_is_plain f (LocalThread word) h = filled_front (codes "#") (low_digits (id_digits f) word) refl (low_digits_are_visible (id_digits f) word)
 id_is_plain f (GlobalThread t) h = thread_is_plain f t h
 
-word_fits : (f : Format) (n : ℕ) → is_word_in f n ≡ true → n < 2 ^ 64
+pub word_fits : (f : Format) (n : ℕ) → is_word_in f n ≡ true → n < 2 ^ 64
 word_fits f n h = word_small f n (ltb-true n (word_limit f) h)
 
-register_range : (n : ℕ) → is_register n ≡ true → (1 ≤ n) × (n ≤ 63) × (n < 2 ^ 64)
+pub register_range : (n : ℕ) → is_register n ≡ true → (1 ≤ n) × (n ≤ 63) × (n < 2 ^ 64)
 register_range n h =
     let parts = and_parts (nat_le 1 n) (nat_le n 63) h in
     let lower = leb-true 1 n parts.0 in
     let upper = leb-true n 63 parts.1 in
     (lower, upper, omega (arith, upper))
 
-destination_is_plain : (f : Format) (to : To) → has_destination f to ≡ true → is_plain (to_word f to) ≡ true
-destination_is_plain f (ToId id) h = id_is_plain f id h
-destination_is_plain f ToLast h = refl
+destination_is_plain : (f : Format) (to : IdFrom) → has_destination f to ≡ true → is_plain (id_from_word f to) ≡ true
+destination_is_plain f (Fixed id) h = id_is_plain f id h
+destination_is_plain f Last h = refl
+destination_is_plain f (InRegister format a) h = absurd (false≢true h)
 
-time_is_plain : (p : Period) → has_time p ≡ true → is_plain (time_word p) ≡ true
+fixed_is_plain : (f : Format) (from : IdFrom) → has_id f from ≡ true → is_plain (id_from_word f from) ≡ true
+fixed_is_plain f (Fixed id) h = id_is_plain f id h
+fixed_is_plain f Last h = absurd (false≢true h)
+fixed_is_plain f (InRegister format a) h = absurd (false≢true h)
+
+pub time_is_plain : (p : Period) → has_time p ≡ true → is_plain (time_word p) ≡ true
 time_is_plain None h = refl
 time_is_plain (Some ticks) h = by_test (eqb ticks 0) refl
   where
@@ -180,23 +186,23 @@ time_is_plain (Some ticks) h = by_test (eqb ticks 0) refl
     by_test false t = by_number (ticks_word ticks (exponent_of ticks)) (spelled_time ticks (eqb-false ticks 0 t) h)
 
 -- The operands of an ipc.
-record AreOperands (f : Format) (to : To) (from : Id) (send receive : Period) : Type 0 where
+record AreOperands (f : Format) (to from : IdFrom) (send receive : Period) : Type 0 where
   destination : has_destination f to ≡ true
-  specifier : has_word_in f from ≡ true
+  specifier : has_id f from ≡ true
   send_time : has_time send ≡ true
   receive_time : has_time receive ≡ true
 
-operands : (f : Format) (size : ℕ) (to : To) (from : Id) (send receive : Period) → can_be_written f size (Ipc to from send receive) ≡ true → AreOperands f to from send receive
+operands : (f : Format) (size : ℕ) (to from : IdFrom) (send receive : Period) → can_be_written f size (Ipc to from send receive) ≡ true → AreOperands f to from send receive
 operands f size to from send receive h =
-    let all_3 = and_parts (has_destination f to && has_word_in f from && has_time send) (has_time receive) h in
-    let all_2 = and_parts (has_destination f to && has_word_in f from) (has_time send) all_3.0 in
-    let all_1 = and_parts (has_destination f to) (has_word_in f from) all_2.0 in
+    let all_3 = and_parts (has_destination f to && has_id f from && has_time send) (has_time receive) h in
+    let all_2 = and_parts (has_destination f to && has_id f from) (has_time send) all_3.0 in
+    let all_1 = and_parts (has_destination f to) (has_id f from) all_2.0 in
     record { destination = all_1.0; specifier = all_1.1; send_time = all_2.1; receive_time = all_3.1 }
 
-one_number : (keyword : List ℕ) (n : ℕ) → not (get_or keyword 0 0 == 59) ≡ true → is_plain keyword ≡ true → n < 2 ^ 64 → are_line (keyword ∷ decimal n ∷ []) ≡ true
+pub one_number : (keyword : List ℕ) (n : ℕ) → not (get_or keyword 0 0 == 59) ≡ true → is_plain keyword ≡ true → n < 2 ^ 64 → are_line (keyword ∷ decimal n ∷ []) ≡ true
 one_number keyword n begins plain small = and_from _ _ begins (and_from _ _ plain (and_from _ _ (number_is_plain n small) refl))
 
-two_numbers : (keyword : List ℕ) (a b : ℕ) → not (get_or keyword 0 0 == 59) ≡ true → is_plain keyword ≡ true → a < 2 ^ 64 → b < 2 ^ 64 → are_line (keyword ∷ decimal a ∷ decimal b ∷ []) ≡ true
+pub two_numbers : (keyword : List ℕ) (a b : ℕ) → not (get_or keyword 0 0 == 59) ≡ true → is_plain keyword ≡ true → a < 2 ^ 64 → b < 2 ^ 64 → are_line (keyword ∷ decimal a ∷ decimal b ∷ []) ≡ true
 two_numbers keyword a b begins plain small_a small_b = and_from _ _ begins (and_from _ _ plain (and_from _ _ (number_is_plain a small_a) (and_from _ _ (number_is_plain b small_b) refl)))
 
 pub instruction_is_line : (f : Format) (size : ℕ) (i : Instr) → size ≤ 1024 → can_be_written f size i ≡ true → are_line (words_of_instruction f i) ≡ true
@@ -205,16 +211,19 @@ instruction_is_line f size (Run (Assign a value)) l h =
     let keyword = keyword_is value in
     two_numbers (keyword_of value) a (operand_of value) keyword.begins keyword.plain (register_range a parts.0).2 (operand_small f value parts.1)
 instruction_is_line f size (Tag word) l h = one_number (codes "tag") word refl refl (word_fits f word (and_parts _ _ h).0)
-instruction_is_line f size (Vs id) l h = and_from _ true (id_is_plain f id h) refl
+instruction_is_line f size (Vs from) l h = and_from _ true (fixed_is_plain f from h) refl
 instruction_is_line f size (Ipc to from send receive) l h =
     let o = operands f size to from send receive h in
-    and_from _ _ (destination_is_plain f to o.destination) (and_from _ _ (id_is_plain f from o.specifier) (and_from _ _ (time_is_plain send o.send_time) (and_from _ true (time_is_plain receive o.receive_time) refl)))
-instruction_is_line f size (Ask target CancelSend) l h = and_from _ true (id_is_plain f target h) refl
-instruction_is_line f size (Ask target CancelReceive) l h = and_from _ true (id_is_plain f target h) refl
-instruction_is_line f size (Ask target CancelBoth) l h = and_from _ true (id_is_plain f target h) refl
-instruction_is_line f size (Ask target Delete) l h = and_from _ true (id_is_plain f target h) refl
+    and_from _ _ (destination_is_plain f to o.destination) (and_from _ _ (fixed_is_plain f from o.specifier) (and_from _ _ (time_is_plain send o.send_time) (and_from _ true (time_is_plain receive o.receive_time) refl)))
+instruction_is_line f size (Ask target CancelSend) l h = and_from _ true (fixed_is_plain f target h) refl
+instruction_is_line f size (Ask target CancelReceive) l h = and_from _ true (fixed_is_plain f target h) refl
+instruction_is_line f size (Ask target CancelBoth) l h = and_from _ true (fixed_is_plain f target h) refl
+instruction_is_line f size (Ask target Delete) l h = and_from _ true (fixed_is_plain f target h) refl
 instruction_is_line f size (Jump place) l h = let upper = leb-true place size h in one_number (codes "jump") place refl refl (omega (arith, upper, l))
 instruction_is_line f size (OnErr place) l h = let upper = leb-true place size h in one_number (codes "onerr") place refl refl (omega (arith, upper, l))
+instruction_is_line f size (OnLabel label place) l h = absurd (false≢true h)
+instruction_is_line f size (OnWord a word place) l h = absurd (false≢true h)
+instruction_is_line f size (OnFrom id place) l h = absurd (false≢true h)
 instruction_is_line f size End l h = refl
 
 -- What a line says
@@ -234,14 +243,25 @@ instruction_read n r size (Run (Assign a value)) some l h = assign_read n r a va
 instruction_read n r size (Tag word) some l h =
     let parts = and_parts _ _ h in
     rw (lt-ltb 0 (length r.machine.threads) some, word_read r.format word parts.0, parts.1) refl
-instruction_read n r size (Vs id) some l h = rw (lt-ltb 0 (length r.machine.threads) some, id_read r.format id h) refl
-instruction_read n r size (Ipc to from send receive) some l h =
-    let o = operands r.format size to from send receive h in
+instruction_read n r size (Vs (Fixed id)) some l h = rw (lt-ltb 0 (length r.machine.threads) some, id_read r.format id h) refl
+instruction_read n r size (Vs Last) some l h = absurd (false≢true h)
+instruction_read n r size (Vs (InRegister format a)) some l h = absurd (false≢true h)
+instruction_read n r size (Ipc to Last send receive) some l h =
+    absurd (false≢true (operands r.format size to Last send receive h).specifier)
+instruction_read n r size (Ipc to (InRegister format a) send receive) some l h =
+    absurd (false≢true (operands r.format size to (InRegister format a) send receive h).specifier)
+instruction_read n r size (Ipc to (Fixed from) send receive) some l h =
+    let o = operands r.format size to (Fixed from) send receive h in
     rw (lt-ltb 0 (length r.machine.threads) some, destination_read r.format to o.destination, id_read r.format from o.specifier, time_read send o.send_time, time_read receive o.receive_time) refl
-instruction_read n r size (Ask target CancelSend) some l h = rw (lt-ltb 0 (length r.machine.threads) some, id_read r.format target h) refl
-instruction_read n r size (Ask target CancelReceive) some l h = rw (lt-ltb 0 (length r.machine.threads) some, id_read r.format target h) refl
-instruction_read n r size (Ask target CancelBoth) some l h = rw (lt-ltb 0 (length r.machine.threads) some, id_read r.format target h) refl
-instruction_read n r size (Ask target Delete) some l h = rw (lt-ltb 0 (length r.machine.threads) some, id_read r.format target h) refl
+instruction_read n r size (Ask (Fixed target) CancelSend) some l h = rw (lt-ltb 0 (length r.machine.threads) some, id_read r.format target h) refl
+instruction_read n r size (Ask (Fixed target) CancelReceive) some l h = rw (lt-ltb 0 (length r.machine.threads) some, id_read r.format target h) refl
+instruction_read n r size (Ask (Fixed target) CancelBoth) some l h = rw (lt-ltb 0 (length r.machine.threads) some, id_read r.format target h) refl
+instruction_read n r size (Ask (Fixed target) Delete) some l h = rw (lt-ltb 0 (length r.machine.threads) some, id_read r.format target h) refl
+instruction_read n r size (Ask Last what) some l h = absurd (false≢true h)
+instruction_read n r size (Ask (InRegister format a) what) some l h = absurd (false≢true h)
+instruction_read n r size (OnLabel label place) some l h = absurd (false≢true h)
+instruction_read n r size (OnWord a word place) some l h = absurd (false≢true h)
+instruction_read n r size (OnFrom id place) some l h = absurd (false≢true h)
 instruction_read n r size (Jump place) some l h =
     let upper = leb-true place size h in
     rw (lt-ltb 0 (length r.machine.threads) some, number_read place (omega (arith, upper, l))) refl

@@ -4,14 +4,14 @@ use Rattle.std.specs.Prelude.{ℕ, zero, suc, ◌≡◌, ◌≤◌, ◌+◌, ◌
 use Rattle.std.specs.Fmt.{digit_glyph}
 use Rattle.std.specs.List.{list_all, list_any, range_with_len}
 use Rattle.l4_model.specs.Words.{Format, W64, W32, is_word_in, is_global_in, has_word_in, last_register, Id, NilThread, AnyThread, AnyLocalThread, LocalThread, GlobalThread, Period}
-use Rattle.l4_model.specs.Machine.{Value, Word, Register, Sum, Assign, Instr, Run, Tag, Vs, Ipc, To, ToId, ToLast, Ask, CancelSend, CancelReceive, CancelBoth, Delete, Jump, OnErr, End, Declaration, Machine, most_processors, most_threads, most_instructions}
-use Rattle.l4_model.specs.Formats.{gives_words, is_of_format}
+use Rattle.l4_model.specs.Machine.{Value, Word, Register, Sum, FromWord, Assign, Instr, Run, Tag, Vs, Ipc, IdFrom, Fixed, Last, InRegister, Ask, CancelSend, CancelReceive, CancelBoth, Delete, Jump, OnErr, OnLabel, OnWord, OnFrom, End, Declaration, Machine, most_processors, most_threads, most_instructions}
+use Rattle.l4_model.specs.Formats.{gives_words}
 use Rattle.l4_core_model.specs.Runs.{IsMachine}
 use Rattle.l4_words.specs.Lines.{line_of_words}
 use Rattle.l4_words.specs.Threads.{thread_word}
 use Rattle.l4_script.specs.Ids.{id_digits}
 use Rattle.l4_script.specs.Machines.{has_number}
-use Rattle.l4_script.specs.Texts.{machine_of_text, format_of_text}
+use Rattle.l4_script.specs.Texts.{first_machine_of_text, format_of_text}
 
 -- Words
 
@@ -28,9 +28,11 @@ id_word f AnyLocalThread = codes "anylocal"
 id_word f (LocalThread word) = codes "#" ++ low_digits (id_digits f) word
 id_word f (GlobalThread t) = thread_word t
 
-abbrev pub to_word : Format → To → List ℕ
-to_word f (ToId id) = id_word f id
-to_word f ToLast = codes "last"
+-- Where an id is from. A register stands in no text yet.
+abbrev pub id_from_word : Format → IdFrom → List ℕ
+id_from_word f (Fixed id) = id_word f id
+id_from_word f Last = codes "last"
+id_from_word f (InRegister format a) = codes "mr" ++ decimal a
 
 -- These ticks are a mantissa of 10 bits times two to the power of the exponent.
 abbrev pub is_exponent : (ticks exponent : ℕ) → Bool
@@ -52,32 +54,42 @@ time_word (Some ticks) = if ticks == 0 then codes "zero" else ticks_word ticks (
 
 -- Lines, as the lists of their words
 
--- Which line assigns a value, and the number that stands there last.
+-- Which line assigns a value, and the number that stands there last. The word of `from` is assigned
+-- by no text yet, and has no such number.
 
 abbrev pub keyword_of : Value → List ℕ
 keyword_of (Word word) = codes "set"
 keyword_of (Register b) = codes "copy"
 keyword_of (Sum format word) = codes "add"
+keyword_of (FromWord format) = codes "from"
 
 abbrev pub operand_of : Value → ℕ
 operand_of (Word word) = word
 operand_of (Register b) = b
 operand_of (Sum format word) = word
+operand_of (FromWord format) = 0
 
 abbrev pub words_of_instruction : Format → Instr → List (List ℕ)
 words_of_instruction f (Run (Assign a value)) =
     keyword_of value ∷ decimal a ∷ decimal (operand_of value) ∷ []
 words_of_instruction f (Tag word) = codes "tag" ∷ decimal word ∷ []
-words_of_instruction f (Vs id) = codes "vs" ∷ id_word f id ∷ []
+words_of_instruction f (Vs from) = codes "vs" ∷ id_from_word f from ∷ []
 words_of_instruction f (Ipc to from send receive) =
-    codes "ipc" ∷ to_word f to ∷ id_word f from ∷ time_word send ∷ time_word receive ∷ []
-words_of_instruction f (Ask target CancelSend) = codes "exregs" ∷ id_word f target ∷ codes "S" ∷ []
+    codes "ipc" ∷ id_from_word f to ∷ id_from_word f from ∷ time_word send ∷ time_word receive ∷ []
+words_of_instruction f (Ask target CancelSend) =
+    codes "exregs" ∷ id_from_word f target ∷ codes "S" ∷ []
 words_of_instruction f (Ask target CancelReceive) =
-    codes "exregs" ∷ id_word f target ∷ codes "R" ∷ []
-words_of_instruction f (Ask target CancelBoth) = codes "exregs" ∷ id_word f target ∷ codes "SR" ∷ []
-words_of_instruction f (Ask target Delete) = codes "delete" ∷ id_word f target ∷ []
+    codes "exregs" ∷ id_from_word f target ∷ codes "R" ∷ []
+words_of_instruction f (Ask target CancelBoth) =
+    codes "exregs" ∷ id_from_word f target ∷ codes "SR" ∷ []
+words_of_instruction f (Ask target Delete) = codes "delete" ∷ id_from_word f target ∷ []
 words_of_instruction f (Jump place) = codes "jump" ∷ decimal place ∷ []
 words_of_instruction f (OnErr place) = codes "onerr" ∷ decimal place ∷ []
+words_of_instruction f (OnLabel label place) =
+    codes "onlabel" ∷ decimal label ∷ decimal place ∷ []
+words_of_instruction f (OnWord a word place) =
+    codes "onword" ∷ decimal a ∷ decimal word ∷ decimal place ∷ []
+words_of_instruction f (OnFrom id place) = codes "onfrom" ∷ id_word f id ∷ decimal place ∷ []
 words_of_instruction f End = codes "end" ∷ []
 
 abbrev pub words_of_thread : Declaration → List (List ℕ)
@@ -111,9 +123,16 @@ canonical_text f m = flat_map line_of_words (lines_of f m)
 abbrev pub is_register : ℕ → Bool
 is_register n = nat_le 1 n && nat_le n last_register
 
-abbrev pub has_destination : Format → To → Bool
-has_destination f (ToId id) = has_word_in f id
-has_destination f ToLast = true
+-- An id that stands there, and a destination, which may be `last` besides. Ids in registers, and
+-- branches on labels, words and senders, stand in no text yet.
+
+abbrev pub has_id : Format → IdFrom → Bool
+has_id f (Fixed id) = has_word_in f id
+has_id f from = false
+
+abbrev pub has_destination : Format → IdFrom → Bool
+has_destination f Last = true
+has_destination f to = has_id f to
 
 -- A period that some time means.
 abbrev pub has_time : Period → Bool
@@ -122,6 +141,7 @@ has_time (Some ticks) = is_some (exponent_of ticks)
 
 abbrev pub has_operand : Format → Value → Bool
 has_operand f (Register b) = nat_le b last_register
+has_operand f (FromWord format) = false
 has_operand f value = is_word_in f (operand_of value)
 
 abbrev pub can_be_assigned : Format → Value → Bool
@@ -131,13 +151,14 @@ can_be_assigned f value = gives_words f value && has_operand f value
 abbrev pub can_be_written : Format → (size : ℕ) → Instr → Bool
 can_be_written f size (Run (Assign a value)) = is_register a && can_be_assigned f value
 can_be_written f size (Tag word) = is_word_in f word && word / 2 ^ 6 % 64 == 0
-can_be_written f size (Vs id) = has_word_in f id
-can_be_written f size (Ipc to from send receive) = has_destination f to && has_word_in f from &&
+can_be_written f size (Vs from) = has_id f from
+can_be_written f size (Ipc to from send receive) = has_destination f to && has_id f from &&
     has_time send && has_time receive
-can_be_written f size (Ask target what) = has_word_in f target
+can_be_written f size (Ask target what) = has_id f target
 can_be_written f size (Jump place) = nat_le place size
 can_be_written f size (OnErr place) = nat_le place size
 can_be_written f size End = true
+can_be_written f size instr = false
 
 -- A thread of a machine of this number of processors.
 abbrev pub can_be_declared : Format → (cpus : ℕ) → Declaration → Bool
@@ -162,14 +183,10 @@ pub record HasText (f : Format) (m : Machine) : Type 0 where
 -- long.
 abbrev pub IsReadBack : Type 0
 IsReadBack = (f : Format) (m : Machine) → HasText f m → length (canonical_text f m) ≤ 0x100000 →
-    machine_of_text (canonical_text f m) ≡ Ok m
+    first_machine_of_text (canonical_text f m) ≡ Ok m
 
 -- Every machine that is read of a text, however it is spelled, has a canonical text in the format
 -- that the text names.
 abbrev pub EachHasText : Type 0
-EachHasText = (text : List ℕ) (m : Machine) → machine_of_text text ≡ Ok m →
+EachHasText = (text : List ℕ) (m : Machine) → first_machine_of_text text ≡ Ok m →
     IsMachine m × ((f : Format) × (format_of_text text ≡ Some f) × HasText f m)
-
--- The scripts of a machine that has a text in a format write words of this format alone.
-abbrev pub WritesItsWords : Type 0
-WritesItsWords = (f : Format) (m : Machine) → HasText f m → is_of_format f m ≡ true

@@ -2,4 +2,5 @@ pub mod Calls
 pub mod Headings
 pub mod Places
 pub mod Scripts
+pub mod Second
 pub mod Stages

@@ -6,5 +6,7 @@ pub mod Judged
 pub mod Lines
 pub mod Machines
 pub mod Numbers
+pub mod Second
 pub mod Statements
 pub mod Texts
+pub mod Versions

@@ -52,3 +52,9 @@ extended instr m = record m {
   threads = slice_set m.threads (last_place m)
       (with_instruction instr (last_thread m));
 }
+
+-- Its script is this one.
+abbrev pub with_last_script : List Instr → Machine → Machine
+with_last_script script m = record m {
+  threads = slice_set m.threads (last_place m) (record (last_thread m) { script = script });
+}

@@ -4,7 +4,7 @@ use Rattle.std.specs.Prelude.{ℕ, ◌/◌, ◌%◌, ◌^◌, ◌-◌, Bool, tru
 use Rattle.std.specs.Option.{option_map}
 use Rattle.std.specs.Str.{bytes_eq}
 use Rattle.l4_model.specs.Words.{Format, W64, W32, last_register}
-use Rattle.l4_model.specs.Machine.{Value, Word, Register, Sum, Assign, Instr, Run, Tag, Vs, Ipc, To, ToId, ToLast, Ask, OrderKind, CancelSend, CancelReceive, CancelBoth, Delete, Jump, OnErr, End, Declaration, Machine, most_processors, most_threads, most_instructions}
+use Rattle.l4_model.specs.Machine.{Value, Word, Register, Sum, Assign, Instr, Run, Tag, Vs, Ipc, IdFrom, Fixed, Last, Ask, OrderKind, CancelSend, CancelReceive, CancelBoth, Delete, Jump, OnErr, End, Declaration, Machine, most_processors, most_threads, most_instructions}
 use Rattle.l4_script.specs.declared.text.fault.TextFaultKind.TheVariants.{BadLine, BadNumber, BadId, BadCpu, TypedItems, DoubleId, TooManyThreads, TooManyInstructions}
 use Rattle.l4_script.specs.Judged.{Judged, ◌>>=◌, ◌>>◌, must, needs}
 use Rattle.l4_script.specs.Numbers.{number_of, number_from, word_from, time_from}
@@ -120,12 +120,12 @@ unfoldable pub vs_of : Format → List (List ℕ) → Judged Instr
 vs_of format operands = do
   word ← needs (one operands) BadLine
   id ← needs (id_of format word) BadId
-  Ok (Vs id)
+  Ok (Vs (Fixed id))
 
 -- Where an ipc sends to: an id, or `last`.
-unfoldable pub destination_of : Format → List ℕ → Judged To
-destination_of format word = if bytes_eq word (codes "last") then Ok ToLast
-    else (needs (id_of format word) BadId >>= λ id. Ok (ToId id))
+unfoldable pub destination_of : Format → List ℕ → Judged IdFrom
+destination_of format word = if bytes_eq word (codes "last") then Ok Last
+    else (needs (id_of format word) BadId >>= λ id. Ok (Fixed id))
 
 -- `ipc TO FROM STO RTO`, behind its first word.
 unfoldable pub ipc_of : Format → List (List ℕ) → Judged Instr
@@ -135,7 +135,7 @@ ipc_of format operands = do
   from ← needs (id_of format words.1) BadId
   send ← time_from words.2
   receive ← time_from words.3
-  Ok (Ipc to from send receive)
+  Ok (Ipc to (Fixed from) send receive)
 
 -- The bits of the control word, S and R in this order (manual: ExchangeRegisters).
 unfoldable pub bits_of : List ℕ → Option OrderKind
@@ -152,14 +152,14 @@ exregs_of format operands = do
   words ← needs (two operands) BadLine
   what ← needs (bits_of words.1) BadLine
   target ← needs (id_of format words.0) BadId
-  Ok (Ask target what)
+  Ok (Ask (Fixed target) what)
 
 -- `delete ID`, behind its first word.
 unfoldable pub delete_of : Format → List (List ℕ) → Judged Instr
 delete_of format operands = do
   word ← needs (one operands) BadLine
   target ← needs (id_of format word) BadId
-  Ok (Ask target Delete)
+  Ok (Ask (Fixed target) Delete)
 
 -- `jump L` and `onerr L`, behind the first word: whether there is such a place shows at the end of
 -- the text.

@@ -115,8 +115,8 @@ read (part ∷ next ∷ parts) stage line = judged_at line (after_line line stag
     read (next ∷ parts) after (line + 1))
 
 -- A text has at most 1,048,576 bytes.
-abbrev pub machine_of_text : List ℕ → Result Machine TextFault
-machine_of_text text = if nat_lt 0x100000 (length text) then Err (fault_at 0 TooLong)
+abbrev pub first_machine_of_text : List ℕ → Result Machine TextFault
+first_machine_of_text text = if nat_lt 0x100000 (length text) then Err (fault_at 0 TooLong)
     else read (parts_of text) Start 1
 
 -- The format that the first line with words names.

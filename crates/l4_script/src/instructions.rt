@@ -4,6 +4,7 @@ ghost use Rattle.l4_model.specs.Words.{register_count};
 ghost use Rattle.l4_model.specs.Rules.{assigned_by};
 ghost use Rattle.l4_types.specs.Inner.PeriodView.{IsTimely};
 ghost use Rattle.l4_script.specs.Inner.Scripts.{instr_of};
+ghost use Rattle.l4_script.specs.Second.Statements.{with_place};
 
 use l4_types::ids::ThreadId;
 use l4_types::registers::MESSAGE_REGISTERS;
@@ -96,21 +97,25 @@ impl Source {
     }
 }
 
-/// Where an Ipc sends to (manual: Ipc, `to`).
+/// Where an instruction has an id from.
 #[derive(Clone, Copy, PartialEq, Eq, Debug)]
-pub enum To {
-    /// This id. To nilthread there is no send phase.
-    Id(ThreadId),
-    /// The id that the register `from` has when the Ipc begins.
+pub enum IdFrom {
+    /// It stands there.
+    Fixed(ThreadId),
+    /// What the register `from` has at that moment.
     Last,
+    /// The id whose word the register has then (texts of 64 bits).
+    InRegister(Source),
+    /// The id whose word the register has then (texts of 32 bits).
+    InShortRegister(Source),
 }
 
 /// An Ipc of a script (manual: Ipc). Its periods are below 2^42 ticks, as a time can spell no
 /// longer one.
 #[derive(Clone, Copy, PartialEq, Eq, Debug)]
 pub struct Ipc {
-    to: To,
-    from: ThreadId,
+    to: IdFrom,
+    from: IdFrom,
     send_period: Period,
     receive_period: Period,
 }
@@ -141,7 +146,7 @@ impl Model for Ipc {
 impl Ipc {
     /// An Ipc with these phases. There is a send phase unless `to` is nilthread, and a receive
     /// phase unless `from` is nilthread.
-    pub(crate) fn new(to: To, from: ThreadId, send_period: Period, receive_period: Period) -> Ipc
+    pub(crate) fn new(to: IdFrom, from: IdFrom, send_period: Period, receive_period: Period) -> Ipc
         requires send { IsTimely send_period }
         requires receive { IsTimely receive_period }
         ensures { result ≡ record {
@@ -159,8 +164,8 @@ impl Ipc {
         }
     }
 
-    /// Where it sends to.
-    pub fn to(&self) -> To
+    /// Where it sends to. To nilthread there is no send phase.
+    pub fn to(&self) -> IdFrom
         ensures { result ≡ self.now.to }
     {
         self.to
@@ -168,7 +173,7 @@ impl Ipc {
 
     /// Whom its receive phase accepts (manual: Ipc, `FromSpecifier`). With nilthread there is no
     /// receive phase.
-    pub fn from(&self) -> ThreadId
+    pub fn from(&self) -> IdFrom
         ensures { result ≡ self.now.from }
     {
         self.from
@@ -206,15 +211,25 @@ pub enum Instr {
     Tag(MsgTag),
     /// The register that is VirtualSender and ActualSender becomes the id (manual: Thread Control
     /// Registers).
-    Vs(ThreadId),
+    Vs(IdFrom),
     /// The system call (manual: Ipc).
     Ipc(Ipc),
     /// An order to cancel or delete a thread (manual: ExchangeRegisters, ThreadControl).
-    Order(ThreadId, OrderKind),
+    Order(IdFrom, OrderKind),
     /// Goes on at this place of the script, counted from 0.
     Jump(u64),
     /// Goes on at this place if ErrorCode is not 0, else at the next instruction.
     OnErr(u64),
+    /// The register becomes the word of the id that `from` has (texts of 64 bits).
+    From(Register),
+    /// The register becomes the word of the id that `from` has (texts of 32 bits).
+    ShortFrom(Register),
+    /// Goes on at this place if the label of MR0 is the first number, else at the next instruction.
+    OnLabel(u64, u64),
+    /// Goes on at this place if the register has the word, else at the next instruction.
+    OnWord(Source, u64, u64),
+    /// Goes on at this place if the register `from` has the id, else at the next instruction.
+    OnFrom(ThreadId, u64),
     /// The thread has ended.
     End,
 }
@@ -228,8 +243,24 @@ impl Instr {
             Instr::Set(register, _)
             | Instr::Copy(register, _)
             | Instr::Add(register, _)
-            | Instr::ShortAdd(register, _) => Some(register),
+            | Instr::ShortAdd(register, _)
+            | Instr::From(register)
+            | Instr::ShortFrom(register) => Some(register),
             _ => None,
+        }
+    }
+
+    /// The same instruction, but that it goes on at this place, if it goes on at one.
+    pub(crate) fn with_place(&self, place: u64) -> Instr
+        ensures { instr_of result ≡ with_place place (instr_of self.now) }
+    {
+        match *self {
+            Instr::Jump(_) => Instr::Jump(place),
+            Instr::OnErr(_) => Instr::OnErr(place),
+            Instr::OnLabel(label, _) => Instr::OnLabel(label, place),
+            Instr::OnWord(source, word, _) => Instr::OnWord(source, word, place),
+            Instr::OnFrom(id, _) => Instr::OnFrom(id, place),
+            instr => instr,
         }
     }
 }

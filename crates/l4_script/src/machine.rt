@@ -6,7 +6,8 @@ ghost use Rattle.l4_model.specs.Machine.{most_instructions};
 ghost use Rattle.l4_core_model.specs.Runs.{IsMachine};
 ghost use Rattle.l4_script.specs.Inner.Scripts.{instr_of};
 ghost use Rattle.l4_script.specs.Machines.{is_taken, last_thread, machine_with, with_instruction};
-ghost use Rattle.l4_script.specs.Machines.{with_thread, extended};
+ghost use Rattle.l4_script.specs.Machines.{with_last_script, with_thread, extended};
+ghost use Rattle.l4_script.specs.Second.Texts.{placed_at};
 
 use crate::instructions::Instr;
 use crate::places::Places;
@@ -14,6 +15,7 @@ use l4_types::errors::NoMemory;
 use l4_types::ids::GlobalId;
 use std::alloc::Global;
 use std::marker::Model;
+use std::slice;
 
 /// How many threads a machine has at most.
 pub const MOST_THREADS: usize = 1024;
@@ -63,6 +65,38 @@ impl Declaration {
         }
     }
 
+    /// A thread with a script, which is not too long.
+    pub(crate) fn with_script(
+        alloc: Global,
+        id: GlobalId,
+        cpu: u8,
+        space: u32,
+        script: &[Instr],
+    ) -> Result<Declaration, NoMemory>
+        requires { length script.now ≤ most_instructions }
+        ensures { IfOk result (λ thread. thread ≡ record {
+          id = id;
+          cpu = cpu;
+          space = space;
+          script = map instr_of script.now;
+        }) }
+    {
+        let mut thread = Declaration::new(alloc, id, cpu, space);
+        thread.script = Vec::from_slice(alloc, script)?;
+        Ok(thread)
+    }
+
+    // Its instruction at one place goes on at another.
+    fn place(&mut self, at: usize, place: Option<u64>)
+        ensures { self.new ≡ record self.old { script = placed_at at place self.old.script } }
+    {
+        if let Some(place) = place
+            && at < self.script.len()
+        {
+            self.script[at] = self.script[at].with_place(place);
+        }
+    }
+
     /// The thread's id.
     pub fn id(&self) -> GlobalId
         ensures { result ≡ self.now.id }
@@ -98,7 +132,7 @@ impl Declaration {
         ensures ok { OnOk result (self.new ≡ with_instruction (instr_of instr.now) self.old) }
         ensures err { OnErr result (self.new ≡ self.old) }
     {
-        self.script.push(*instr)?;
+        self.script.extend_from_slice(slice::from_ref(instr))?;
         Ok(())
     }
 
@@ -245,6 +279,17 @@ impl Machine {
         let last = self.threads.len() - 1;
         let thread = &mut self.threads[last];
         thread.push(instr)
+    }
+
+    // The instruction at one place of the script that was declared last goes on at another.
+    pub(crate) fn place_last(&mut self, at: usize, place: Option<u64>)
+        requires { 0 < length self.old.threads }
+        ensures { self.new ≡ with_last_script (placed_at at place (last_thread self.old).script)
+            self.old }
+    {
+        let last = self.threads.len() - 1;
+        let thread = &mut self.threads[last];
+        thread.place(at, place);
     }
 
     /// A copy.

@@ -1,14 +1,17 @@
 //! Machine texts, and their reader.
 ghost use Rattle.std.specs.Prelude.{◌≡◌, ◌≤◌, length};
-ghost use Rattle.l4_script.specs.Canonical.{IsReadBack, EachHasText, WritesItsWords};
+ghost use Rattle.l4_script.specs.Canonical.{IsReadBack, EachHasText};
+ghost use Rattle.l4_script.specs.Second.Canonical.{EachHasSecondText, IsSecondReadBack, WritesItsWords};
 ghost use Rattle.l4_words.specs.Lines.{parts_of};
-ghost use Rattle.l4_script.specs.Texts.{Start, Reads, read, machine_of_text};
+ghost use Rattle.l4_script.specs.Texts.{Start, Reads, read};
+ghost use Rattle.l4_script.specs.Versions.{machine_of_text};
 
 mod fault;
 mod ids;
 mod lines;
 mod numbers;
 mod reading;
+pub mod second;
 mod statements;
 
 use crate::machine::Machine;
@@ -36,6 +39,9 @@ impl Machine {
                 kind: TextFaultKind::TooLong,
             });
         }
+        if second::begins_second(text) {
+            return second::read(alloc, text);
+        }
         read(alloc, text)
     }
 }
@@ -61,9 +67,12 @@ fn read(alloc: Global, text: &[u8]) -> Result<Machine, TextFault>
 
 /// The canonical text of a machine has a line for each thread and instruction, with every number in
 /// decimal. Unless it is too long, it declares that machine and no other. Every declared machine
-/// has one, in the format of its text. Its scripts write words of that format alone.
+/// has one, in the format of its text. Its scripts write words of that format alone. So it is of
+/// texts with scripts of version 2, which every declared machine has.
 pub fn law_canonical_text()
     ensures read_back { IsReadBack }
     ensures each { EachHasText }
+    ensures second { IsSecondReadBack }
+    ensures each_second { EachHasSecondText }
     ensures words { WritesItsWords }
 {}

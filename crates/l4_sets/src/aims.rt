@@ -6,17 +6,18 @@ ghost use Rattle.l4_model.specs.Machine.{Instr as ModelInstr, most_instructions,
 ghost use Rattle.l4_model.specs.Machine.{place_of};
 ghost use Rattle.l4_core_model.specs.Local.{declared};
 ghost use Rattle.l4_core_model.specs.Runs.{IsMachine};
+ghost use Rattle.l4_first.specs.First as first;
 ghost use Rattle.l4_first.specs.First.{instruction_deletes, is_delete, may_ask, tag_asks};
 ghost use Rattle.l4_persistent.specs.Inner.Posts.{Aim, aims_of, has_aim, is_at, is_deletable};
-ghost use Rattle.l4_persistent.specs.Inner.Posts.{may_propagate, names};
-ghost use Rattle.l4_script.specs.Inner.Scripts.{instr_of, to_of};
+ghost use Rattle.l4_persistent.specs.Inner.Posts.{may_name, may_propagate, names};
+ghost use Rattle.l4_script.specs.Inner.Scripts.{id_from_of, instr_of};
 ghost use Rattle.l4_types.specs.StepView.{order_kind_of};
 ghost use Rattle.l4_sets.specs.Inner.Sets.{has};
 ghost use Rattle.l4_sets.specs.Inner.Aimed.{aimed_at, is_aimed, is_aimed_behind, AreAimed, IsBelow};
-ghost use Rattle.l4_sets.specs.Inner.Aimed.{IsSettledAt, is_sent_to};
+ghost use Rattle.l4_sets.specs.Inner.Aimed.{IsSettledAt};
 
 use crate::processors::Processors;
-use l4_script::instructions::{Instr, To};
+use l4_script::instructions::{IdFrom, Instr};
 use l4_script::machine::Machine;
 use l4_thread::sends::is_id_of;
 use l4_types::errors::NoMemory;
@@ -200,30 +201,33 @@ pub(crate) fn named_home(machine: &Machine, id: ThreadId) -> Processors
 
 // Whom an instruction itself sends or gives an order to.
 fn own_aim(machine: &Machine, instr: &Instr) -> Aimed
-    ensures { (aim : Aim) → is_aimed result aim ≡ has_aim machine.now (instr_of instr.now) aim }
+    ensures { (aim : Aim) → IsBelow aim →
+        is_aimed result aim ≡ has_aim machine.now (instr_of instr.now) aim }
 {
     match *instr {
-        Instr::Ipc(ipc) => sent_to(machine, ipc.to()),
-        Instr::Order(target, _) => Aimed {
-            at: named_home(machine, target),
-            at_last: false,
-        },
+        Instr::Ipc(ipc) => aim_of(machine, ipc.to()),
+        Instr::Order(target, _) => aim_of(machine, target),
         _ => Aimed::nobody(),
     }
 }
 
-// Whom a send goes to.
-fn sent_to(machine: &Machine, to: To) -> Aimed
-    ensures { (aim : Aim) → is_aimed result aim ≡ is_sent_to machine.now (to_of to) aim }
+// Whom an instruction may name: by a register it may be any thread.
+fn aim_of(machine: &Machine, from: IdFrom) -> Aimed
+    ensures { (aim : Aim) → IsBelow aim →
+        is_aimed result aim ≡ may_name machine.now (id_from_of from) aim }
 {
-    match to {
-        To::Id(id) => Aimed {
+    match from {
+        IdFrom::Fixed(id) => Aimed {
             at: named_home(machine, id),
             at_last: false,
         },
-        To::Last => Aimed {
+        IdFrom::Last => Aimed {
             at: Processors::none(),
             at_last: true,
+        },
+        IdFrom::InRegister(_) | IdFrom::InShortRegister(_) => Aimed {
+            at: Processors::from(0),
+            at_last: false,
         },
     }
 }
@@ -247,7 +251,12 @@ fn aims_behind(aims: &[Aimed], instr: &Instr, place: usize) -> Aimed
 {
     match *instr {
         Instr::Jump(target) => aimed_at(aims, target as usize),
-        Instr::OnErr(target) => { aimed_at(aims, place + 1).union(aimed_at(aims, target as usize)) }
+        Instr::OnErr(target)
+        | Instr::OnLabel(_, target)
+        | Instr::OnWord(_, _, target)
+        | Instr::OnFrom(_, target) => {
+            aimed_at(aims, place + 1).union(aimed_at(aims, target as usize))
+        }
         Instr::End => aimed_at(aims, place),
         _ => aimed_at(aims, place + 1),
     }
@@ -258,7 +267,8 @@ fn aim_due(machine: &Machine, script: &[Instr], aims: &[Aimed], place: usize) ->
     requires place { place < length script.now }
     requires limit { length script.now ≤ most_instructions }
     requires each { length aims.now ≡ length script.now }
-    ensures own { (i : ModelInstr) (aim : Aim) → slice_get (map instr_of script.now) place ≡ Some i →
+    ensures own { (i : ModelInstr) (aim : Aim) → IsBelow aim →
+        slice_get (map instr_of script.now) place ≡ Some i →
         has_aim machine.now i aim ≡ true → is_aimed result aim ≡ true }
     ensures behind { (i : ModelInstr) (aim : Aim) →
         slice_get (map instr_of script.now) place ≡ Some i →
@@ -331,11 +341,21 @@ fn is_delete(what: OrderKind) -> bool
     }
 }
 
+// Whether an instruction may name the thread: `last` and a register may have any id.
+fn may_be(id: GlobalId, from: IdFrom) -> bool
+    ensures { result ≡ first.may_name id (id_from_of from) }
+{
+    match from {
+        IdFrom::Fixed(named) => is_id_of(named, id),
+        IdFrom::Last | IdFrom::InRegister(_) | IdFrom::InShortRegister(_) => true,
+    }
+}
+
 fn deletes(id: GlobalId, instr: &Instr) -> bool
     ensures { result ≡ instruction_deletes id (instr_of instr.now) }
 {
     match *instr {
-        Instr::Order(target, what) => is_id_of(target, id) && is_delete(what),
+        Instr::Order(target, what) => may_be(id, target) && is_delete(what),
         _ => false,
     }
 }

@@ -1,5 +1,5 @@
--- Of the states that a search has found, those at rest are all endings.
-use Rattle.std.proofs.Common.{◌≡◌, ℕ, zero, suc, ◌+◌, ◌<◌, ◌≤◌, Bool, true, false, cond, inr, Option, Some, None, List, [], ◌∷◌, length, map, refl, ap, sym, subst, ◌∙◌, arith}
+-- Endings: replays of found schedules, and facts of those at rest by facts of all that was found.
+use Rattle.std.proofs.Common.{◌≡◌, ℕ, zero, suc, ◌+◌, ◌<◌, ◌≤◌, Bool, true, false, cond, Option, Some, None, List, [], ◌∷◌, length, map, refl, ap, ◌∙◌, arith}
 use Rattle.std.specs.Prelude.{filter, slice_index_or}
 use Rattle.std.specs.Option.{option_map}
 use Rattle.std.specs.List.{AllByRecursion}
@@ -7,15 +7,12 @@ use Rattle.std.proofs.lemmas.List.{length-append, length-map}
 use Rattle.l4_model.specs.Machine.{Machine}
 use Rattle.l4_model.specs.Conditions.{◌>>=◌}
 use Rattle.l4_model.proofs.Chains.{some_is, bind_then}
-use Rattle.l4_core_model.specs.Runs.{System, Action, Happened, happens, Run, opening_run, then_event, at_rest}
+use Rattle.l4_core_model.specs.Runs.{System, Action, Happened, happens, Run, then_event}
 use Rattle.l4_core_model.specs.Schedules.{or_stays, Entry, entry_event, replays}
 use Rattle.l4_bisimilar.specs.Shifted.{IsShifted}
 use Rattle.l4_explore.specs.Search.{Seen, seen_at, unseen}
-use Rattle.l4_explore.proofs.Orders.{not_after_length}
-use Rattle.l4_states.specs.Choices.{after_choices, after_entry, choice, IsLeastRun}
-use Rattle.l4_states.specs.Endings.{AreAllEndings, AreApart, AreEndings, ends_of, entries_of, IsAmong, IsEnding, led}
-use Rattle.l4_states.specs.Listed.{AreAllListed, IsListed, LeadsSoon}
-use Rattle.l4_states.proofs.Following.{at_rest_similar}
+use Rattle.l4_states.specs.Choices.{after_choices, after_entry, choice}
+use Rattle.l4_states.specs.Endings.{AreApart, ends_of, entries_of, IsAmong, led}
 
 -- A replay of choices leads where they do, by an event for each.
 pub record IsReplayed (m : Machine) (r : Run) (g : System) (s : List ℕ) : Type 0 where
@@ -52,7 +49,7 @@ replayed m (e ∷ s) r g h =
         }
 
 -- A fact of all elements of a list, by their places
-all_places : {A : Type 0} (P : A → Type 0) (d : A) (xs : List A) →
+pub all_places : {A : Type 0} (P : A → Type 0) (d : A) (xs : List A) →
     ((i : ℕ) → i < length xs → P (slice_index_or xs i d)) → AllByRecursion P xs
 all_places P d [] h = tt
 all_places P d (x ∷ xs) h =
@@ -60,7 +57,7 @@ all_places P d (x ∷ xs) h =
 
 module _ (m : Machine) where
   -- What is so of each end is so of its entries.
-  all_ends : (P : List Entry → Type 0) (found : List Seen) →
+  pub all_ends : (P : List Entry → Type 0) (found : List Seen) →
       AllByRecursion (λ s. s.state.is_end ≡ true → P (entries_of m s.schedule)) found →
       AllByRecursion P (map (entries_of m) (ends_of found))
   all_ends P [] h = tt
@@ -74,7 +71,7 @@ module _ (m : Machine) where
       by false is rest = rest
 
   -- An end that was found is among them.
-  among : (found : List Seen) (g : System) (i : ℕ) → i < length found →
+  pub among : (found : List Seen) (g : System) (i : ℕ) → i < length found →
       (seen_at found i).state.is_end ≡ true →
       IsShifted (led m (entries_of m (seen_at found i).schedule)) g →
       IsAmong m (map (entries_of m) (ends_of found)) g
@@ -100,12 +97,12 @@ module _ (m : Machine) where
       by false a = a
 
   -- States that were found, by their schedules
-  abbrev AreUnlike : Seen → Seen → Type 0
+  abbrev pub AreUnlike : Seen → Seen → Type 0
   AreUnlike x y =
       (IsShifted (led m (entries_of m x.schedule)) (led m (entries_of m y.schedule)) → ⊥)
       × (length x.schedule ≤ length y.schedule)
 
-  all_unlike : (found : List Seen) →
+  pub all_unlike : (found : List Seen) →
       ((i j : ℕ) → i < j → j < length found → AreUnlike (seen_at found i) (seen_at found j)) →
       AreApart m (map (entries_of m) (ends_of found))
   all_unlike [] h = tt
@@ -137,70 +134,3 @@ module _ (m : Machine) where
           (cond b (x ∷ filter (λ s. s.state.is_end) xs) (filter (λ s. s.state.is_end) xs))))
       by true rest = (all, rest)
       by false rest = rest
-
-  -- Where a found schedule leads
-  led_is : (s : Seen) (l : LeadsSoon m s) → led m (entries_of m s.schedule) ≡ l.system
-  led_is s l = let r = replayed m s.schedule (opening_run m) l.system l.leads in r.system
-
-  is_ending : (s : Seen) → LeadsSoon m s → s.state.is_end ≡ true →
-      IsEnding m (entries_of m s.schedule)
-  is_ending s l is =
-      let r = replayed m s.schedule (opening_run m) l.system l.leads in
-      let long = length-map s.schedule (choice m) in
-      record {
-        run = subst (λ (n : ℕ). IsLeastRun m n (led m (entries_of m s.schedule))) (sym long)
-            (subst (IsLeastRun m (length s.schedule)) (sym r.system) l.run);
-        events = omega (arith, r.count, long);
-        rest = ap (at_rest m) r.system ∙ sym l.is_end ∙ is;
-        shortest = λ g events run similar.
-            omega (
-              arith,
-              long,
-              l.shortest g events run (subst (λ (k : System). IsShifted k g) r.system similar),
-            );
-      }
-
-  module _ (found : List Seen) (depth : ℕ) (is_whole : Bool)
-      (a : AreAllListed m found depth is_whole) where
-    listed_among : (g : System) (events : ℕ) → at_rest m g ≡ true → IsListed m found g events →
-        IsAmong m (map (entries_of m) (ends_of found)) g
-    listed_among g events rest l =
-        let s = a.sound l.place l.inside in
-        let same = some_is l.system s.system (sym l.leads ∙ s.leads) in
-        let similar = subst (λ (k : System). IsShifted k g) same l.similar in
-        among found g l.place l.inside
-        (s.is_end ∙ at_rest_similar m s.system g similar ∙ rest)
-        (subst (λ (k : System). IsShifted k g) (sym (led_is (seen_at found l.place) s)) similar)
-
-    unlike : (i j : ℕ) → i < j → j < length found →
-        AreUnlike (seen_at found i) (seen_at found j)
-    unlike i j less inside =
-        let below : i < length found = omega (arith, less, inside) in
-        let x = a.sound i below in
-        let y = a.sound j inside in (
-          λ similar.
-              let same = a.once i j x.system y.system below inside x.leads y.leads
-              (subst (λ (k : System). IsShifted k y.system) (led_is (seen_at found i) x)
-              (subst (IsShifted (led m (entries_of m (seen_at found i).schedule)))
-              (led_is (seen_at found j) y) similar)) in
-              omega (arith, less, same),
-          not_after_length (seen_at found i).schedule (seen_at found j).schedule
-              (inr (a.rising i j less inside)),
-        )
-
-    of_found : AreAllEndings m (map (entries_of m) (ends_of found)) depth is_whole
-    of_found = record {
-      sound = all_ends (IsEnding m) found
-          (all_places (λ s. s.state.is_end ≡ true → IsEnding m (entries_of m s.schedule)) unseen
-          found (λ i l. is_ending (seen_at found i) (a.sound i l)));
-      complete = λ g events r rest short. listed_among g events rest (a.complete g events r short);
-      whole = λ w g events r rest. listed_among g events rest (a.whole w g events r);
-      apart = all_unlike found unlike;
-    }
-
-pub all_endings : (m : Machine) (endings : List (List Entry)) (states asked most depth : ℕ)
-    (is_whole : Bool) → AreEndings m endings states asked most depth is_whole →
-    AreAllEndings m endings depth is_whole
-all_endings m endings states asked most depth is_whole e =
-    subst (λ (es : List (List Entry)). AreAllEndings m es depth is_whole) (sym e.endings_are)
-    (of_found m e.found depth is_whole e.all)

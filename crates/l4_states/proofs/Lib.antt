@@ -5,7 +5,6 @@ mod Systems
 pub mod Following
 pub mod Early
 pub mod Chosen
-pub mod Found
 pub mod Endings
 pub mod Remembered
 pub mod Places

@@ -4,7 +4,7 @@ use Rattle.std.specs.Prelude.{◌/◌, ◌%◌, ◌^◌, ◌==◌, ◌&&◌, if�
 use Rattle.l4_model.specs.Words.{Period, GlobalId, Id, NilThread, AnyThread, AnyLocalThread, LocalThread, GlobalThread}
 use Rattle.l4_model.specs.Machine.{Machine, same_space, Instr, Run, Ipc, Ask, End}
 use Rattle.l4_model.specs.World.{Context, Message, Receive, Thread, Sending}
-use Rattle.l4_model.specs.Rules.{register, permitted, originator, message_of, destination, receive_phase, ipc_act, act, request, Sends}
+use Rattle.l4_model.specs.Rules.{register, permitted, originator, message_of, id_from, receive_phase, ipc_act, act, request, Sends}
 use Rattle.l4_types.specs.Ids.{global_of}
 use Rattle.l4_thread.specs.Inner.Held.{Held, sent_of}
 use Rattle.l4_thread.specs.Inner.Ipcs.{IsPermission, may_show, starts}
@@ -103,7 +103,7 @@ pub sends_phase : (m : Machine) (sender : GlobalId) (now : ℕ) (c : Context) (i
     act m sender now c instr ≡ Sends (record { to = s.0; message = s.1; period = s.2; since = now; receive = (phases_of (may_show m sender c.actual) sender c instr).receive })
 sends_phase m sender now c (Run own) s h = cc
 sends_phase m sender now c (Ipc to from send_period receive_period) s h =
-    sends_to m sender now c _ (message_is m sender c) (destination c to) send_period (receive_phase from receive_period) s h
+    sends_to m sender now c _ (message_is m sender c) (id_from c to) send_period (receive_phase (id_from c from) receive_period) s h
 sends_phase m sender now c (Ask target what) s h = cc
 sends_phase m sender now c End s h = cc
 

@@ -1,15 +1,16 @@
 //! The part of a thread that its own instructions read and write.
-ghost use Rattle.std.specs.Prelude.{◌≡◌, ◌<◌, ◌^◌, ◌+◌, ◌%◌, IfSome, false, true, take, drop};
-ghost use Rattle.std.specs.Prelude.{length, List, [], ℕ, slice_set};
+ghost use Rattle.std.specs.Prelude.{◌≡◌, ◌<◌, ◌^◌, ◌+◌, ◌%◌, ◌==◌, IfSome, false, true, take, drop};
+ghost use Rattle.std.specs.Prelude.{length, List, [], ℕ, slice_set, unwrap_or};
 ghost use Rattle.std.specs.Option.{option_map};
+ghost use Rattle.l4_model.specs.Words.{NilThread, id_in, is_same, word_in, tag_of_word};
 ghost use Rattle.l4_model.specs.Words.{word_of_tag, word_limit, register_count};
 ghost use Rattle.l4_model.specs.World.{opening_context};
 ghost use Rattle.l4_model.specs.Rules.{failed, sent, received, ordered, advanced, ran, register};
-ghost use Rattle.l4_model.specs.Rules.{destination, receive_phase};
+ghost use Rattle.l4_model.specs.Rules.{id_from, place_if, receive_phase};
 ghost use Rattle.l4_types.specs.Inner.Codes.{code_of};
 ghost use Rattle.l4_types.specs.Inner.FormatView.{format_of};
 ghost use Rattle.l4_types.specs.Inner.PeriodView.{period_of, IsTimely};
-ghost use Rattle.l4_script.specs.Inner.Scripts.{instr_of, ipc_of, to_of};
+ghost use Rattle.l4_script.specs.Inner.Scripts.{id_from_of, instr_of, ipc_of};
 ghost use Rattle.l4_thread.specs.Inner.Held.{message_of};
 ghost use Rattle.l4_thread.specs.Inner.Messages.{unlabelled};
 ghost use Rattle.l4_thread.specs.Inner.Requests.{originator_if, message_if, propagates, phases_of};
@@ -19,7 +20,7 @@ ghost use Rattle.l4_thread.specs.Inner.Requests.{asks_to_send, is_end};
 
 use crate::requests::{Begun, Request};
 use crate::sends::{Head, Words};
-use l4_script::instructions::{Instr, Ipc, Register, To};
+use l4_script::instructions::{IdFrom, Instr, Ipc, Register, Source};
 use l4_types::errors::IpcError;
 use l4_types::formats::Format;
 use l4_types::ids::{GlobalId, ThreadId};
@@ -170,6 +171,37 @@ impl Thread {
         self.set(to, sum);
     }
 
+    // Whether the tag in message register 0 has this label.
+    fn has_label(&self, label: u64) -> bool
+        ensures { result ≡ ((tag_of_word (register self.now.context 0)).label == label) }
+    {
+        MsgTag::label_in(self.regs.words[0]) == label
+    }
+
+    // Whether the register `from` has this id.
+    fn is_from(&self, id: ThreadId) -> bool
+        ensures { result ≡ is_same self.now.context.from id }
+    {
+        self.regs.from.raw() == id.raw()
+    }
+
+    // Goes on at a place of the script where a test holds, else at the next instruction. The script
+    // does not end with it.
+    fn branch(&mut self, holds: bool, place: u64) -> bool
+        requires { self.old.context.place + 1 < 2 ^ 64 }
+        ensures context { self.new ≡ record self.old {
+          context = record self.old.context { place = place_if self.old.context place holds };
+        } }
+        ensures ends { result ≡ false }
+    {
+        if holds {
+            self.jump(place);
+        } else {
+            self.advance();
+        }
+        false
+    }
+
     // Goes on at a place of the script.
     fn jump(&mut self, place: u64)
         ensures { self.new ≡ record self.old {
@@ -195,7 +227,7 @@ impl Thread {
             Instr::Add(register, word) => self.add(Format::W64, *register, *word),
             Instr::ShortAdd(register, word) => self.add(Format::W32, *register, *word),
             Instr::Tag(tag) => self.regs.words[0] = tag.raw(),
-            Instr::Vs(id) => self.regs.actual = *id,
+            Instr::Vs(from) => self.regs.actual = self.id_from(*from),
             Instr::Ipc(_) => self.sent(),
             Instr::Order(_, _) => self.regs.error = 2,
             Instr::Jump(place) => {
@@ -207,6 +239,13 @@ impl Thread {
                 return false;
             }
             Instr::OnErr(_) => {}
+            Instr::From(register) => self.set(*register, self.word_from(Format::W64)),
+            Instr::ShortFrom(register) => self.set(*register, self.word_from(Format::W32)),
+            Instr::OnLabel(label, place) => return self.branch(self.has_label(*label), *place),
+            Instr::OnWord(source, word, place) => {
+                return self.branch(self.register(source.number()) == *word, *place);
+            }
+            Instr::OnFrom(id, place) => return self.branch(self.is_from(*id), *place),
             Instr::End => return true,
         }
         self.advance();
@@ -342,8 +381,8 @@ impl Thread {
               self.old.context;
         } }
     {
-        let to = self.destination(ipc.to());
-        let receive = receive_phase(ipc);
+        let to = self.id_from(ipc.to());
+        let receive = self.receive_phase(ipc);
         if to == ThreadId::NIL {
             if receive.is_some() {
                 self.advance();
@@ -371,13 +410,47 @@ impl Thread {
         self.begun += 1;
     }
 
-    /// The destination of an Ipc.
-    pub fn destination(&self, to: To) -> ThreadId
-        ensures { result ≡ destination self.now.context (to_of to) }
+    /// The id that an instruction names, as the registers are now.
+    #[inline(always)]
+    pub fn id_from(&self, from: IdFrom) -> ThreadId
+        ensures { result ≡ id_from self.now.context (id_from_of from) }
     {
-        match to {
-            To::Id(id) => id,
-            To::Last => self.regs.from,
+        match from {
+            IdFrom::Fixed(id) => id,
+            IdFrom::Last => self.regs.from,
+            IdFrom::InRegister(source) => self.id_in(Format::W64, source),
+            IdFrom::InShortRegister(source) => self.id_in(Format::W32, source),
+        }
+    }
+
+    // The id whose word a message register has, nilthread where it is no word of the format.
+    #[inline(never)]
+    fn id_in(&self, format: Format, source: Source) -> ThreadId
+        ensures { result ≡ unwrap_or
+            (id_in (format_of format) (register self.now.context source)) NilThread }
+    {
+        ThreadId::from_raw_in(format, self.register(source.number())).unwrap_or(ThreadId::NIL)
+    }
+
+    // The word of the id that the register `from` has, 0 where the format has none.
+    #[inline(never)]
+    fn word_from(&self, format: Format) -> u64
+        ensures { result ≡ unwrap_or (word_in (format_of format) self.now.context.from) 0 }
+    {
+        self.regs.from.raw_in(format).unwrap_or(0)
+    }
+
+    /// The receive phase of an Ipc that begins now, unless its specifier is nilthread.
+    pub(crate) fn receive_phase(&self, ipc: &Ipc) -> Option<(ThreadId, Period)>
+        ensures value { option_map receive_from result ≡ receive_phase
+            (id_from self.now.context (id_from_of ipc.now.from)) (period_of ipc.now.receive_period) }
+        ensures timely { IfSome result (λ r. IsTimely r.1) }
+    {
+        let from = self.id_from(ipc.from());
+        if from == ThreadId::NIL {
+            None
+        } else {
+            Some((from, ipc.receive_period()))
         }
     }
 
@@ -446,18 +519,5 @@ impl Thread {
             originator.unwrap_or(self.id),
             self.id,
         )
-    }
-}
-
-/// The receive phase of an Ipc, unless its specifier is nilthread.
-pub(crate) fn receive_phase(ipc: &Ipc) -> Option<(ThreadId, Period)>
-    ensures value { option_map receive_from result ≡
-        receive_phase ipc.now.from (period_of ipc.now.receive_period) }
-    ensures timely { IfSome result (λ r. IsTimely r.1) }
-{
-    if ipc.from() == ThreadId::NIL {
-        None
-    } else {
-        Some((ipc.from(), ipc.receive_period()))
     }
 }

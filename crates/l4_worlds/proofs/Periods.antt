@@ -6,7 +6,7 @@ use Rattle.std.specs.List.{AllByRecursion}
 use Rattle.l4_model.specs.Words.{GlobalId, Id, NilThread, AnyThread, AnyLocalThread, LocalThread, GlobalThread, Period, is_id_of}
 use Rattle.l4_model.specs.Machine.{Machine, Declaration, OrderKind, CancelSend, CancelReceive, CancelBoth, Delete, Instr, Run, Ipc, Ask, End, instruction_at}
 use Rattle.l4_model.specs.World.{World, Thread, Context, Send, Receive, Owed, Phase, Ready, Sending, Receiving, Ordering, Ended, Deleted, Name, changed, opening, opening_thread, is_alive}
-use Rattle.l4_model.specs.Rules.{receive_code, send_code, Act, RunsAlone, Sends, Receives, Orders, act, ipc_act, ask_act, is_admitted, destination, receive_phase}
+use Rattle.l4_model.specs.Rules.{receive_code, send_code, Act, RunsAlone, Sends, Receives, Orders, act, ipc_act, ask_act, is_admitted, id_from, receive_phase}
 use Rattle.l4_model.specs.Effects.{runs, begins, waits, fails, decided, refused, receives, goes_on, delivered, asked, orders, obeyed, turned_receive, turns, turns_in}
 use Rattle.l4_model.specs.Conditions.{Found, found, Pending, undecided, instruction, act_of}
 use Rattle.l4_model.specs.Steps.{Step, Deliver, Order, Tick, send_of, receive_of, next, OfThread, OfSend, Runs, Waits, Fails, Obeys, Begun, Queued, Failed, Dropped, Retargeted}
@@ -73,8 +73,8 @@ ask_short m id (GlobalThread t) what = by (is_admitted m id t what)
 
 act_short : (m : Machine) (id : GlobalId) (now : ℕ) (c : Context) (i : Instr) → IsShortIn i → ActShort (act m id now c i)
 act_short m id now c (Run own) h = tt
-act_short m id now c (Ipc to from send_period receive_period) h = ipc_short m id now c (destination c to) send_period (receive_phase from receive_period) h.0 (phase_short from receive_period h.1)
-act_short m id now c (Ask target what) h = ask_short m id target what
+act_short m id now c (Ipc to from send_period receive_period) h = ipc_short m id now c (id_from c to) send_period (receive_phase (id_from c from) receive_period) h.0 (phase_short (id_from c from) receive_period h.1)
+act_short m id now c (Ask target what) h = ask_short m id (id_from c target) what
 act_short m id now c End h = tt
 
 declared_short : (ds : List Declaration) (i : ℕ) (d : Declaration) → AllByRecursion (λ (x : Declaration). AllByRecursion IsShortIn x.script) ds → slice_get ds i ≡ Some d → AllByRecursion IsShortIn d.script

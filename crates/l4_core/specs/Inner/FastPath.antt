@@ -4,7 +4,7 @@ use Rattle.std.specs.Prelude.{ℕ, ◌+◌, Bool, false, not, ◌&&◌, Option, 
 use Rattle.l4_model.specs.Words.{Id}
 use Rattle.l4_model.specs.Machine.{Machine, Instr, Ipc}
 use Rattle.l4_model.specs.World.{Context, Message, Name, Receive, receive_now}
-use Rattle.l4_model.specs.Rules.{accepts, destination}
+use Rattle.l4_model.specs.Rules.{accepts, id_from}
 use Rattle.l4_model.specs.Conditions.{◌>>=◌, ◌>>◌}
 use Rattle.l4_model.specs.Effects.{receives}
 use Rattle.l4_model.specs.Steps.{Begin, Queue, Deliver}
@@ -16,7 +16,7 @@ use Rattle.l4_thread.specs.Inner.Requests.{propagates}
 
 -- The place of the thread that an Ipc sends to.
 abbrev pub partner_of : Machine → Context → Instr → Option ℕ
-partner_of m c (Ipc to from send_period receive_period) = destination_place m (destination c to)
+partner_of m c (Ipc to from send_period receive_period) = destination_place m (id_from c to)
 partner_of m c _ = None
 
 -- A thread waits, and accepts an ordinary message of another one before those that wait at it.

@@ -1,8 +1,8 @@
 //! The fast path: a send that its receiver takes at once.
 ghost use Rattle.std.specs.Prelude.{◌≡◌, ◌<◌, ◌+◌, IfSome, false, length};
 ghost use Rattle.l4_model.specs.World.{receive_now};
-ghost use Rattle.l4_model.specs.Rules.{destination};
-ghost use Rattle.l4_script.specs.Inner.Scripts.{to_of};
+ghost use Rattle.l4_model.specs.Rules.{id_from};
+ghost use Rattle.l4_script.specs.Inner.Scripts.{id_from_of};
 ghost use Rattle.l4_core_model.specs.Local.{declared, destination_place, thread};
 ghost use Rattle.l4_thread.specs.Inner.Messages.{outgoing};
 ghost use Rattle.l4_core.specs.Inner.FastPath.{fast_receiver, next_name, takes_at_once};
@@ -18,10 +18,10 @@ impl ProcessorState<'_> {
     pub(crate) fn partner(&self, place: usize, ipc: &Ipc) -> Option<usize>
         requires { place < length self.now.machine.threads }
         ensures value { result ≡ destination_place self.now.machine
-            (destination (thread self.now.local place).context (to_of ipc.now.to)) }
+            (id_from (thread self.now.local place).context (id_from_of ipc.now.to)) }
         ensures within { IfSome result (λ partner. partner < length self.now.machine.threads) }
     {
-        let to = self.tcb(place).thread().destination(ipc.to());
+        let to = self.named(place, ipc.to());
         self.place_of(to.as_global()?)
     }
 
@@ -36,10 +36,10 @@ impl ProcessorState<'_> {
     ) -> Option<usize>
         requires place { place < length self.now.machine.threads }
         requires partner { partner ≡ destination_place self.now.machine
-            (destination (thread self.now.local place).context (to_of ipc.now.to)) }
+            (id_from (thread self.now.local place).context (id_from_of ipc.now.to)) }
         requires within { IfSome partner (λ receiver. receiver < length self.now.machine.threads) }
         ensures value { result ≡ fast_receiver self.now.machine self.now.cpu self.now.local place
-            (destination (thread self.now.local place).context (to_of ipc.now.to)) }
+            (id_from (thread self.now.local place).context (id_from_of ipc.now.to)) }
         ensures own { IfSome result (λ receiver. IsOwnOf self.now receiver) }
     {
         let _ = ipc;

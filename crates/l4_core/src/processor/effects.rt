@@ -7,11 +7,11 @@ ghost use Rattle.l4_model.specs.Words.{word_of_tag};
 ghost use Rattle.l4_model.specs.Machine.{Delete as DeleteThread};
 ghost use Rattle.l4_model.specs.Conditions.{act_of, instruction};
 ghost use Rattle.l4_model.specs.Effects.{receives, runs, turns};
-ghost use Rattle.l4_model.specs.Rules.{receive_phase};
+ghost use Rattle.l4_model.specs.Rules.{id_from, receive_phase};
 ghost use Rattle.l4_types.specs.Inner.OwedView.{owed_of};
 ghost use Rattle.l4_types.specs.Inner.PeriodView.{period_of};
 ghost use Rattle.l4_types.specs.StepView.{order_kind_of};
-ghost use Rattle.l4_script.specs.Inner.Scripts.{instr_of};
+ghost use Rattle.l4_script.specs.Inner.Scripts.{id_from_of, instr_of};
 ghost use Rattle.l4_thread.specs.Inner.Changes.{change_of};
 ghost use Rattle.l4_thread.specs.Inner.Requests.{is_end};
 ghost use Rattle.l4_thread.specs.Inner.Ipcs.{began_of, passes};
@@ -118,7 +118,8 @@ impl Core<'_> {
         requires room { (thread self.old.local place).context.place + 1 < 2 ^ 64 }
         requires count { (thread self.old.local place).context.begun < self.old.local.stamp }
         ensures { self.new ≡ with_local self.old (comes_to place
-            (passes (receive_phase ipc.now.from
+            (passes (receive_phase
+            (id_from (thread self.old.local place).context (id_from_of ipc.now.from))
             (period_of ipc.now.receive_period)) self.old.local.clock) self.old.local) }
     {
         let known = &mut self.known;

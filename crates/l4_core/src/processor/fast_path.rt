@@ -2,8 +2,8 @@
 ghost use Rattle.std.specs.Prelude.{◌≡◌, ◌<◌, ◌≤◌, Some};
 ghost use Rattle.l4_model.specs.Machine.{most_instructions};
 ghost use Rattle.l4_model.specs.Conditions.{act_of, instruction};
-ghost use Rattle.l4_model.specs.Rules.{destination};
-ghost use Rattle.l4_script.specs.Inner.Scripts.{ipc_of, to_of};
+ghost use Rattle.l4_model.specs.Rules.{id_from};
+ghost use Rattle.l4_script.specs.Inner.Scripts.{id_from_of, ipc_of};
 ghost use Rattle.l4_core_model.specs.Local.{thread, held};
 ghost use Rattle.l4_core_model.specs.Acts.{acts};
 ghost use Rattle.l4_core.specs.Inner.FastPath.{fast_receiver};
@@ -32,7 +32,7 @@ impl Core<'_> {
         requires within { (thread self.old.local sender).context.place < most_instructions }
         requires count { (thread self.old.local sender).context.begun < self.old.local.stamp }
         requires fast { fast_receiver self.old.machine self.old.cpu self.old.local sender
-            (destination (thread self.old.local sender).context (to_of ipc.now.to)) ≡
+            (id_from (thread self.old.local sender).context (id_from_of ipc.now.to)) ≡
             Some receiver }
         requires room { 3 ≤ buffer.old.room }
         ensures { Does (acts self.old.machine self.old.cpu sender

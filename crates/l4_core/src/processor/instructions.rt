@@ -7,7 +7,7 @@ ghost use Rattle.std.specs.Option.{option_map};
 ghost use Rattle.l4_core_model.specs.Letters.{cause_of};
 ghost use Rattle.l4_types.specs.Inner.LetterView.{cause_of_withdrawal};
 ghost use Rattle.l4_types.specs.StepView.{order_kind_of};
-ghost use Rattle.l4_script.specs.Inner.Scripts.{instr_of};
+ghost use Rattle.l4_script.specs.Inner.Scripts.{id_from_of, instr_of};
 ghost use Rattle.l4_core_model.specs.Local.{declared, thread, held};
 ghost use Rattle.l4_core_model.specs.Acts.{acts, gives_order, obeys, order_goes_to, runs_alone_at};
 ghost use Rattle.l4_thread.specs.Inner.Requests.{is_end};
@@ -18,11 +18,11 @@ ghost use Rattle.l4_core.specs.Inner.Turning.{Does, IsAtHand, IsOwnOf};
 use crate::event_buffer::EventBuffer;
 use crate::processor::Core;
 use l4_history::sink::Sink;
-use l4_script::instructions::Instr;
+use l4_script::instructions::{IdFrom, Instr};
 use l4_thread::changes::Change;
 use l4_thread::orders::PendingOrder;
 use l4_thread::phases::Began;
-use l4_types::ids::{GlobalId, ThreadId};
+use l4_types::ids::GlobalId;
 use l4_types::letters::{Cause, Content};
 use l4_types::step_ref::StepRef;
 use l4_types::steps::OrderKind;
@@ -148,14 +148,14 @@ impl Core<'_> {
         &mut self,
         place: usize,
         instr: &Instr,
-        target: ThreadId,
+        target: IdFrom,
         what: OrderKind,
         buffer: &mut EventBuffer<S>,
     )
         requires hand { IsAtHand self.old place }
         requires instr { instr_of instr.now ≡
             instruction (held self.old.machine self.old.local place) }
-        requires ask { instr_of instr.now ≡ Ask target (order_kind_of what) }
+        requires ask { instr_of instr.now ≡ Ask (id_from_of target) (order_kind_of what) }
         requires within { is_end (instr_of instr.now) ≡ false →
             (thread self.old.local place).context.place < most_instructions }
         requires room { 3 ≤ buffer.old.room }
@@ -164,6 +164,7 @@ impl Core<'_> {
             (act_of self.old.machine
             (held self.old.machine self.old.local place))) self.old self.new buffer.old buffer.new }
     {
+        let target = self.known.named(place, target);
         match self.known.admitted(place, target, what) {
             Some(target) => self.give(place, target, what, buffer),
             None => self.run(place, instr, buffer),

@@ -3,7 +3,7 @@ use Rattle.std.specs.Prelude.{◌≡◌, ◌&&◌, not, Bool, true, false, Optio
 use Rattle.std.specs.List.{list_any}
 use Rattle.std.specs.Option.{option_map}
 use Rattle.l4_model.specs.Words.{GlobalId, Id}
-use Rattle.l4_model.specs.Machine.{Own, Assign, AssignTag, AssignVs, GoTo, GoToOnErr, Instr, Run, Ipc, Ask, End, Declaration, Machine}
+use Rattle.l4_model.specs.Machine.{Own, Assign, AssignTag, AssignVs, GoTo, GoToOnErr, GoToOnLabel, GoToOnWord, GoToOnFrom, Instr, Run, Ipc, Ask, End, Declaration, Machine}
 use Rattle.l4_model.specs.World.{Thread, World}
 use Rattle.l4_model.specs.Conditions.{Found, found, instruction}
 use Rattle.l4_model.specs.Steps.{Step, Local, Begin, Wait, Order}
@@ -54,9 +54,12 @@ IsReadBy m reads condition =
 abbrev pub own_written : Own → List Part
 own_written (Assign a value) = InRegisters ∷ []
 own_written (AssignTag word) = InRegisters ∷ []
-own_written (AssignVs id) = InSenders ∷ []
+own_written (AssignVs from) = InSenders ∷ []
 own_written (GoTo place) = []
 own_written (GoToOnErr place) = []
+own_written (GoToOnLabel label place) = []
+own_written (GoToOnWord a word place) = []
+own_written (GoToOnFrom id place) = []
 
 abbrev pub written : Instr → List Part
 written (Run own) = own_written own

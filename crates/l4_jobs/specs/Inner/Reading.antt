@@ -1,7 +1,7 @@
 -- What is read of a machine text.
 use Rattle.std.specs.Prelude.{◌≡◌, ℕ, Ok, List}
 use Rattle.l4_model.specs.Machine.{Machine}
-use Rattle.l4_script.specs.Texts.{machine_of_text}
+use Rattle.l4_script.specs.Versions.{machine_of_text}
 use Rattle.l4_lint.specs.Doubts.{doubts_of}
 use Rattle.l4_lint.specs.Excerpts.{fault_shown}
 use Rattle.l4_lint.specs.Faults.{faults_of}

@@ -1,7 +1,7 @@
 -- Worked rows: who is accepted, and in what order.
 use Rattle.std.specs.Prelude.{◌≡◌, Some, None, List, [], ◌∷◌, refl}
 use Rattle.l4_model.specs.Words.{NilThread, AnyThread, AnyLocalThread, period_of}
-use Rattle.l4_model.specs.Machine.{Machine, ToId, Tag, Vs, Ipc, End, machine_of}
+use Rattle.l4_model.specs.Machine.{Machine, Fixed, Tag, Vs, Ipc, End, machine_of}
 use Rattle.l4_model.specs.Steps.{Step, Local, Begin, Queue, Deliver, Wait, SendTimeout, Tick}
 use Rattle.l4_model.specs.History.{refused_place}
 use Rattle.l4_model.proofs.Rows.Writing.{thread, id, send, sends, receives, declared, ends, quiet, spent}
@@ -32,7 +32,7 @@ two_sends_ending = refl
 -- A refused send is in no list when the next one begins.
 abbrev pub refused_then_sent : Machine
 refused_then_sent = machine_of 1 (
-    declared 1 0 1 (Ipc (ToId (id 2)) NilThread (period_of 5) None ∷ sends 2 ∷ [])
+    declared 1 0 1 (Ipc (Fixed (id 2)) (Fixed NilThread) (period_of 5) None ∷ sends 2 ∷ [])
     ∷ declared 2 0 1 (End ∷ []) ∷ [])
 
 abbrev pub refused_then_sent_trace : List Step
@@ -52,7 +52,7 @@ refused_then_sent_ending = refl
 abbrev pub local_senders : Machine
 local_senders = machine_of 1 (
     declared 1 0 1 (sends 2 ∷ [])
-    ∷ declared 2 0 1 (Ipc (ToId NilThread) AnyLocalThread None None ∷ [])
+    ∷ declared 2 0 1 (Ipc (Fixed NilThread) (Fixed AnyLocalThread) None None ∷ [])
     ∷ declared 3 0 2 (sends 2 ∷ []) ∷ [])
 
 abbrev pub local_senders_trace : List Step
@@ -73,8 +73,8 @@ local_senders_ending = refl
 abbrev pub originators_space : Machine
 originators_space = machine_of 1 (
     declared 1 0 1 []
-    ∷ declared 2 0 1 (Vs (id 1) ∷ Tag 0x1000 ∷ sends 3 ∷ [])
-    ∷ declared 3 0 2 (Ipc (ToId NilThread) (id 2) None None ∷ []) ∷ [])
+    ∷ declared 2 0 1 (Vs (Fixed (id 1)) ∷ Tag 0x1000 ∷ sends 3 ∷ [])
+    ∷ declared 3 0 2 (Ipc (Fixed NilThread) (Fixed (id 2)) None None ∷ []) ∷ [])
 
 abbrev pub originators_space_trace : List Step
 originators_space_trace =
@@ -113,7 +113,7 @@ accepted_and_waiting_ending = refl
 
 -- A send to oneself waits for ever.
 abbrev pub to_itself : Machine
-to_itself = machine_of 1 (declared 1 0 1 (Ipc (ToId (id 1)) AnyThread None None ∷ []) ∷ [])
+to_itself = machine_of 1 (declared 1 0 1 (Ipc (Fixed (id 1)) (Fixed AnyThread) None None ∷ []) ∷ [])
 
 abbrev pub to_itself_trace : List Step
 to_itself_trace =

@@ -1,7 +1,7 @@
 -- Worked rows: from when on, and until when.
 use Rattle.std.specs.Prelude.{◌≡◌, Some, None, List, [], ◌∷◌, refl}
 use Rattle.l4_model.specs.Words.{NilThread, AnyThread, period_of}
-use Rattle.l4_model.specs.Machine.{Machine, ToId, Ipc, machine_of}
+use Rattle.l4_model.specs.Machine.{Machine, Fixed, Ipc, machine_of}
 use Rattle.l4_model.specs.Steps.{Step, Local, Begin, Queue, Deliver, Wait, SendTimeout, ReceiveTimeout, Tick}
 use Rattle.l4_model.specs.History.{refused_place}
 use Rattle.l4_model.proofs.Rows.Writing.{thread, id, send, sends, receives, declared, ends, spent}
@@ -65,7 +65,7 @@ receive_at_its_time = refl
 -- The receive phase of a call begins with the delivery, by the caller's clock.
 abbrev pub timed_call : Machine
 timed_call = machine_of 2 (
-    declared 1 0 1 (Ipc (ToId (id 2)) (id 2) None (period_of 5) ∷ [])
+    declared 1 0 1 (Ipc (Fixed (id 2)) (Fixed (id 2)) None (period_of 5) ∷ [])
     ∷ declared 2 1 1 (receives ∷ []) ∷ [])
 
 call_since_its_delivery : refused_place timed_call (
@@ -93,7 +93,7 @@ call_at_its_time = refl
 -- A receive does not time out while a sender waits that it accepts.
 abbrev pub served_in_time : Machine
 served_in_time = machine_of 1 (
-    declared 1 0 1 (Ipc (ToId NilThread) AnyThread None (period_of 3) ∷ [])
+    declared 1 0 1 (Ipc (Fixed NilThread) (Fixed AnyThread) None (period_of 3) ∷ [])
     ∷ declared 2 0 1 (sends 1 ∷ []) ∷ [])
 
 not_while_one_waits : refused_place served_in_time (

@@ -1,7 +1,7 @@
 -- Worked rows: what is left of a deleted thread.
 use Rattle.std.specs.Prelude.{◌≡◌, Some, None, List, [], ◌∷◌, refl}
 use Rattle.l4_model.specs.Words.{NilThread, period_of}
-use Rattle.l4_model.specs.Machine.{Machine, ToId, CancelSend, Delete, Set, Tag, Vs, Ipc, Ask, End, machine_of}
+use Rattle.l4_model.specs.Machine.{Machine, Fixed, CancelSend, Delete, Set, Tag, Vs, Ipc, Ask, End, machine_of}
 use Rattle.l4_model.specs.Steps.{Step, Local, Begin, Queue, Deliver, Wait, SendTimeout, SendNobody, ReceiveNobody, Drop, Order, Obey, Tick}
 use Rattle.l4_model.specs.History.{refused_place, IsReceiving, IsEnded, IsDeleted}
 use Rattle.l4_model.proofs.Rows.Writing.{thread, id, send, sends, receives, declared, ends, quiet, spent, reports, report}
@@ -12,8 +12,8 @@ abbrev pub one_deleted : Machine
 one_deleted = machine_of 1 (
     declared 1 0 1 (Set 1 7 ∷ receives ∷ [])
     ∷ declared 2 0 1 (sends 1 ∷ [])
-    ∷ declared 3 0 1 (Ask (id 1) Delete ∷ [])
-    ∷ declared 4 0 1 (Ipc (ToId NilThread) (id 1) None None ∷ []) ∷ [])
+    ∷ declared 3 0 1 (Ask (Fixed (id 1)) Delete ∷ [])
+    ∷ declared 4 0 1 (Ipc (Fixed NilThread) (Fixed (id 1)) None None ∷ []) ∷ [])
 
 runs_no_more : refused_place one_deleted (
     Local (thread 1)
@@ -93,9 +93,9 @@ registers_stay_view = refl
 -- Its send may still be refused, without a code.
 abbrev pub refused_after_deletion : Machine
 refused_after_deletion = machine_of 1 (
-    declared 1 0 1 (Set 1 7 ∷ Ipc (ToId (id 2)) NilThread (period_of 5) None ∷ [])
+    declared 1 0 1 (Set 1 7 ∷ Ipc (Fixed (id 2)) (Fixed NilThread) (period_of 5) None ∷ [])
     ∷ declared 2 0 1 (End ∷ [])
-    ∷ declared 3 0 1 (Ask (id 1) Delete ∷ []) ∷ [])
+    ∷ declared 3 0 1 (Ask (Fixed (id 1)) Delete ∷ []) ∷ [])
 
 abbrev pub refused_after_deletion_trace : List Step
 refused_after_deletion_trace =
@@ -120,7 +120,7 @@ refused_after_deletion_view = refl
 
 -- Who deletes itself is deleted before it could get a code: its own stays.
 abbrev pub deletes_itself_late : Machine
-deletes_itself_late = machine_of 1 (declared 1 0 1 (Ask (id 9) CancelSend ∷ Ask (id 1) Delete ∷ []) ∷ [])
+deletes_itself_late = machine_of 1 (declared 1 0 1 (Ask (Fixed (id 9)) CancelSend ∷ Ask (Fixed (id 1)) Delete ∷ []) ∷ [])
 
 abbrev pub deletes_itself_late_trace : List Step
 deletes_itself_late_trace =
@@ -137,7 +137,7 @@ deletes_itself_late_view = refl
 
 -- Where an order can be given, a world is not still.
 abbrev pub to_be_deleted : Machine
-to_be_deleted = machine_of 1 (declared 1 0 1 (Ask (id 1) Delete ∷ []) ∷ [])
+to_be_deleted = machine_of 1 (declared 1 0 1 (Ask (Fixed (id 1)) Delete ∷ []) ∷ [])
 
 abbrev pub to_be_deleted_trace : List Step
 to_be_deleted_trace =
@@ -164,9 +164,9 @@ call_deleted_b_view = refl
 abbrev pub shows_the_deleted : Machine
 shows_the_deleted = machine_of 1 (
     declared 1 0 1 []
-    ∷ declared 2 0 1 (Vs (id 1) ∷ Tag 0x1000 ∷ sends 3 ∷ [])
-    ∷ declared 3 0 2 (Ipc (ToId NilThread) (id 1) None None ∷ [])
-    ∷ declared 4 0 2 (Ask (id 1) Delete ∷ []) ∷ [])
+    ∷ declared 2 0 1 (Vs (Fixed (id 1)) ∷ Tag 0x1000 ∷ sends 3 ∷ [])
+    ∷ declared 3 0 2 (Ipc (Fixed NilThread) (Fixed (id 1)) None None ∷ [])
+    ∷ declared 4 0 2 (Ask (Fixed (id 1)) Delete ∷ []) ∷ [])
 
 not_while_it_waits : refused_place shows_the_deleted (
     Local (thread 2)

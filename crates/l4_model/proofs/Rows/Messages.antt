@@ -1,7 +1,7 @@
 -- Worked rows: what a message carries.
 use Rattle.std.specs.Prelude.{◌≡◌, Some, None, List, [], ◌∷◌, ◌++◌, map, replicate, refl}
 use Rattle.l4_model.specs.Words.{W64, NilThread, AnyThread}
-use Rattle.l4_model.specs.Machine.{Machine, ToId, ToLast, Set, Add, Tag, Vs, Ipc, Jump, machine_of}
+use Rattle.l4_model.specs.Machine.{Machine, Fixed, Last, Set, Add, Tag, Vs, Ipc, Jump, machine_of}
 use Rattle.l4_model.specs.Steps.{Step, Local, Begin, Queue, Deliver, Wait, SendNobody}
 use Rattle.l4_model.specs.History.{IsSending, IsReceiving, IsEnded}
 use Rattle.l4_model.proofs.Rows.Writing.{thread, id, send, sends, receives, declared, ends, quiet, spent, reports, report}
@@ -167,8 +167,8 @@ whole_message_within_view = refl
 -- A call, and an answer to the last sender.
 abbrev pub answer : Machine
 answer = machine_of 1 (
-    declared 1 0 1 (Set 1 41 ∷ Tag 0x10001 ∷ Ipc (ToId (id 2)) (id 2) None None ∷ [])
-    ∷ declared 2 0 2 (receives ∷ Add W64 1 1 ∷ Ipc ToLast AnyThread None None ∷ Jump 1 ∷ []) ∷ [])
+    declared 1 0 1 (Set 1 41 ∷ Tag 0x10001 ∷ Ipc (Fixed (id 2)) (Fixed (id 2)) None None ∷ [])
+    ∷ declared 2 0 2 (receives ∷ Add W64 1 1 ∷ Ipc Last (Fixed AnyThread) None None ∷ Jump 1 ∷ []) ∷ [])
 
 abbrev pub answer_trace : List Step
 answer_trace =
@@ -196,8 +196,8 @@ answer_view = refl
 abbrev pub originator : Machine
 originator = machine_of 1 (
     declared 1 0 1 []
-    ∷ declared 2 0 1 (Vs (id 1) ∷ Tag 0x51001 ∷ sends 4 ∷ [])
-    ∷ declared 3 0 2 (Vs (id 1) ∷ Tag 0x51001 ∷ sends 4 ∷ [])
+    ∷ declared 2 0 1 (Vs (Fixed (id 1)) ∷ Tag 0x51001 ∷ sends 4 ∷ [])
+    ∷ declared 3 0 2 (Vs (Fixed (id 1)) ∷ Tag 0x51001 ∷ sends 4 ∷ [])
     ∷ declared 4 0 2 (receives ∷ receives ∷ []) ∷ [])
 
 abbrev pub originator_trace : List Step
@@ -232,9 +232,9 @@ originator_view = refl
 -- A closed receive compares the sender that it is shown, and ActualSender is the current one.
 abbrev pub propagates : Machine
 propagates = machine_of 1 (
-    declared 1 0 1 (Ipc (ToId (id 9)) AnyThread None None ∷ [])
-    ∷ declared 2 0 1 (Vs (id 1) ∷ Tag 0x1000 ∷ sends 3 ∷ [])
-    ∷ declared 3 0 2 (Ipc (ToId NilThread) (id 1) None None ∷ Ipc ToLast NilThread None None ∷ []) ∷ [])
+    declared 1 0 1 (Ipc (Fixed (id 9)) (Fixed AnyThread) None None ∷ [])
+    ∷ declared 2 0 1 (Vs (Fixed (id 1)) ∷ Tag 0x1000 ∷ sends 3 ∷ [])
+    ∷ declared 3 0 2 (Ipc (Fixed NilThread) (Fixed (id 1)) None None ∷ Ipc Last (Fixed NilThread) None None ∷ []) ∷ [])
 
 abbrev pub propagates_trace : List Step
 propagates_trace =

@@ -1,7 +1,7 @@
 -- Worked rows: cancellations and deletions.
 use Rattle.std.specs.Prelude.{◌≡◌, Some, None, List, [], ◌∷◌, refl}
 use Rattle.l4_model.specs.Words.{NilThread}
-use Rattle.l4_model.specs.Machine.{Machine, ToId, CancelSend, CancelReceive, Delete, Ipc, Ask, Jump, machine_of}
+use Rattle.l4_model.specs.Machine.{Machine, Fixed, CancelSend, CancelReceive, Delete, Ipc, Ask, Jump, machine_of}
 use Rattle.l4_model.specs.Steps.{Step, Local, Begin, Queue, Deliver, Wait, SendNobody, ReceiveNobody, SendCancel, ReceiveCancel, Drop, Order, Obey}
 use Rattle.l4_model.specs.History.{IsEnded, IsDeleted}
 use Rattle.l4_model.proofs.Rows.Writing.{thread, id, send, sends, receives, declared, ends, quiet, reports, report}
@@ -10,8 +10,8 @@ use Rattle.l4_model.proofs.Rows.Writing.{thread, id, send, sends, receives, decl
 abbrev pub cancels : Machine
 cancels = machine_of 1 (
     declared 1 0 1 (sends 3 ∷ [])
-    ∷ declared 2 0 1 (Ask (id 1) CancelSend ∷ [])
-    ∷ declared 3 0 2 (Ask (id 1) CancelSend ∷ []) ∷ [])
+    ∷ declared 2 0 1 (Ask (Fixed (id 1)) CancelSend ∷ [])
+    ∷ declared 3 0 2 (Ask (Fixed (id 1)) CancelSend ∷ []) ∷ [])
 
 abbrev pub cancels_trace : List Step
 cancels_trace =
@@ -37,9 +37,9 @@ cancels_view = refl
 -- A receive phase that was cancelled in the send phase of its call ends when it begins.
 abbrev pub cancelled_receive : Machine
 cancelled_receive = machine_of 2 (
-    declared 1 0 1 (Ipc (ToId (id 3)) (id 3) None None ∷ [])
-    ∷ declared 2 0 1 (Ask (id 1) CancelReceive ∷ [])
-    ∷ declared 3 1 2 (receives ∷ Ask (id 1) CancelSend ∷ []) ∷ [])
+    declared 1 0 1 (Ipc (Fixed (id 3)) (Fixed (id 3)) None None ∷ [])
+    ∷ declared 2 0 1 (Ask (Fixed (id 1)) CancelReceive ∷ [])
+    ∷ declared 3 1 2 (receives ∷ Ask (Fixed (id 1)) CancelSend ∷ []) ∷ [])
 
 abbrev pub cancelled_receive_trace : List Step
 cancelled_receive_trace =
@@ -70,8 +70,8 @@ deletion = machine_of 2 (
     declared 1 0 1 (Jump 0 ∷ [])
     ∷ declared 2 0 1 (sends 1 ∷ [])
     ∷ declared 3 1 1 (sends 1 ∷ sends 1 ∷ [])
-    ∷ declared 4 1 1 (Ipc (ToId NilThread) (id 1) None None ∷ [])
-    ∷ declared 5 0 1 (Ask (id 1) Delete ∷ []) ∷ [])
+    ∷ declared 4 1 1 (Ipc (Fixed NilThread) (Fixed (id 1)) None None ∷ [])
+    ∷ declared 5 0 1 (Ask (Fixed (id 1)) Delete ∷ []) ∷ [])
 
 abbrev pub deletion_trace : List Step
 deletion_trace =
@@ -107,8 +107,8 @@ deletion_view = refl
 -- A thread that deletes itself gets no code.
 abbrev pub deletes_itself : Machine
 deletes_itself = machine_of 1 (
-    declared 1 0 1 (Ask (id 1) Delete ∷ [])
-    ∷ declared 2 0 1 (Ipc (ToId NilThread) (id 1) None None ∷ [])
+    declared 1 0 1 (Ask (Fixed (id 1)) Delete ∷ [])
+    ∷ declared 2 0 1 (Ipc (Fixed NilThread) (Fixed (id 1)) None None ∷ [])
     ∷ declared 3 0 1 (sends 1 ∷ []) ∷ [])
 
 abbrev pub deletes_itself_trace : List Step
@@ -134,9 +134,9 @@ deletes_itself_view = refl
 -- The call of a deleted thread is dropped.
 abbrev pub call_deleted_a : Machine
 call_deleted_a = machine_of 2 (
-    declared 1 0 1 (Ipc (ToId (id 4)) (id 4) None None ∷ [])
+    declared 1 0 1 (Ipc (Fixed (id 4)) (Fixed (id 4)) None None ∷ [])
     ∷ declared 2 0 1 (sends 1 ∷ [])
-    ∷ declared 3 0 1 (Ask (id 1) Delete ∷ [])
+    ∷ declared 3 0 1 (Ask (Fixed (id 1)) Delete ∷ [])
     ∷ declared 4 1 1 (receives ∷ []) ∷ [])
 
 abbrev pub call_deleted_a_trace : List Step
@@ -159,9 +159,9 @@ call_deleted_a_ending = refl
 -- The call of a deleted thread is delivered.
 abbrev pub call_deleted_b : Machine
 call_deleted_b = machine_of 2 (
-    declared 1 0 1 (Ipc (ToId (id 4)) (id 4) None None ∷ [])
+    declared 1 0 1 (Ipc (Fixed (id 4)) (Fixed (id 4)) None None ∷ [])
     ∷ declared 2 0 1 (sends 1 ∷ [])
-    ∷ declared 3 0 1 (Ask (id 1) Delete ∷ [])
+    ∷ declared 3 0 1 (Ask (Fixed (id 1)) Delete ∷ [])
     ∷ declared 4 1 1 (receives ∷ []) ∷ [])
 
 abbrev pub call_deleted_b_trace : List Step

@@ -1,7 +1,7 @@
 -- Worked rows: who waits where, and who is taken first.
 use Rattle.std.specs.Prelude.{◌≡◌, Some, None, List, [], ◌∷◌, refl}
 use Rattle.l4_model.specs.Words.{NilThread, AnyThread, LocalThread}
-use Rattle.l4_model.specs.Machine.{Machine, ToId, Ipc, Jump, machine_of}
+use Rattle.l4_model.specs.Machine.{Machine, Fixed, Ipc, Jump, machine_of}
 use Rattle.l4_model.specs.Steps.{Step, Local, Begin, Queue, Deliver, Wait, SendNobody, ReceiveNobody}
 use Rattle.l4_model.specs.History.{IsReady, IsSending, IsEnded}
 use Rattle.l4_model.proofs.Rows.Writing.{thread, id, send, sends, receives, declared, ends, quiet, spent, reports, report}
@@ -40,7 +40,7 @@ closed_receive = machine_of 1 (
     declared 1 0 1 (sends 4 ∷ [])
     ∷ declared 2 0 1 (sends 4 ∷ [])
     ∷ declared 3 0 1 (sends 4 ∷ [])
-    ∷ declared 4 0 1 (Ipc (ToId NilThread) (id 2) None None ∷ receives ∷ receives ∷ []) ∷ [])
+    ∷ declared 4 0 1 (Ipc (Fixed NilThread) (Fixed (id 2)) None None ∷ receives ∷ receives ∷ []) ∷ [])
 
 abbrev pub closed_receive_trace : List Step
 closed_receive_trace =
@@ -66,7 +66,7 @@ closed_receive_ending = refl
 
 -- Nobody can be sent to by anythread, a local or an undeclared id, nor received from by an undeclared one.
 abbrev pub nobody_there : Machine
-nobody_there = machine_of 1 (declared 1 0 1 (Ipc (ToId AnyThread) NilThread None None ∷ Ipc (ToId (LocalThread 64)) NilThread None None ∷ sends 9 ∷ Ipc (ToId NilThread) (id 9) None None ∷ []) ∷ [])
+nobody_there = machine_of 1 (declared 1 0 1 (Ipc (Fixed AnyThread) (Fixed NilThread) None None ∷ Ipc (Fixed (LocalThread 64)) (Fixed NilThread) None None ∷ sends 9 ∷ Ipc (Fixed NilThread) (Fixed (id 9)) None None ∷ []) ∷ [])
 
 abbrev pub nobody_there_trace : List Step
 nobody_there_trace =

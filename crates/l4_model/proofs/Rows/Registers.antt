@@ -1,7 +1,7 @@
 -- Worked rows: what the instructions of a script do.
 use Rattle.std.specs.Prelude.{◌≡◌, Some, None, List, [], ◌∷◌, map, refl}
 use Rattle.l4_model.specs.Words.{W64, W32, NilThread, AnyThread}
-use Rattle.l4_model.specs.Machine.{Machine, ToId, ToLast, CancelSend, CancelReceive, Delete, Set, Copy, Add, Tag, Vs, Ipc, Ask, Jump, OnErr, End, machine_of}
+use Rattle.l4_model.specs.Machine.{Machine, Fixed, Last, CancelSend, CancelReceive, Delete, Set, Copy, Add, Tag, Vs, Ipc, Ask, Jump, OnErr, End, machine_of}
 use Rattle.l4_model.specs.Rules.{assigned_by}
 use Rattle.l4_model.specs.Steps.{Step, Local, Begin, Queue, Deliver, Wait, SendNobody}
 use Rattle.l4_model.specs.History.{IsEnded}
@@ -9,7 +9,7 @@ use Rattle.l4_model.proofs.Rows.Writing.{thread, id, send, sends, receives, decl
 
 -- Sums wrap, jumps are taken, an order to nobody gives code 2, and at an `end` the thread has ended.
 abbrev pub scripted : Machine
-scripted = machine_of 1 (declared 1 0 1 (Set 1 18446744073709551615 ∷ Add W64 1 2 ∷ Copy 2 1 ∷ OnErr 5 ∷ Jump 6 ∷ Set 3 7 ∷ Ask (id 9) CancelSend ∷ OnErr 9 ∷ Set 4 7 ∷ End ∷ Set 5 7 ∷ []) ∷ [])
+scripted = machine_of 1 (declared 1 0 1 (Set 1 18446744073709551615 ∷ Add W64 1 2 ∷ Copy 2 1 ∷ OnErr 5 ∷ Jump 6 ∷ Set 3 7 ∷ Ask (Fixed (id 9)) CancelSend ∷ OnErr 9 ∷ Set 4 7 ∷ End ∷ Set 5 7 ∷ []) ∷ [])
 
 abbrev pub scripted_trace : List Step
 scripted_trace =
@@ -63,13 +63,13 @@ long_sum_view : reports long_sum (Local (thread 1) ∷ Local (thread 1) ∷ Loca
 long_sum_view = refl
 
 -- Which register is assigned a value. MR0 becomes a tag otherwise.
-assigning : map assigned_by (Set 3 7 ∷ Copy 2 1 ∷ Add W64 1 2 ∷ Tag 0 ∷ Vs NilThread ∷ Jump 4 ∷ End ∷ [])
+assigning : map assigned_by (Set 3 7 ∷ Copy 2 1 ∷ Add W64 1 2 ∷ Tag 0 ∷ Vs (Fixed NilThread) ∷ Jump 4 ∷ End ∷ [])
     ≡ Some 3 ∷ Some 2 ∷ Some 1 ∷ None ∷ None ∷ None ∷ None ∷ []
 assigning = refl
 
 -- An ipc without phases ends well. `last` names nobody at the start.
 abbrev pub no_phases : Machine
-no_phases = machine_of 1 (declared 1 0 1 (Tag 0x10001 ∷ Set 1 7 ∷ Ask NilThread CancelReceive ∷ Ask AnyThread Delete ∷ Ipc ToLast NilThread None None ∷ []) ∷ [])
+no_phases = machine_of 1 (declared 1 0 1 (Tag 0x10001 ∷ Set 1 7 ∷ Ask (Fixed NilThread) CancelReceive ∷ Ask (Fixed AnyThread) Delete ∷ Ipc Last (Fixed NilThread) None None ∷ []) ∷ [])
 
 abbrev pub no_phases_trace : List Step
 no_phases_trace =
@@ -90,7 +90,7 @@ no_phases_view = refl
 -- A failed send phase leaves the registers but MR0, `from` and ErrorCode, and has no receive phase.
 abbrev pub failed_send : Machine
 failed_send = machine_of 1 (
-    declared 1 0 1 (receives ∷ Vs (id 1) ∷ Set 2 9 ∷ Ipc (ToId (id 9)) AnyThread None None ∷ [])
+    declared 1 0 1 (receives ∷ Vs (Fixed (id 1)) ∷ Set 2 9 ∷ Ipc (Fixed (id 9)) (Fixed AnyThread) None None ∷ [])
     ∷ declared 2 0 1 (Set 1 8 ∷ Tag 0x70001 ∷ sends 1 ∷ []) ∷ [])
 
 abbrev pub failed_send_trace : List Step
@@ -119,7 +119,7 @@ failed_send_view = refl
 -- Propagation in one's own name: the tag keeps `p`. Without bit 12 there is none.
 abbrev pub own_name : Machine
 own_name = machine_of 1 (
-    declared 1 0 1 (Vs (id 1) ∷ Tag 0x1000 ∷ sends 2 ∷ Vs (id 3) ∷ Tag 0x2000 ∷ sends 2 ∷ [])
+    declared 1 0 1 (Vs (Fixed (id 1)) ∷ Tag 0x1000 ∷ sends 2 ∷ Vs (Fixed (id 3)) ∷ Tag 0x2000 ∷ sends 2 ∷ [])
     ∷ declared 2 0 2 (receives ∷ receives ∷ [])
     ∷ declared 3 0 1 [] ∷ [])
 
@@ -148,7 +148,7 @@ own_name_ending = refl
 abbrev pub answered_once : Machine
 answered_once = machine_of 1 (
     declared 1 0 1 (sends 2 ∷ receives ∷ [])
-    ∷ declared 2 0 1 (receives ∷ Ipc ToLast NilThread None None ∷ []) ∷ [])
+    ∷ declared 2 0 1 (receives ∷ Ipc Last (Fixed NilThread) None None ∷ []) ∷ [])
 
 abbrev pub answered_once_trace : List Step
 answered_once_trace =
@@ -175,7 +175,7 @@ answered_once_view = refl
 abbrev pub originator_elsewhere : Machine
 originator_elsewhere = machine_of 2 (
     declared 1 1 1 []
-    ∷ declared 2 0 1 (Vs (id 1) ∷ Tag 0x1000 ∷ sends 3 ∷ [])
+    ∷ declared 2 0 1 (Vs (Fixed (id 1)) ∷ Tag 0x1000 ∷ sends 3 ∷ [])
     ∷ declared 3 0 1 (receives ∷ []) ∷ [])
 
 abbrev pub originator_elsewhere_trace : List Step

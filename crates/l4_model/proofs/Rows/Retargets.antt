@@ -1,7 +1,7 @@
 -- Worked rows: profile 2, where the originator's waiting follows its message.
 use Rattle.std.specs.Prelude.{ℕ, ◌≡◌, Some, None, List, [], ◌∷◌, ◌++◌, refl}
 use Rattle.l4_model.specs.Words.{NilThread}
-use Rattle.l4_model.specs.Machine.{Machine, ToId, ToLast, Tag, Vs, Ipc, Ask, Delete, Declaration, machine_of, retargeting_machine_of}
+use Rattle.l4_model.specs.Machine.{Machine, Fixed, Last, Tag, Vs, Ipc, Ask, Delete, Declaration, machine_of, retargeting_machine_of}
 use Rattle.l4_model.specs.Steps.{Step, Local, Begin, Queue, Deliver, Wait, SendTimeout, SendNobody, Order, Obey, Retarget}
 use Rattle.l4_model.specs.History.{IsEnded, refused_place}
 use Rattle.l4_model.proofs.Rows.Writing.{thread, id, send, sends, receives, declared, ends, quiet, spent, reports, report}
@@ -9,9 +9,9 @@ use Rattle.l4_model.proofs.Rows.Writing.{thread, id, send, sends, receives, decl
 -- 1.1 calls 2.1, which hands the message on to 3.1 in the name of 1.1; 3.1 answers 1.1.
 abbrev pub hand_on : (first second third : ℕ) → List Declaration
 hand_on first second third =
-    declared 1 first 1 (Ipc (ToId (id 2)) (id 2) None None ∷ [])
-    ∷ declared 2 second 1 (receives ∷ Vs (id 1) ∷ Tag 0x1000 ∷ sends 3 ∷ [])
-    ∷ declared 3 third 2 (receives ∷ Ipc ToLast NilThread None None ∷ []) ∷ []
+    declared 1 first 1 (Ipc (Fixed (id 2)) (Fixed (id 2)) None None ∷ [])
+    ∷ declared 2 second 1 (receives ∷ Vs (Fixed (id 1)) ∷ Tag 0x1000 ∷ sends 3 ∷ [])
+    ∷ declared 3 third 2 (receives ∷ Ipc Last (Fixed NilThread) None None ∷ []) ∷ []
 
 abbrev pub one_processor : Machine
 one_processor = retargeting_machine_of 1 (hand_on 0 0 0)
@@ -116,8 +116,8 @@ three_processors_exchanged = refl
 -- The originator is in the send phase of a call: the receive phase that follows is for the new partner.
 abbrev pub in_send_phase : Machine
 in_send_phase = retargeting_machine_of 1 (
-    declared 1 0 1 (Ipc (ToId (id 4)) (id 2) None None ∷ [])
-    ∷ declared 2 0 1 (Vs (id 1) ∷ Tag 0x1000 ∷ sends 3 ∷ [])
+    declared 1 0 1 (Ipc (Fixed (id 4)) (Fixed (id 2)) None None ∷ [])
+    ∷ declared 2 0 1 (Vs (Fixed (id 1)) ∷ Tag 0x1000 ∷ sends 3 ∷ [])
     ∷ declared 3 0 2 (receives ∷ sends 1 ∷ [])
     ∷ declared 4 0 2 (receives ∷ []) ∷ [])
 
@@ -149,7 +149,7 @@ in_send_phase_ending = refl
 abbrev pub open_receive : Machine
 open_receive = retargeting_machine_of 1 (
     declared 1 0 1 (receives ∷ [])
-    ∷ declared 2 0 1 (Vs (id 1) ∷ Tag 0x1000 ∷ sends 3 ∷ Tag 0 ∷ sends 1 ∷ [])
+    ∷ declared 2 0 1 (Vs (Fixed (id 1)) ∷ Tag 0x1000 ∷ sends 3 ∷ Tag 0 ∷ sends 1 ∷ [])
     ∷ declared 3 0 2 (receives ∷ []) ∷ [])
 
 abbrev pub open_receive_trace : List Step
@@ -176,7 +176,7 @@ open_receive_ending = refl
 -- A deleted originator owes too. While it does, the answer is not refused; then it is.
 abbrev pub deleted_originator : Machine
 deleted_originator = retargeting_machine_of 1 (
-    hand_on 0 0 0 ++ declared 4 0 3 (Ask (id 1) Delete ∷ []) ∷ [])
+    hand_on 0 0 0 ++ declared 4 0 3 (Ask (Fixed (id 1)) Delete ∷ []) ∷ [])
 
 abbrev pub deleted_originator_trace : List Step
 deleted_originator_trace =
@@ -200,9 +200,9 @@ no_refusal_while_owed = refl
 -- A zero answer is not refused while it must wait, though the originator does not accept it yet.
 abbrev pub zero_answer : Machine
 zero_answer = retargeting_machine_of 1 (
-    declared 1 0 1 (Ipc (ToId (id 2)) (id 2) None None ∷ [])
-    ∷ declared 2 0 1 (receives ∷ Vs (id 1) ∷ Tag 0x1000 ∷ sends 3 ∷ [])
-    ∷ declared 3 0 2 (receives ∷ Ipc ToLast NilThread (Some 0) None ∷ []) ∷ [])
+    declared 1 0 1 (Ipc (Fixed (id 2)) (Fixed (id 2)) None None ∷ [])
+    ∷ declared 2 0 1 (receives ∷ Vs (Fixed (id 1)) ∷ Tag 0x1000 ∷ sends 3 ∷ [])
+    ∷ declared 3 0 2 (receives ∷ Ipc Last (Fixed NilThread) (Some 0) None ∷ []) ∷ [])
 
 zero_answer_waits : refused_place zero_answer (to_the_hand_on ++ Begin (send 3 1) ∷ SendTimeout (send 3 1) ∷ []) ≡ Some 12
 zero_answer_waits = refl

@@ -1,7 +1,7 @@
 -- Worked rows: clocks and timeouts.
 use Rattle.std.specs.Prelude.{◌≡◌, Some, None, List, [], ◌∷◌, refl}
 use Rattle.l4_model.specs.Words.{NilThread, AnyThread, AnyLocalThread, period_of}
-use Rattle.l4_model.specs.Machine.{Machine, ToId, Set, Tag, Ipc, machine_of}
+use Rattle.l4_model.specs.Machine.{Machine, Fixed, Set, Tag, Ipc, machine_of}
 use Rattle.l4_model.specs.Steps.{Step, Local, Begin, Queue, Deliver, Wait, SendTimeout, ReceiveTimeout, Tick}
 use Rattle.l4_model.specs.History.{IsReady, IsReceiving, IsEnded}
 use Rattle.l4_model.proofs.Rows.Writing.{thread, id, send, sends, receives, declared, ends, quiet, spent, reports, report}
@@ -9,7 +9,7 @@ use Rattle.l4_model.proofs.Rows.Writing.{thread, id, send, sends, receives, decl
 -- A send of timeout zero is refused where its receiver does not wait.
 abbrev pub zero_send : Machine
 zero_send = machine_of 1 (
-    declared 1 0 1 (Tag 0x70000 ∷ Ipc (ToId (id 2)) NilThread (Some 0) None ∷ [])
+    declared 1 0 1 (Tag 0x70000 ∷ Ipc (Fixed (id 2)) (Fixed NilThread) (Some 0) None ∷ [])
     ∷ declared 2 0 2 (Set 1 5 ∷ receives ∷ []) ∷ [])
 
 abbrev pub zero_send_trace : List Step
@@ -30,8 +30,8 @@ zero_send_view = refl
 -- It is not refused while its receiver is in the send phase of a call to another processor that would accept it.
 abbrev pub crossing_calls : Machine
 crossing_calls = machine_of 3 (
-    declared 1 0 1 (Ipc (ToId (id 3)) AnyThread None None ∷ [])
-    ∷ declared 2 1 1 (receives ∷ Ipc (ToId (id 1)) NilThread (Some 0) None ∷ [])
+    declared 1 0 1 (Ipc (Fixed (id 3)) (Fixed AnyThread) None None ∷ [])
+    ∷ declared 2 1 1 (receives ∷ Ipc (Fixed (id 1)) (Fixed NilThread) (Some 0) None ∷ [])
     ∷ declared 3 2 1 (receives ∷ sends 2 ∷ []) ∷ [])
 
 abbrev pub crossing_calls_trace : List Step
@@ -54,7 +54,7 @@ crossing_calls_ending = refl
 -- A send may be delivered after its period has passed.
 abbrev pub withdrawn_too_late : Machine
 withdrawn_too_late = machine_of 2 (
-    declared 1 0 1 (Ipc (ToId (id 2)) NilThread (period_of 5) None ∷ [])
+    declared 1 0 1 (Ipc (Fixed (id 2)) (Fixed NilThread) (period_of 5) None ∷ [])
     ∷ declared 2 1 1 (receives ∷ []) ∷ [])
 
 abbrev pub withdrawn_too_late_trace : List Step
@@ -78,7 +78,7 @@ withdrawn_too_late_view = refl
 -- It may be refused from then on.
 abbrev pub withdrawn : Machine
 withdrawn = machine_of 2 (
-    declared 1 0 1 (Ipc (ToId (id 2)) NilThread (period_of 5) None ∷ [])
+    declared 1 0 1 (Ipc (Fixed (id 2)) (Fixed NilThread) (period_of 5) None ∷ [])
     ∷ declared 2 1 1 (receives ∷ []) ∷ [])
 
 abbrev pub withdrawn_trace : List Step
@@ -100,7 +100,7 @@ withdrawn_view = refl
 
 -- A receive of 24 ticks.
 abbrev pub finite_receive : Machine
-finite_receive = machine_of 1 (declared 1 0 1 (Ipc (ToId NilThread) AnyThread None (period_of 0xc03) ∷ []) ∷ [])
+finite_receive = machine_of 1 (declared 1 0 1 (Ipc (Fixed NilThread) (Fixed AnyThread) None (period_of 0xc03) ∷ []) ∷ [])
 
 abbrev pub finite_receive_trace : List Step
 finite_receive_trace =
@@ -129,7 +129,7 @@ finite_receive_late_ending = refl
 
 -- A receive of timeout zero.
 abbrev pub zero_receive : Machine
-zero_receive = machine_of 1 (declared 1 0 1 (Ipc (ToId NilThread) AnyThread None (Some 0) ∷ []) ∷ [])
+zero_receive = machine_of 1 (declared 1 0 1 (Ipc (Fixed NilThread) (Fixed AnyThread) None (Some 0) ∷ []) ∷ [])
 
 abbrev pub zero_receive_trace : List Step
 zero_receive_trace =
@@ -147,9 +147,9 @@ zero_receive_view = refl
 -- Closed receives and a send, each with its period.
 abbrev pub timeouts : Machine
 timeouts = machine_of 1 (
-    declared 1 0 1 (Ipc (ToId NilThread) (id 2) None (period_of 3) ∷ [])
-    ∷ declared 2 0 1 (Ipc (ToId NilThread) AnyLocalThread None (period_of 3) ∷ [])
-    ∷ declared 3 0 2 (Ipc (ToId (id 2)) NilThread (period_of 2) None ∷ []) ∷ [])
+    declared 1 0 1 (Ipc (Fixed NilThread) (Fixed (id 2)) None (period_of 3) ∷ [])
+    ∷ declared 2 0 1 (Ipc (Fixed NilThread) (Fixed AnyLocalThread) None (period_of 3) ∷ [])
+    ∷ declared 3 0 2 (Ipc (Fixed (id 2)) (Fixed NilThread) (period_of 2) None ∷ []) ∷ [])
 
 abbrev pub timeouts_trace : List Step
 timeouts_trace =

@@ -1,7 +1,7 @@
 -- Worked rows: what a cancellation is worth, and how long.
 use Rattle.std.specs.Prelude.{◌≡◌, Some, None, List, [], ◌∷◌, refl}
 use Rattle.l4_model.specs.Words.{NilThread, AnyThread, period_of}
-use Rattle.l4_model.specs.Machine.{Machine, ToId, ToLast, CancelSend, CancelReceive, CancelBoth, Delete, Ipc, Ask, machine_of}
+use Rattle.l4_model.specs.Machine.{Machine, Fixed, Last, CancelSend, CancelReceive, CancelBoth, Delete, Ipc, Ask, machine_of}
 use Rattle.l4_model.specs.Steps.{Step, Local, Begin, Queue, Deliver, Wait, SendTimeout, ReceiveNobody, SendCancel, ReceiveCancel, Order, Obey, Tick}
 use Rattle.l4_model.specs.History.{refused_place, IsReady, IsSending, IsOrdering, IsEnded, IsDeleted}
 use Rattle.l4_model.proofs.Rows.Writing.{thread, id, send, sends, receives, declared, ends, quiet, spent, reports, report}
@@ -11,7 +11,7 @@ use Rattle.l4_model.proofs.Rows.Orders.{cancels}
 abbrev pub sends_twice : Machine
 sends_twice = machine_of 1 (
     declared 1 0 1 (sends 3 ∷ sends 3 ∷ [])
-    ∷ declared 2 0 1 (Ask (id 1) CancelSend ∷ [])
+    ∷ declared 2 0 1 (Ask (Fixed (id 1)) CancelSend ∷ [])
     ∷ declared 3 0 2 (receives ∷ []) ∷ [])
 
 wish_is_gone : refused_place sends_twice (
@@ -84,7 +84,7 @@ undone_view = refl
 abbrev pub receives_twice : Machine
 receives_twice = machine_of 1 (
     declared 1 0 1 (receives ∷ receives ∷ [])
-    ∷ declared 2 0 1 (Ask (id 1) CancelReceive ∷ [])
+    ∷ declared 2 0 1 (Ask (Fixed (id 1)) CancelReceive ∷ [])
     ∷ declared 3 0 2 (sends 1 ∷ []) ∷ [])
 
 receive_wish_is_gone : refused_place receives_twice (
@@ -131,7 +131,7 @@ receive_cancelled = refl
 abbrev pub sends_then_receives : Machine
 sends_then_receives = machine_of 1 (
     declared 1 0 1 (sends 3 ∷ receives ∷ [])
-    ∷ declared 2 0 1 (Ask (id 1) CancelReceive ∷ [])
+    ∷ declared 2 0 1 (Ask (Fixed (id 1)) CancelReceive ∷ [])
     ∷ declared 3 0 2 (receives ∷ []) ∷ [])
 
 later_receive_phase : refused_place sends_then_receives (
@@ -148,8 +148,8 @@ later_receive_phase = refl
 -- A call that fails takes the wish to cancel its receive phase away.
 abbrev pub call_that_fails : Machine
 call_that_fails = machine_of 1 (
-    declared 1 0 1 (Ipc (ToId (id 3)) AnyThread (period_of 5) None ∷ receives ∷ [])
-    ∷ declared 2 0 1 (Ask (id 1) CancelReceive ∷ [])
+    declared 1 0 1 (Ipc (Fixed (id 3)) (Fixed AnyThread) (period_of 5) None ∷ receives ∷ [])
+    ∷ declared 2 0 1 (Ask (Fixed (id 1)) CancelReceive ∷ [])
     ∷ declared 3 0 2 [] ∷ [])
 
 wish_of_a_failed_call : refused_place call_that_fails (
@@ -166,9 +166,9 @@ wish_of_a_failed_call = refl
 -- A delivered call takes the wish to cancel its send away.
 abbrev pub calls_then_sends : Machine
 calls_then_sends = machine_of 1 (
-    declared 1 0 1 (Ipc (ToId (id 3)) (id 3) None None ∷ sends 3 ∷ [])
-    ∷ declared 2 0 1 (Ask (id 1) CancelSend ∷ [])
-    ∷ declared 3 0 2 (receives ∷ Ipc ToLast NilThread None None ∷ []) ∷ [])
+    declared 1 0 1 (Ipc (Fixed (id 3)) (Fixed (id 3)) None None ∷ sends 3 ∷ [])
+    ∷ declared 2 0 1 (Ask (Fixed (id 1)) CancelSend ∷ [])
+    ∷ declared 3 0 2 (receives ∷ Ipc Last (Fixed NilThread) None None ∷ []) ∷ [])
 
 wish_of_a_delivered_call : refused_place calls_then_sends (
     Begin (send 1 1)
@@ -188,8 +188,8 @@ wish_of_a_delivered_call = refl
 -- Both bits at once.
 abbrev pub both_wishes : Machine
 both_wishes = machine_of 1 (
-    declared 1 0 1 (Ipc (ToId (id 3)) (id 3) None None ∷ [])
-    ∷ declared 2 0 1 (Ask (id 1) CancelBoth ∷ [])
+    declared 1 0 1 (Ipc (Fixed (id 3)) (Fixed (id 3)) None None ∷ [])
+    ∷ declared 2 0 1 (Ask (Fixed (id 1)) CancelBoth ∷ [])
     ∷ declared 3 0 2 (receives ∷ []) ∷ [])
 
 abbrev pub both_wishes_trace : List Step
@@ -231,7 +231,7 @@ from_another_space = refl
 abbrev pub deleted_from_elsewhere : Machine
 deleted_from_elsewhere = machine_of 1 (
     declared 1 0 1 (receives ∷ [])
-    ∷ declared 2 0 2 (Ask (id 1) Delete ∷ Ask (id 9) Delete ∷ Ipc (ToId NilThread) (id 9) None None ∷ []) ∷ [])
+    ∷ declared 2 0 2 (Ask (Fixed (id 1)) Delete ∷ Ask (Fixed (id 9)) Delete ∷ Ipc (Fixed NilThread) (Fixed (id 9)) None None ∷ []) ∷ [])
 
 abbrev pub deleted_from_elsewhere_trace : List Step
 deleted_from_elsewhere_trace =

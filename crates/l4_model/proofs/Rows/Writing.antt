@@ -1,7 +1,7 @@
 -- Short names in which rows are written.
 use Rattle.std.specs.Prelude.{ℕ, ◌-◌, Bool, true, false, Option, Some, None, option_map, List, ◌++◌, length, replicate}
 use Rattle.l4_model.specs.Words.{GlobalId, Id, NilThread, AnyThread, GlobalThread, global_id}
-use Rattle.l4_model.specs.Machine.{ToId, Instr, Ipc, Declaration, Machine}
+use Rattle.l4_model.specs.Machine.{Fixed, Instr, Ipc, Declaration, Machine}
 use Rattle.l4_model.specs.World.{Name}
 use Rattle.l4_model.specs.Steps.{Step}
 use Rattle.l4_model.specs.History.{reached, view, waiting, State, Report}
@@ -18,10 +18,10 @@ send n k = record { thread = thread n; k = k }
 
 -- An ipc with a send phase only, and one with an open receive phase only, both without timeouts.
 abbrev pub sends : ℕ → Instr
-sends n = Ipc (ToId (id n)) NilThread None None
+sends n = Ipc (Fixed (id n)) (Fixed NilThread) None None
 
 abbrev pub receives : Instr
-receives = Ipc (ToId NilThread) AnyThread None None
+receives = Ipc (Fixed NilThread) (Fixed AnyThread) None None
 
 abbrev pub declared : (n cpu space : ℕ) → List Instr → Declaration
 declared n cpu space script = record { id = thread n; cpu = cpu; space = space; script = script }

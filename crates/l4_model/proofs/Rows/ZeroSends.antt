@@ -1,7 +1,7 @@
 -- Worked rows: where a send of timeout zero may be refused.
 use Rattle.std.specs.Prelude.{◌≡◌, Some, None, [], ◌∷◌, refl}
 use Rattle.l4_model.specs.Words.{NilThread, AnyThread}
-use Rattle.l4_model.specs.Machine.{Machine, ToId, Delete, Ipc, Ask, machine_of}
+use Rattle.l4_model.specs.Machine.{Machine, Fixed, Delete, Ipc, Ask, machine_of}
 use Rattle.l4_model.specs.Steps.{Begin, Wait, SendTimeout, SendNobody, Order, Obey}
 use Rattle.l4_model.specs.History.{refused_place}
 use Rattle.l4_model.proofs.Rows.Writing.{thread, id, send, sends, receives, declared}
@@ -9,8 +9,8 @@ use Rattle.l4_model.proofs.Rows.Writing.{thread, id, send, sends, receives, decl
 -- A call to another processor than the receiver's protects the send, also where that processor is the sender's.
 abbrev pub to_a_call_elsewhere : Machine
 to_a_call_elsewhere = machine_of 2 (
-    declared 1 0 1 (Ipc (ToId (id 3)) AnyThread None None ∷ [])
-    ∷ declared 2 1 1 (Ipc (ToId (id 1)) NilThread (Some 0) None ∷ [])
+    declared 1 0 1 (Ipc (Fixed (id 3)) (Fixed AnyThread) None None ∷ [])
+    ∷ declared 2 1 1 (Ipc (Fixed (id 1)) (Fixed NilThread) (Some 0) None ∷ [])
     ∷ declared 3 1 1 [] ∷ [])
 
 not_while_it_calls : refused_place to_a_call_elsewhere (
@@ -22,8 +22,8 @@ not_while_it_calls = refl
 -- A call within the receiver's processor does not protect it.
 abbrev pub to_a_call_within : Machine
 to_a_call_within = machine_of 2 (
-    declared 1 0 1 (Ipc (ToId (id 3)) AnyThread None None ∷ [])
-    ∷ declared 2 1 1 (Ipc (ToId (id 1)) NilThread (Some 0) None ∷ [])
+    declared 1 0 1 (Ipc (Fixed (id 3)) (Fixed AnyThread) None None ∷ [])
+    ∷ declared 2 1 1 (Ipc (Fixed (id 1)) (Fixed NilThread) (Some 0) None ∷ [])
     ∷ declared 3 0 1 [] ∷ [])
 
 while_it_calls_within : refused_place to_a_call_within (
@@ -36,7 +36,7 @@ while_it_calls_within = refl
 abbrev pub to_a_send_elsewhere : Machine
 to_a_send_elsewhere = machine_of 2 (
     declared 1 0 1 (sends 3 ∷ [])
-    ∷ declared 2 1 1 (Ipc (ToId (id 1)) NilThread (Some 0) None ∷ [])
+    ∷ declared 2 1 1 (Ipc (Fixed (id 1)) (Fixed NilThread) (Some 0) None ∷ [])
     ∷ declared 3 1 1 [] ∷ [])
 
 while_it_sends : refused_place to_a_send_elsewhere (
@@ -48,8 +48,8 @@ while_it_sends = refl
 -- A call whose receive phase would not accept the sender does not.
 abbrev pub to_a_closed_call : Machine
 to_a_closed_call = machine_of 2 (
-    declared 1 0 1 (Ipc (ToId (id 3)) (id 3) None None ∷ [])
-    ∷ declared 2 1 1 (Ipc (ToId (id 1)) NilThread (Some 0) None ∷ [])
+    declared 1 0 1 (Ipc (Fixed (id 3)) (Fixed (id 3)) None None ∷ [])
+    ∷ declared 2 1 1 (Ipc (Fixed (id 1)) (Fixed NilThread) (Some 0) None ∷ [])
     ∷ declared 3 1 1 [] ∷ [])
 
 while_it_calls_another : refused_place to_a_closed_call (
@@ -61,8 +61,8 @@ while_it_calls_another = refl
 -- A call to nobody does not.
 abbrev pub to_a_call_of_nobody : Machine
 to_a_call_of_nobody = machine_of 2 (
-    declared 1 0 1 (Ipc (ToId (id 9)) AnyThread None None ∷ [])
-    ∷ declared 2 1 1 (Ipc (ToId (id 1)) NilThread (Some 0) None ∷ []) ∷ [])
+    declared 1 0 1 (Ipc (Fixed (id 9)) (Fixed AnyThread) None None ∷ [])
+    ∷ declared 2 1 1 (Ipc (Fixed (id 1)) (Fixed NilThread) (Some 0) None ∷ []) ∷ [])
 
 while_it_calls_nobody : refused_place to_a_call_of_nobody (
     Begin (send 1 1)
@@ -74,9 +74,9 @@ while_it_calls_nobody = refl
 abbrev pub to_a_receiver : Machine
 to_a_receiver = machine_of 1 (
     declared 1 0 1 (receives ∷ [])
-    ∷ declared 2 0 1 (Ipc (ToId (id 1)) NilThread (Some 0) None ∷ [])
-    ∷ declared 3 0 1 (Ipc (ToId NilThread) (id 1) None None ∷ [])
-    ∷ declared 4 0 1 (Ipc (ToId (id 3)) NilThread (Some 0) None ∷ []) ∷ [])
+    ∷ declared 2 0 1 (Ipc (Fixed (id 1)) (Fixed NilThread) (Some 0) None ∷ [])
+    ∷ declared 3 0 1 (Ipc (Fixed NilThread) (Fixed (id 1)) None None ∷ [])
+    ∷ declared 4 0 1 (Ipc (Fixed (id 3)) (Fixed NilThread) (Some 0) None ∷ []) ∷ [])
 
 not_while_it_waits : refused_place to_a_receiver (
     Wait (thread 1)
@@ -93,10 +93,10 @@ while_it_waits_for_another = refl
 -- Nobody gives code 4, not 2: neither an undeclared nor a deleted thread.
 abbrev pub to_nobody : Machine
 to_nobody = machine_of 1 (
-    declared 1 0 1 (Ipc (ToId (id 9)) NilThread (Some 0) None ∷ [])
-    ∷ declared 2 0 1 (Ipc (ToId (id 3)) NilThread (Some 0) None ∷ [])
+    declared 1 0 1 (Ipc (Fixed (id 9)) (Fixed NilThread) (Some 0) None ∷ [])
+    ∷ declared 2 0 1 (Ipc (Fixed (id 3)) (Fixed NilThread) (Some 0) None ∷ [])
     ∷ declared 3 0 1 []
-    ∷ declared 4 0 1 (Ask (id 3) Delete ∷ []) ∷ [])
+    ∷ declared 4 0 1 (Ask (Fixed (id 3)) Delete ∷ []) ∷ [])
 
 not_by_the_undeclared : refused_place to_nobody (
     Begin (send 1 1)

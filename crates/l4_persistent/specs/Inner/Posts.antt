@@ -3,7 +3,7 @@
 use Rattle.std.specs.Prelude.{ℕ, zero, suc, ◌+◌, ◌≡◌, ◌&&◌, ◌||◌, not, nat_lt, Bool, true, false, Option, Some, None, is_some, if◌then◌else◌, List, [], ◌∷◌, length, map, slice_get, slice_index_or}
 use Rattle.std.specs.List.{list_any}
 use Rattle.l4_model.specs.Words.{GlobalId, Id}
-use Rattle.l4_model.specs.Machine.{Machine, ToId, ToLast, Instr, Ipc, Ask, End, Run, GoTo, GoToOnErr, instruction_at, place_of}
+use Rattle.l4_model.specs.Machine.{Machine, IdFrom, Fixed, Last, InRegister, Instr, Ipc, Ask, End, Run, GoTo, GoToOnErr, GoToOnLabel, GoToOnWord, GoToOnFrom, instruction_at, place_of}
 use Rattle.l4_model.specs.World.{Send, PendingOrder, Thread, is_in, is_alive}
 use Rattle.l4_core_model.specs.Local.{Local, declared, destination_place, is_own, own_places, thread}
 use Rattle.l4_core_model.specs.Runs.{System, letters}
@@ -24,16 +24,25 @@ pub data Aim : Type 0 where
   At : (cpu : ℕ) → Aim
   AtLast : Aim
 
+-- A message register may name any thread.
+abbrev pub may_name : Machine → IdFrom → Aim → Bool
+may_name m (Fixed id) (At cpu) = names m cpu id
+may_name m Last AtLast = true
+may_name m (InRegister format a) (At cpu) = true
+may_name m from aim = false
+
 abbrev pub has_aim : Machine → Instr → Aim → Bool
-has_aim m (Ipc (ToId to) from send_period receive_period) (At cpu) = names m cpu to
-has_aim m (Ipc ToLast from send_period receive_period) AtLast = true
-has_aim m (Ask target what) (At cpu) = names m cpu target
+has_aim m (Ipc to from send_period receive_period) aim = may_name m to aim
+has_aim m (Ask target what) aim = may_name m target aim
 has_aim m i aim = false
 
 -- The places where a script may go on behind an instruction.
 abbrev pub places_behind : Instr → (place : ℕ) → List ℕ
 places_behind (Run (GoTo target)) place = target ∷ []
 places_behind (Run (GoToOnErr target)) place = (place + 1) ∷ target ∷ []
+places_behind (Run (GoToOnLabel label target)) place = (place + 1) ∷ target ∷ []
+places_behind (Run (GoToOnWord a word target)) place = (place + 1) ∷ target ∷ []
+places_behind (Run (GoToOnFrom id target)) place = (place + 1) ∷ target ∷ []
 places_behind End place = place ∷ []
 places_behind i place = (place + 1) ∷ []
 

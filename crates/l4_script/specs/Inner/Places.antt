@@ -1,5 +1,5 @@
 -- Where the thread of a number stands.
-use Rattle.std.specs.Prelude.{ℕ, ◌%◌, ◌==◌, if◌then◌else◌, nat_eq, Option, Some, None, slice_get}
+use Rattle.std.specs.Prelude.{ℕ, ◌%◌, ◌==◌, if◌then◌else◌, nat_eq, Option, Some, slice_get}
 use Rattle.std.specs.HashMap.{get}
 use Rattle.l4_script.specs.declared.places.Placed.{Placed}
 use Rattle.l4_script.specs.declared.places.Places.{Places}

@@ -4,17 +4,19 @@ use Rattle.l4_model.specs.Machine as model
 use Rattle.l4_types.specs.Inner.PeriodView.{period_of}
 use Rattle.l4_types.specs.StepView.{order_kind_of}
 use Rattle.l4_script.specs.Inner.Calls.{Call}
-use Rattle.l4_script.specs.declared.instructions.To.{To}
-use Rattle.l4_script.specs.declared.instructions.To.TheVariants as tos
+use Rattle.l4_script.specs.declared.instructions.IdFrom.{IdFrom}
+use Rattle.l4_script.specs.declared.instructions.IdFrom.TheVariants as ids
 use Rattle.l4_script.specs.declared.instructions.Instr.{Instr}
 use Rattle.l4_script.specs.declared.instructions.Instr.TheVariants as instrs
 
-abbrev pub to_of : To → model.To
-to_of (tos.Id id) = model.ToId id
-to_of tos.Last = model.ToLast
+abbrev pub id_from_of : IdFrom → model.IdFrom
+id_from_of (ids.Fixed id) = model.Fixed id
+id_from_of ids.Last = model.Last
+id_from_of (ids.InRegister a) = model.InRegister W64 a
+id_from_of (ids.InShortRegister a) = model.InRegister W32 a
 
 abbrev pub ipc_of : Call → model.Instr
-ipc_of call = model.Ipc (to_of call.to) call.from (period_of call.send_period)
+ipc_of call = model.Ipc (id_from_of call.to) (id_from_of call.from) (period_of call.send_period)
     (period_of call.receive_period)
 
 abbrev pub instr_of : Instr → model.Instr
@@ -23,9 +25,14 @@ instr_of (instrs.Copy register source) = model.Copy register source
 instr_of (instrs.Add register word) = model.Add W64 register word
 instr_of (instrs.ShortAdd register word) = model.Add W32 register word
 instr_of (instrs.Tag tag) = model.Tag (word_of_tag tag)
-instr_of (instrs.Vs id) = model.Vs id
+instr_of (instrs.Vs from) = model.Vs (id_from_of from)
 instr_of (instrs.Ipc ipc) = ipc_of ipc
-instr_of (instrs.Order target what) = model.Ask target (order_kind_of what)
+instr_of (instrs.Order target what) = model.Ask (id_from_of target) (order_kind_of what)
 instr_of (instrs.Jump place) = model.Jump place
 instr_of (instrs.OnErr place) = model.OnErr place
+instr_of (instrs.From register) = model.From W64 register
+instr_of (instrs.ShortFrom register) = model.From W32 register
+instr_of (instrs.OnLabel label place) = model.OnLabel label place
+instr_of (instrs.OnWord source word place) = model.OnWord source word place
+instr_of (instrs.OnFrom id place) = model.OnFrom id place
 instr_of instrs.End = model.End

@@ -41,6 +41,9 @@ pub enum TextFaultKind {
     BadNumber,
     /// No thread id, or no global one where a global one is wanted.
     BadId,
+    /// A name that is not declared, that is declared twice, or that is a keyword (scripts of version
+    /// 2).
+    BadName,
     /// A processor that the machine does not have.
     BadCpu,
     /// A message tag with typed items (manual: Messages and Message Registers).

@@ -32,7 +32,7 @@ fn is_skipped(line: &[u8]) -> bool
     line.is_empty() || line[0] == b';'
 }
 
-fn is_printable(line: &[u8]) -> bool
+pub(super) fn is_printable(line: &[u8]) -> bool
     ensures { result ≡ is_printable line.now }
 {
     line.iter().all(|byte| matches!(byte, b' '..=b'~'))
@@ -41,7 +41,7 @@ fn is_printable(line: &[u8]) -> bool
 // Whether all bytes of a line are printable, and no word is empty.
 #[inline(always)]
 #[tactic(auto, using(crate::proofs::PlainWords::letter, crate::proofs::PlainWords::space, crate::proofs::PlainWords::no_word, crate::proofs::PlainWords::not_shown))]
-fn has_plain_words(line: &[u8]) -> bool
+pub(super) fn has_plain_words(line: &[u8]) -> bool
     ensures { result ≡ (is_printable line.now && not (has_empty_word line.now)) }
 {
     let mut begins = true;

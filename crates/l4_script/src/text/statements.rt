@@ -10,7 +10,7 @@ ghost use Rattle.l4_script.specs.declared.text.fault.TextFaultKind.TheVariants.{
 ghost use Rattle.l4_words.specs.Words.{one};
 ghost use Rattle.l4_script.specs.Ids.{id_of};
 ghost use Rattle.l4_script.specs.Judged.{Returns, needs};
-ghost use Rattle.l4_script.specs.Inner.Scripts.{instr_of, to_of};
+ghost use Rattle.l4_script.specs.Inner.Scripts.{id_from_of, instr_of};
 ghost use Rattle.l4_script.specs.Numbers.{number_from};
 ghost use Rattle.l4_script.specs.Statements.{heading_by, format_line, processors_line};
 ghost use Rattle.l4_script.specs.Statements.{processor_of, declaration_of, word_value};
@@ -24,7 +24,7 @@ use super::fault::TextFaultKind;
 use super::ids::{id, thread_in};
 use super::lines::after;
 use super::numbers::{number, number_from, time, word_from};
-use crate::instructions::{Instr, Ipc, Register, Source, To};
+use crate::instructions::{IdFrom, Instr, Ipc, Register, Source};
 use crate::machine::Declaration;
 use l4_types::formats::Format;
 use l4_types::ids::ThreadId;
@@ -34,36 +34,36 @@ use l4_types::tags::{MsgTag, TagFault};
 use l4_words::words::Words;
 use std::alloc::Global;
 
-const CPU: &[u8] = b"cpu";
+pub(super) const CPU: &[u8] = b"cpu";
 
-const SPACE: &[u8] = b"space";
+pub(super) const SPACE: &[u8] = b"space";
 
-const SET: &[u8] = b"set";
+pub(super) const SET: &[u8] = b"set";
 
-const COPY: &[u8] = b"copy";
+pub(super) const COPY: &[u8] = b"copy";
 
-const ADD: &[u8] = b"add";
+pub(super) const ADD: &[u8] = b"add";
 
-const TAG: &[u8] = b"tag";
+pub(super) const TAG: &[u8] = b"tag";
 
-const VIRTUAL_SENDER: &[u8] = b"vs";
+pub(super) const VIRTUAL_SENDER: &[u8] = b"vs";
 
-const IPC: &[u8] = b"ipc";
+pub(super) const IPC: &[u8] = b"ipc";
 
-const EXCHANGE_REGISTERS: &[u8] = b"exregs";
+pub(super) const EXCHANGE_REGISTERS: &[u8] = b"exregs";
 
-const DELETE: &[u8] = b"delete";
+pub(super) const DELETE: &[u8] = b"delete";
 
-const JUMP: &[u8] = b"jump";
+pub(super) const JUMP: &[u8] = b"jump";
 
-const ON_ERROR: &[u8] = b"onerr";
+pub(super) const ON_ERROR: &[u8] = b"onerr";
 
-const END: &[u8] = b"end";
+pub(super) const END: &[u8] = b"end";
 
-const LAST_REGISTER: u64 = MESSAGE_REGISTERS as u64 - 1;
+pub(super) const LAST_REGISTER: u64 = MESSAGE_REGISTERS as u64 - 1;
 
 /// The only word left, else `BadLine`.
-fn only<'a>(words: Words<'a>) -> Result<&'a [u8], TextFaultKind>
+pub(super) fn only<'a>(words: Words<'a>) -> Result<&'a [u8], TextFaultKind>
     ensures { Returns (λ word. word.now) result (needs (one words.entry) BadLine) }
 {
     words.one().ok_or(TextFaultKind::BadLine)
@@ -88,7 +88,7 @@ impl Heading {
 }
 
 /// What a profile and the number of bits of a word say. None where there is no such first line.
-fn heading_by(profile: u64, width: u64) -> Option<Heading>
+pub(super) fn heading_by(profile: u64, width: u64) -> Option<Heading>
     ensures { option_map heading_of result ≡ heading_by profile width }
 {
     let (retargeting, format) = match (profile, width) {
@@ -165,14 +165,14 @@ pub(super) fn declaration(
     Ok(Declaration::new(alloc, id, cpu, space as u32))
 }
 
-fn register(word: &[u8]) -> Result<Register, TextFaultKind>
+pub(super) fn register(word: &[u8]) -> Result<Register, TextFaultKind>
     ensures { result ≡ number_from 1 last_register word.now }
 {
     let number = number_from(1, LAST_REGISTER, word)?;
     Register::new(number as u8).ok_or(TextFaultKind::BadNumber)
 }
 
-fn source(word: &[u8]) -> Result<Source, TextFaultKind>
+pub(super) fn source(word: &[u8]) -> Result<Source, TextFaultKind>
     ensures { result ≡ number_from 0 last_register word.now }
 {
     let number = number_from(0, LAST_REGISTER, word)?;
@@ -182,7 +182,7 @@ fn source(word: &[u8]) -> Result<Source, TextFaultKind>
 /// The instruction `set` with these operands.
 #[inline(never)]
 #[tactic(auto, unfolding(crate::specs::Statements::assign_of))]
-fn set(format: Format, operands: Words<'_>) -> Result<Instr, TextFaultKind>
+pub(super) fn set(format: Format, operands: Words<'_>) -> Result<Instr, TextFaultKind>
     ensures { Returns instr_of result (assign_of (word_value (format_of format)) operands.entry) }
 {
     let (first, second) = operands.two().ok_or(TextFaultKind::BadLine)?;
@@ -194,7 +194,7 @@ fn set(format: Format, operands: Words<'_>) -> Result<Instr, TextFaultKind>
 /// The instruction `copy` with these operands.
 #[inline(never)]
 #[tactic(auto, unfolding(crate::specs::Statements::assign_of))]
-fn copy(operands: Words<'_>) -> Result<Instr, TextFaultKind>
+pub(super) fn copy(operands: Words<'_>) -> Result<Instr, TextFaultKind>
     ensures { Returns instr_of result (assign_of register_value operands.entry) }
 {
     let (first, second) = operands.two().ok_or(TextFaultKind::BadLine)?;
@@ -206,7 +206,7 @@ fn copy(operands: Words<'_>) -> Result<Instr, TextFaultKind>
 /// The instruction `add` with these operands.
 #[inline(never)]
 #[tactic(auto, unfolding(crate::specs::Statements::assign_of))]
-fn add(format: Format, operands: Words<'_>) -> Result<Instr, TextFaultKind>
+pub(super) fn add(format: Format, operands: Words<'_>) -> Result<Instr, TextFaultKind>
     ensures { Returns instr_of result (assign_of (sum_value (format_of format)) operands.entry) }
 {
     let (first, second) = operands.two().ok_or(TextFaultKind::BadLine)?;
@@ -221,7 +221,7 @@ fn add(format: Format, operands: Words<'_>) -> Result<Instr, TextFaultKind>
 /// The instruction `tag` with these operands.
 #[inline(never)]
 #[tactic(auto, unfolding(crate::specs::Statements::tag_of, crate::specs::Numbers::word_from))]
-fn tag(format: Format, operands: Words<'_>) -> Result<Instr, TextFaultKind>
+pub(super) fn tag(format: Format, operands: Words<'_>) -> Result<Instr, TextFaultKind>
     ensures { Returns instr_of result (tag_of (format_of format) operands.entry) }
 {
     let word = number(only(operands)?).ok_or(TextFaultKind::BadNumber)?;
@@ -244,17 +244,17 @@ fn thread_id(format: Format, word: &[u8]) -> Result<ThreadId, TextFaultKind>
 fn vs(format: Format, operands: Words<'_>) -> Result<Instr, TextFaultKind>
     ensures { Returns instr_of result (vs_of (format_of format) operands.entry) }
 {
-    Ok(Instr::Vs(thread_id(format, only(operands)?)?))
+    Ok(Instr::Vs(IdFrom::Fixed(thread_id(format, only(operands)?)?)))
 }
 
 /// Where an ipc sends to: an id, or `last`. Else `BadId`.
 #[tactic(auto, unfolding(crate::specs::Statements::destination_of))]
-pub fn destination(format: Format, word: &[u8]) -> Result<To, TextFaultKind>
-    ensures { Returns to_of result (destination_of (format_of format) word.now) }
+pub fn destination(format: Format, word: &[u8]) -> Result<IdFrom, TextFaultKind>
+    ensures { Returns id_from_of result (destination_of (format_of format) word.now) }
 {
     match word {
-        b"last" => Ok(To::Last),
-        _ => Ok(To::Id(thread_id(format, word)?)),
+        b"last" => Ok(IdFrom::Last),
+        _ => Ok(IdFrom::Fixed(thread_id(format, word)?)),
     }
 }
 
@@ -266,7 +266,7 @@ fn ipc(format: Format, operands: Words<'_>) -> Result<Instr, TextFaultKind>
 {
     let (to, from, send, receive) = operands.four().ok_or(TextFaultKind::BadLine)?;
     let to = destination(format, to)?;
-    let from = thread_id(format, from)?;
+    let from = IdFrom::Fixed(thread_id(format, from)?);
     let send = time(send)?;
     let receive = time(receive)?;
     Ok(Instr::Ipc(Ipc::new(to, from, send, receive)))
@@ -293,7 +293,8 @@ fn exregs(format: Format, operands: Words<'_>) -> Result<Instr, TextFaultKind>
 {
     let (target, bits_keyword) = operands.two().ok_or(TextFaultKind::BadLine)?;
     let what = bits(bits_keyword).ok_or(TextFaultKind::BadLine)?;
-    Ok(Instr::Order(thread_id(format, target)?, what))
+    let target = IdFrom::Fixed(thread_id(format, target)?);
+    Ok(Instr::Order(target, what))
 }
 
 /// The instruction `delete` with these operands.
@@ -302,7 +303,7 @@ fn exregs(format: Format, operands: Words<'_>) -> Result<Instr, TextFaultKind>
 fn delete(format: Format, operands: Words<'_>) -> Result<Instr, TextFaultKind>
     ensures { Returns instr_of result (delete_of (format_of format) operands.entry) }
 {
-    let target = thread_id(format, only(operands)?)?;
+    let target = IdFrom::Fixed(thread_id(format, only(operands)?)?);
     Ok(Instr::Order(target, OrderKind::Delete))
 }
 
@@ -332,7 +333,7 @@ fn on_error(operands: Words<'_>) -> Result<Instr, TextFaultKind>
 
 /// The instruction `end`, which has no operands.
 #[inline(never)]
-fn end(mut operands: Words<'_>) -> Result<Instr, TextFaultKind>
+pub(super) fn end(mut operands: Words<'_>) -> Result<Instr, TextFaultKind>
     ensures { Returns instr_of result (end_of operands.entry) }
 {
     match operands.next() {
@@ -344,7 +345,7 @@ fn end(mut operands: Words<'_>) -> Result<Instr, TextFaultKind>
 /// Whether a word is this one. Where the keyword is known, nothing is called, as `==` would.
 #[inline(always)]
 #[tactic(auto, using(crate::proofs::Keywords::other_length, crate::proofs::Keywords::same_byte, crate::proofs::Keywords::other_byte))]
-fn is(word: &[u8], keyword: &[u8]) -> bool
+pub(super) fn is(word: &[u8], keyword: &[u8]) -> bool
     ensures { result ≡ bytes_eq word.now keyword.now }
 {
     if word.len() != keyword.len() {

@@ -1,22 +1,16 @@
 -- What is known of scripts: whom a thread may post to, from each place on.
 use Rattle.std.specs.Prelude.{ℕ, ◌<◌, ◌≤◌, ◌≡◌, Bool, true, false, Some, List, [], length, map, slice_get, slice_index_or}
 use Rattle.std.specs.List.{list_any}
-use Rattle.l4_model.specs.Machine.{Instr, Machine, To, ToId, ToLast, most_instructions}
+use Rattle.l4_model.specs.Machine.{Instr, Machine, most_instructions}
 use Rattle.l4_core_model.specs.Local.{declared}
 use Rattle.l4_persistent.specs.Inner.Posts as posts
-use Rattle.l4_persistent.specs.Inner.Posts.{Aim, At, AtLast, aims_of, has_aim, is_marked, marked_rounds, names, places_behind}
+use Rattle.l4_persistent.specs.Inner.Posts.{Aim, At, AtLast, aims_of, has_aim, is_marked, marked_rounds, places_behind}
 use Rattle.l4_sets.specs.Inner.Sets.{has, most}
 use Rattle.l4_sets.specs.declared.aims.Aimed.{Aimed}
 
 abbrev pub is_aimed : Aimed → Aim → Bool
 is_aimed a (At cpu) = has a.at cpu
 is_aimed a AtLast = a.at_last
-
--- Where a send goes.
-abbrev pub is_sent_to : Machine → To → Aim → Bool
-is_sent_to m (ToId to) (At cpu) = names m cpu to
-is_sent_to m ToLast AtLast = true
-is_sent_to m to aim = false
 
 -- The aim is one that may be known.
 abbrev pub IsBelow : Aim → Type 0
@@ -37,8 +31,8 @@ is_aimed_behind aims i place aim =
 
 -- Of a place all is known that its instruction says, and that is known of the places behind it.
 pub record IsSettledAt (m : Machine) (script : List Instr) (aims : List Aimed) (k : ℕ) : Type 0 where
-  pub own : (i : Instr) (aim : Aim) → slice_get script k ≡ Some i → has_aim m i aim ≡ true →
-      is_aimed (aimed_at aims k) aim ≡ true
+  pub own : (i : Instr) (aim : Aim) → IsBelow aim → slice_get script k ≡ Some i →
+      has_aim m i aim ≡ true → is_aimed (aimed_at aims k) aim ≡ true
   pub behind : (i : Instr) (aim : Aim) → slice_get script k ≡ Some i →
       is_aimed_behind aims i k aim ≡ true → is_aimed (aimed_at aims k) aim ≡ true
 

@@ -5,7 +5,7 @@ use Rattle.std.specs.Option.{option_map}
 use Rattle.l4_model.specs.Words.{GlobalId, Id, NilThread, Period}
 use Rattle.l4_model.specs.Machine.{Instr, Ipc, End}
 use Rattle.l4_model.specs.World.{Context, Message, Receive}
-use Rattle.l4_model.specs.Rules.{register, destination, receive_phase, advanced}
+use Rattle.l4_model.specs.Rules.{register, id_from, receive_phase, advanced}
 use Rattle.l4_types.specs.declared.times.Period.{Period as CodePeriod}
 use Rattle.l4_types.specs.Inner.PeriodView.{period_of, IsTimely}
 use Rattle.l4_types.specs.Ids.{global_of}
@@ -45,8 +45,8 @@ send_phase to message period = Some (to, message, period)
 abbrev pub phases_of : (permitted : Bool) → (sender : GlobalId) → Context → Instr → Phases
 phases_of permitted sender c (Ipc to from send_period receive_period) =
     record {
-      send = send_phase (destination c to) (message_if permitted sender c) send_period;
-      receive = receive_phase from receive_period;
+      send = send_phase (id_from c to) (message_if permitted sender c) send_period;
+      receive = receive_phase (id_from c from) receive_period;
     }
 phases_of permitted sender c _ = record { send = None; receive = None }
 
@@ -109,7 +109,7 @@ is_end _ = false
 
 -- It begins a send phase.
 abbrev pub asks_to_send : Context → Instr → Bool
-asks_to_send c (Ipc to from send_period receive_period) = not (is_nil (destination c to))
+asks_to_send c (Ipc to from send_period receive_period) = not (is_nil (id_from c to))
   where
     is_nil : Id → Bool
     is_nil NilThread = true

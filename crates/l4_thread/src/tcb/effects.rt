@@ -5,7 +5,7 @@ ghost use Rattle.std.specs.Option.{option_map};
 ghost use Rattle.l4_model.specs.Words.{GlobalId as ModelGlobalId, word_of_tag, register_count};
 ghost use Rattle.l4_model.specs.Machine.{Machine};
 ghost use Rattle.l4_model.specs.World.{Name};
-ghost use Rattle.l4_model.specs.Rules.{act, receive_phase};
+ghost use Rattle.l4_model.specs.Rules.{act, id_from, receive_phase};
 ghost use Rattle.l4_model.specs.Effects.{runs, fails, receives, refused, decided, delivered};
 ghost use Rattle.l4_model.specs.Effects.{goes_on, asked, asked_send, asked_receive};
 ghost use Rattle.l4_model.specs.Effects.{has_receive_phase, orders, obeyed, turns};
@@ -16,7 +16,7 @@ ghost use Rattle.l4_types.specs.Ids.{global_of};
 ghost use Rattle.l4_types.specs.Inner.PeriodView.{period_of, IsTimely};
 ghost use Rattle.l4_types.specs.StepView.{order_kind_of};
 ghost use Rattle.l4_types.specs.Inner.LetterView.{decision_of};
-ghost use Rattle.l4_script.specs.Inner.Scripts.{instr_of};
+ghost use Rattle.l4_script.specs.Inner.Scripts.{id_from_of, instr_of};
 ghost use Rattle.l4_thread.specs.Inner.Changes.{change_of, may_advance};
 ghost use Rattle.l4_thread.specs.Inner.Held.{sent_of};
 ghost use Rattle.l4_thread.specs.Inner.Ipcs.{IsPermission, began_of, passes, starts};
@@ -29,7 +29,7 @@ use crate::orders::PendingOrder;
 use crate::phases::{Began, Phase};
 use crate::sends::{Head, Receive, Send, Words};
 use crate::tcb::Tcb;
-use crate::thread::{Thread, receive_phase};
+use crate::thread::Thread;
 use arrayvec::ArrayVec;
 use l4_script::instructions::{Instr, Ipc};
 use l4_types::errors::IpcError;
@@ -144,11 +144,12 @@ impl Tcb {
         requires room { self.old.thread.context.place + 1 < 2 ^ 64 }
         requires count { self.old.thread.context.begun + 1 < 2 ^ 64 }
         ensures { self.new ≡ record self.old {
-          thread = passes (receive_phase ipc.now.from (period_of ipc.now.receive_period))
-              now self.old.thread;
+          thread = passes (receive_phase
+              (id_from self.old.thread.context (id_from_of ipc.now.from))
+              (period_of ipc.now.receive_period)) now self.old.thread;
         } }
     {
-        let receive = receive_of(receive_phase(ipc));
+        let receive = receive_of(self.thread.receive_phase(ipc));
         self.thread.count();
         self.go_on(receive, now);
     }

@@ -11,7 +11,8 @@ use Rattle.l4_condition_lines.proofs.Judging.{lines_alike, lines_read}
 use Rattle.l4_futures.specs.Endings.{IsCutByDepth, IsCutByWorlds, IsWhole}
 use Rattle.l4_futures.specs.Inner.Search.{schedules_of, traces_of}
 use Rattle.l4_always.specs.Always.{AreLookedAt}
-use Rattle.l4_always.proofs.Looking.{by_whole, cut_by, looked_at, met_by_none}
+use Rattle.l4_futures.proofs.Searched.{by_whole, cut_by}
+use Rattle.l4_always.proofs.Looking.{looked_at, met_by_none}
 use Rattle.l4_always.proofs.Saying.{said_by}
 use Rattle.l4_condition_lines.specs.Inner.Reading.{reads_of}
 use Rattle.l4_all_endings.proofs.Leading.{low}

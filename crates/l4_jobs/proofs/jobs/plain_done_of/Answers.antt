@@ -1,4 +1,4 @@
-use Rattle.l4_script.specs.Texts.{machine_of_text}
+use Rattle.l4_script.specs.Versions.{machine_of_text}
 use Rattle.l4_jobs.specs.Outputs.{output_of}
 use Rattle.l4_jobs.proofs.Making.{both_ok, faulty_done}
 use Rattle.l4_jobs.proofs.jobs.plain_done_of.Goals as goal

@@ -1,4 +1,4 @@
-use Rattle.std.proofs.Common.{◌-◌, ◌<◌, length, subst, sym, ap, arith}
+use Rattle.std.proofs.Common.{◌-◌, ◌<◌, length, subst, sym, arith}
 use Rattle.l4_model.specs.Machine.{Declaration, Machine}
 use Rattle.l4_script.specs.Machines.{machine_with}
 use Rattle.l4_script.specs.Inner.Places.{place_by}

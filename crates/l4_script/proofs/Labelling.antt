@@ -1,0 +1,51 @@
+-- Names of ids and of instructions: what may have one, and what a line with one says.
+use Rattle.std.proofs.Common.{◌≡◌, ℕ, Bool, true, false, cond, List, [], ◌∷◌, Option, Some, None, Ok, Err, refl}
+use Rattle.std.specs.Prelude.{◌||◌, not, find, is_none}
+use Rattle.std.specs.Option.{option_map}
+use Rattle.std.specs.Str.{bytes_eq}
+use Rattle.l4_script.specs.declared.text.fault.TextFaultKind.{TextFaultKind}
+use Rattle.l4_script.specs.declared.text.fault.TextFaultKind.TheVariants.{BadLine}
+use Rattle.l4_script.specs.Second.Names.{Named, id_under, is_declared_in}
+use Rattle.l4_script.specs.Second.Statements.{Unplaced, second_instruction_of}
+use Rattle.l4_script.specs.Second.Texts.{Reading, has_script, may_be_labelled, with_label, said_line, labelled_instruction}
+
+-- No id has a name that is not declared.
+pub no_id : (names : List Named) (name : List ℕ) → is_none (id_under names name) ≡ not (is_declared_in names name)
+no_id [] name = refl
+no_id (n ∷ names) name = by (bytes_eq n.name name) (no_id names name)
+  where
+    by : (b : Bool) → is_none (id_under names name) ≡ not (is_declared_in names name)
+        → is_none (option_map (λ (n : Named). n.id) (cond b (Some n) (find (λ n. bytes_eq n.name name) names))) ≡ not (b || is_declared_in names name)
+    by true e = refl
+    by false e = e
+
+module _ (line : ℕ) (label : Option (List ℕ)) (name : List ℕ) (operands : List (List ℕ)) (r : Reading) where
+  pub no_script : has_script r ≡ false → labelled_instruction line label name operands r ≡ Err BadLine
+  no_script script = by label
+    where
+      by : (label : Option (List ℕ)) → labelled_instruction line label name operands r ≡ Err BadLine
+      by None = rw script refl
+      by (Some other) = rw script refl
+
+  pub no_label : (kind : TextFaultKind) → may_be_labelled r label ≡ Err kind → labelled_instruction line label name operands r ≡ Err kind
+  no_label kind e = by label e
+    where
+      by : (label : Option (List ℕ)) → may_be_labelled r label ≡ Err kind → labelled_instruction line label name operands r ≡ Err kind
+      by None e = absurd cc
+      by (Some other) e = rw e refl
+
+  pub no_instruction : (kind : TextFaultKind) → has_script r ≡ true → may_be_labelled r label ≡ Ok tt → second_instruction_of r.format r.names name operands ≡ Err kind
+      → labelled_instruction line label name operands r ≡ Err kind
+  no_instruction kind script may e = by label may
+    where
+      by : (label : Option (List ℕ)) → may_be_labelled r label ≡ Ok tt → labelled_instruction line label name operands r ≡ Err kind
+      by None may = rw (script, e) refl
+      by (Some other) may = rw (may, script, e) refl
+
+  pub said_so : (said : Unplaced) → has_script r ≡ true → may_be_labelled r label ≡ Ok tt → second_instruction_of r.format r.names name operands ≡ Ok said
+      → labelled_instruction line label name operands r ≡ said_line line said (with_label label r)
+  said_so said script may e = by label may
+    where
+      by : (label : Option (List ℕ)) → may_be_labelled r label ≡ Ok tt → labelled_instruction line label name operands r ≡ said_line line said (with_label label r)
+      by None may = rw (script, e) refl
+      by (Some other) may = rw (may, script, e) refl

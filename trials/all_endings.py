@@ -12,6 +12,7 @@ import sys
 
 import endings
 from second import expectations, machines, plain, randoms
+from second.words import spelled
 
 SEED = 20_261_129
 KINDS = (randoms.Conflicts, randoms.HandingOn, randoms.General, randoms.HandingOn, randoms.Serving)
@@ -28,9 +29,15 @@ def limited(*words):
     return [*words, f"--depth={DEPTH}", f"--states={MOST_WORLDS}"]
 
 
-def question(dice, expected):
-    """What is asked of the endings of a machine: a trace now and then."""
+def some_of(dice, threads):
+    """A list of some of these threads."""
+    return ",".join(map(spelled, dice.sample(threads, dice.randint(1, len(threads)))))
+
+
+def question(dice, expected, threads):
+    """What is asked of the endings of a machine with these threads: a trace now and then."""
     words = ["--stuck"] if dice.random() < 0.3 else []
+    words += [f"--rests={some_of(dice, threads)}"] if words and dice.random() < 0.5 else []
     words += [f"{name}={dice.choice(LINES)}" for name in ("--with", "--never") if dice.random() < 0.3]
     if dice.random() < 0.4:
         return limited(*words, f"--trace={dice.choice(NUMBERS)}")
@@ -79,7 +86,7 @@ def compared(program, file, text, dice, counts, expected):
     found = endings.found_in(text, endings.question([file, *limited()]))
     said = same_lines(program, file, text, limited(), found, counts)
     same_ends(text, said, counts)
-    same_lines(program, file, text, question(dice, expected), found, counts)
+    same_lines(program, file, text, question(dice, expected, list(machines.read(text).threads)), found, counts)
     last = said.splitlines()[-1].split(" ")
     counts[f"machines whose search is {last[-1]}"] += 1
     counts["machines that go on for ever"] += "\nno ending: " in "\n" + said

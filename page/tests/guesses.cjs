@@ -12,11 +12,11 @@ const { printedBy } = require("./native.cjs");
 const [, , source, top, each = "1"] = process.argv;
 const MOST_ITEMS = 20; // of a list
 
-const NAMES = ["machineOf", "saidOf", "reportOf", "endingsOf", "linesOf", "toldOf", "listOf", "placesOf", "toldOfChart", "nextOf", "possibleOf"];
+const NAMES = ["machineOf", "reportOf", "endingsOf", "linesOf", "toldOf", "listOf", "placesOf", "toldOfChart", "nextOf", "possibleOf"];
 const scope = vm.createContext({ console });
 const parts = ["reading.js", "possible.js"].map((name) => fs.readFileSync(path.join(__dirname, "..", "parts", name), "utf8"));
 vm.runInContext(`${parts.join("\n")}\nglobalThis.parts = { ${NAMES.join(", ")} };`, scope);
-const { machineOf, saidOf, reportOf, endingsOf, linesOf, toldOf, listOf, placesOf, toldOfChart, nextOf, possibleOf } = scope.parts;
+const { machineOf, reportOf, endingsOf, linesOf, toldOf, listOf, placesOf, toldOfChart, nextOf, possibleOf } = scope.parts;
 
 const folder = path.join(top, "crates", "l4_cases", "data");
 const textsOf = (at) => fs.readdirSync(at).filter((name) => name.endsWith(".l4")).sort().map((name) => path.join(at, name));
@@ -126,7 +126,7 @@ async function triesPlaces({ before, name, text, ask, counts }) {
     const report = reportOf((await ask([...replay, "--report", "--waits"], before)).out);
     for (const { id, line } of placesOf(machineOf(text), told)) {
         const { state } = report.byId.get(id);
-        const { words } = saidOf(line ? text.split("\n")[line - 1] : "");
+        const words = line ? text.split("\n")[line - 1].split(" ") : [];
         counts.places += 1;
         if (fits(state, words)) continue;
         counts.wrong += 1;

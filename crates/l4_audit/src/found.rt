@@ -122,10 +122,10 @@ impl<'a> Found<'a> {
         ensures within { is_end (instr_of result) ≡ false →
             self.now.now.context.place < most_instructions }
     {
-        match self.declared.instruction(self.tcb.thread().place()) {
-            Some(instr) => *instr,
-            None => Instr::End,
-        }
+        self.declared
+            .instruction(self.tcb.thread().place())
+            .copied()
+            .unwrap_or(Instr::End)
     }
 
     // The id that its instruction names.

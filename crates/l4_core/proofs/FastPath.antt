@@ -402,7 +402,7 @@ pub fast_does : (p q u : Processor) (r i : ℕ) (before after : EventBuffer) (d 
     d.name ≡ next_name p.machine p.local i → d.receiver ≡ (declared p.machine r).id → d.message ≡ outgoing (declared p.machine i).id (thread p.local i) → d.cross ≡ false → tag ≡ received_tag d.cross d.message →
     after ≡ with_sent d before →
     q ≡ with_local p (comes_to r (receives (outgoing (declared p.machine i).id (thread p.local i)) tag) p.local) →
-    u ≡ with_local q (comes_to i (passes (receive_phase (id_from (thread q.local i).context from) receive_period) q.local.clock) q.local) →
+    u ≡ with_local q (comes_to i (passes (receive_phase (id_from (thread p.local i).context from) receive_period) q.local.clock) q.local) →
     Does (acts p.machine p.cpu i (act_of p.machine (held p.machine p.local i))) p u before after
 fast_does p q u r i before after d tag to from send_period receive_period core own hand instr fast named goes carries crossing tagged tells passed went =
     let m : Machine = p.machine in
@@ -447,9 +447,7 @@ fast_does p q u r i before after d tag to from send_period receive_period core o
     let arrived : q ≡ with_local p (comes_to r (receives message whole) l) =
     passed ∙ ap (λ n. with_local p (comes_to r (receives n tag) l)) sent ∙ ap (λ t. with_local p (comes_to r (receives message t) l)) tag_is in
     let gone : u ≡ with_local p (comes_to i (passes receive l.clock) (comes_to r (receives message whole) l)) =
-    went
-    ∙ ap (λ (t : Thread). with_local q (comes_to i (passes (receive_phase (id_from t.context from) receive_period) q.local.clock) q.local)) (same_sender p q r i (outgoing id (thread l i)) tag apart passed)
-    ∙ ap (λ (x : Processor). with_local x (comes_to i (passes receive x.local.clock) x.local)) arrived in
+    went ∙ ap (λ (x : Processor). with_local x (comes_to i (passes receive x.local.clock) x.local)) arrived in
     let does_it : acts m p.cpu i (act_of m (held m l i)) (work l before) ≡ passes_fast m r i message whole receive (work l before) =
     ap (λ j. acts m p.cpu i (act m id l.clock c j) (work l before)) (sym instr)
     ∙ ap (λ a. acts m p.cpu i a (work l before)) (sends_there m id l.clock c there send_period receive r takes.goes)

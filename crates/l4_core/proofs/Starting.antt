@@ -1,7 +1,7 @@
 -- An ipc begins its first phase.
 use Rattle.std.proofs.Common.{◌≡◌, ℕ, zero, suc, ◌<◌, Bool, true, false, cond, is_some, [], ◌∷◌, inl, List, map, length, get_or, set, refl, ap, sym, ◌∙◌, subst, arith}
 use Rattle.std.specs.Prelude.{slice_index_or, IsSome}
-use Rattle.l4_model.specs.Words.{GlobalId, Id, NilThread, AnyThread, AnyLocalThread, LocalThread, GlobalThread, Period}
+use Rattle.l4_model.specs.Words.{GlobalId, Id, NilThread, AnyThread, AnyLocalThread, LocalThread, GlobalThread}
 use Rattle.l4_model.specs.Machine as model
 use Rattle.l4_model.specs.Machine.{Declaration, Machine, Instr}
 use Rattle.l4_model.specs.World.{Context, Receive, Send, Thread, Ready, changed, is_deleted}
@@ -15,7 +15,7 @@ use Rattle.l4_core_model.specs.Local.{Local, declared, undeclared, thread, held,
 use Rattle.l4_thread.specs.Inner.Parts.{Block}
 use Rattle.l4_thread.specs.declared.phases.Began.{Began}
 use Rattle.l4_thread.specs.declared.phases.Began.TheVariants.{Nothing}
-use Rattle.l4_thread.specs.Inner.Ipcs.{IsPermission, passes, starts, began_of}
+use Rattle.l4_thread.specs.Inner.Ipcs.{IsPermission, starts, began_of}
 use Rattle.l4_thread.proofs.Asking.{shows_if, shown_originator}
 use Rattle.l4_core.specs.Processor.{Processor, with_local}
 use Rattle.l4_core.specs.Inner.Parts.{ids_of}
@@ -162,11 +162,3 @@ nothing_begun p i (Sends send) h = cc
 nothing_begun p i (Receives receive) h = cc
 nothing_begun p i RunsAlone h = refl
 nothing_begun p i (Orders order) h = refl
-
--- A thread that passes receives from whom the processor knows that its instruction names.
-pub passes_as : (s : Inside) (i : ℕ) (old new : Block) (from : model.IdFrom) (period : Period) → Kept s → i < length s.machine.now.threads → old ≡ get_or s.threads.items i old →
-    new ≡ record { id = old.id; thread = passes (receive_phase (id_from old.thread.context from) period) s.clock old.thread } →
-    new ≡ record { id = old.id; thread = passes (receive_phase (id_from (thread (state s) i).context from) period) s.clock old.thread }
-passes_as s i old new from period k lt at is =
-    is
-    ∙ ap (λ (t : Thread). record { id = old.id; thread = passes (receive_phase (id_from t.context from) period) s.clock old.thread }) (block_thread s i old k lt at)

@@ -3,6 +3,7 @@ use Rattle.std.proofs.Common.{◌≡◌, ℕ, false, Some, [], refl, ap, sym, �
 use Rattle.std.specs.Prelude.{slice_get}
 use Rattle.l4_core_model.specs.Plain as plain
 use Rattle.l4_core_model.specs.Local.{Local, relists}
+use Rattle.l4_core_model.specs.Turns.{choice}
 use Rattle.tcb_arena.specs.Inner.Blocks.{is_ready as is_ready_in}
 use Rattle.l4_core.specs.declared.processor.Choice.{Choice}
 use Rattle.l4_core.specs.declared.processor.Choice.TheVariants.{ByDuty, ByDue, ByReady}

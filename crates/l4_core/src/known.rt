@@ -7,7 +7,7 @@ ghost use Rattle.l4_model.specs.Machine.{End, place_of, is_place, same_space, mo
 ghost use Rattle.l4_model.specs.Machine.{most_threads, most_instructions};
 ghost use Rattle.l4_model.specs.World.{Send, is_deleted, opening_thread, receive_now};
 ghost use Rattle.l4_model.specs.Conditions.{instruction};
-ghost use Rattle.l4_model.specs.Rules.{accepts, ask_act, id_from, originator};
+ghost use Rattle.l4_model.specs.Rules.{accepts, ask_act, originator};
 ghost use Rattle.l4_model.specs.Words.{period_limit};
 ghost use Rattle.l4_types.specs.StepView.{order_kind_of};
 ghost use Rattle.l4_script.specs.Inner.Scripts.{id_from_of, instr_of};

@@ -1,7 +1,7 @@
 -- What a search for all endings is asked, what it prints, and its faults.
 use Rattle.std.specs.Prelude.{◌≡◌, ℕ, not, Option, None, Some, Result, Ok, Err, List, []}
 use Rattle.std.specs.Borrow.{Bor}
-use Rattle.std.specs.Option.{option_map}
+use Rattle.std.specs.Option.{option_copied, option_map}
 use Rattle.l4_model.specs.Machine.{Machine}
 use Rattle.l4_chart.specs.Listings.{listing_of}
 use Rattle.l4_chart.specs.declared.whole.TextForm.{TextForm}
@@ -25,7 +25,7 @@ use Rattle.l4_commands.specs.declared.job.Scheduler.TheVariants.{Any, Placed}
 use Rattle.l4_commands.specs.declared.job.TextChart.{TextChart}
 use Rattle.l4_commands.specs.declared.job.Wanted.{Wanted as Asked}
 use Rattle.l4_commands.specs.declared.job.Wanted.TheVariants as asked
-use Rattle.l4_jobs.specs.ChartJobs.{text_width}
+use Rattle.l4_jobs.specs.ChartJobs.{chosen_threads, fault_of_threads, text_width}
 use Rattle.l4_jobs.specs.FaultLines.{fault_line}
 use Rattle.l4_jobs.specs.Outputs.{Output}
 use Rattle.l4_jobs.specs.declared.fault.Fault.{Fault}
@@ -42,6 +42,7 @@ question_of e = record {
   states = e.states;
   memory = e.memory;
   stuck = e.stuck;
+  rests = e.rests;
   with_line = e.with_line;
   never = e.never;
   wanted = wanted_of e.wanted;
@@ -67,6 +68,10 @@ abbrev pub IsAnswerBy : Scheduler → Machine → Question → Shown →
 IsAnswerBy Any = IsAnyAnswer
 IsAnswerBy Placed = IsPlacedAnswer
 
+-- The threads that may rest are threads of the machine.
+abbrev pub fault_of_rests : Machine → EndingsJob → Option Fault
+fault_of_rests m e = fault_of_threads (chosen_threads m (option_copied e.rests))
+
 -- It is printed, and with each ending a chart and who waits for whom, where these are asked for, of the
 -- machine that a text declares. Each ending that is printed has to meet what is expected.
 pub record IsAnswerDone (search : EndingsJob) (text : List ℕ) (m : Machine)
@@ -74,6 +79,7 @@ pub record IsAnswerDone (search : EndingsJob) (text : List ℕ) (m : Machine)
   pub answered :
       IsAnswerBy search.scheduler m (question_of search) (shown_of text search) expected o.lines
       o.said o.status
+  pub known : fault_of_rests m search ≡ None
   pub unrecorded : o.list ≡ None
 
 -- A trace is printed, or else it is told that no ending has the number.
@@ -88,6 +94,7 @@ pub record IsTraceDone (search : EndingsJob) (m : Machine) (number : ℕ) (o : O
   pub trace : Option (List ℕ)
   pub answered : IsAnyTrace m (question_of search) number trace
   pub out : IsTraceOut trace o
+  pub known : fault_of_rests m search ≡ None
   pub unrecorded : o.list ≡ None
 
 abbrev pub IsDoneBy : (trace : Option ℕ) → EndingsJob → (text : List ℕ) → Machine →
@@ -120,7 +127,7 @@ abbrev pub IsSearchDone : EndingsJob → (text : List ℕ) → Machine → Optio
     Output → Type 0
 IsSearchDone search text m expected o = IsSearchDoneBy search.always search text m expected o
 
--- The faults of a search: of its condition, and then of its limits.
+-- The faults of a search: of its condition or of the threads that may rest, and then of its limits.
 
 abbrev pub fault_of_question : QuestionFault → Fault
 fault_of_question question.NoMemory = fault.NoMemory
@@ -139,9 +146,16 @@ abbrev pub fault_before : Result (List (List ℕ)) ExpectFault → Option Fault 
 fault_before (Err f) other = Some (fault_of_condition f)
 fault_before (Ok asked) other = other
 
-abbrev pub fault_by : (condition : Option (Bor (List ℕ))) → Option Fault → Option Fault
-fault_by None other = other
-fault_by (Some condition) other = fault_before (condition_of condition.now) other
+abbrev pub first_fault : Option Fault → Option Fault → Option Fault
+first_fault None other = other
+first_fault (Some f) other = Some f
 
-abbrev pub fault_of_search : EndingsJob → Option Fault
-fault_of_search e = fault_by e.always (fault_of_limits e)
+abbrev pub fault_of_endings : Machine → EndingsJob → Option Fault
+fault_of_endings m e = first_fault (fault_of_rests m e) (fault_of_limits e)
+
+abbrev pub fault_by : (condition : Option (Bor (List ℕ))) → Machine → EndingsJob → Option Fault
+fault_by None m e = fault_of_endings m e
+fault_by (Some condition) m e = fault_before (condition_of condition.now) (fault_of_limits e)
+
+abbrev pub fault_of_search : Machine → EndingsJob → Option Fault
+fault_of_search m e = fault_by e.always m e

@@ -5,8 +5,9 @@ ghost use Rattle.l4_jobs.specs.Outputs.{output_of};
 ghost use Rattle.l4_expect.specs.Conditions.{condition_of};
 ghost use Rattle.l4_jobs.specs.Searches.{IsAnswerBy, IsAnswerDone, IsSearchDone, IsTraceDone};
 ghost use Rattle.l4_jobs.specs.Searches.{IsTraceOut, IsVerdictDone, IsVerdictOut, asked_chart};
-ghost use Rattle.l4_jobs.specs.Searches.{fault_before};
-ghost use Rattle.l4_jobs.specs.Searches.{fault_of_limits, fault_of_search, question_of, text_form};
+ghost use Rattle.l4_jobs.specs.Searches.{fault_before, fault_of_endings, fault_of_limits};
+ghost use Rattle.l4_jobs.specs.Searches.{fault_of_rests, fault_of_search, question_of, text_form};
+ghost use Rattle.l4_jobs.specs.Searches.{IsDoneBy};
 ghost use Rattle.l4_jobs.specs.Searches.{wanted_of};
 ghost use Rattle.l4_jobs.specs.declared.fault.Fault.{Fault as ModelFault};
 ghost use Rattle.l4_jobs.specs.declared.fault.Fault.TheVariants.{NoMemory as OutOfMemory};
@@ -15,7 +16,7 @@ ghost use Rattle.l4_questions.specs.Beside.{chart_as, shown_as};
 ghost use Rattle.l4_questions.specs.Limits.{question_fault};
 ghost use Rattle.l4_questions.specs.declared.question.QuestionFault.TheVariants.{NoMemory as NoMemoryFor};
 
-use crate::charts::text_width;
+use crate::charts::{listed_threads, text_width};
 use crate::done::Done;
 use crate::fault::{Fault, line_of};
 use crate::job::{EndingsJob, Scheduler, TextChart, Wanted as Asked};
@@ -49,6 +50,7 @@ pub(crate) fn question_of<'a>(search: &EndingsJob<'a>) -> Question<'a>
         states: search.states,
         memory: search.memory,
         stuck: search.stuck,
+        rests: search.rests,
         with_line: search.with_line,
         never: search.never,
         wanted: wanted_of(search.wanted),
@@ -143,6 +145,7 @@ fn answer_done<'a, P: Progress>(
     expected: Option<&Expectations<'_>>,
     progress: &mut P,
 ) -> Result<Done<'a>, Fault<'a>>
+    requires { fault_of_rests machine.now search.now ≡ None }
     ensures ok { IfOk result (λ done.
         IsAnswerDone search.now text.now machine.now (option_copied expected.entry)
         (output_of done)) }
@@ -199,6 +202,7 @@ fn trace_done<'a, P: Progress>(
     number: u64,
     progress: &mut P,
 ) -> Result<Done<'a>, Fault<'a>>
+    requires { fault_of_rests machine.now search.now ≡ None }
     ensures ok { IfOk result (λ done.
         IsTraceDone search.now machine.now number (output_of done)) }
     ensures err { IfErr result (λ fault. (fault ≡ OutOfMemory) ⊎
@@ -207,6 +211,43 @@ fn trace_done<'a, P: Progress>(
     let question = question_of(search);
     let trace = asked_trace(alloc, machine, &question, number, progress)?;
     Ok(trace_out(alloc, trace)?)
+}
+
+// Judges the list of threads that may rest.
+fn judge_rests<'a>(
+    alloc: Global,
+    machine: &Machine,
+    search: &EndingsJob<'_>,
+) -> Result<(), Fault<'a>>
+    ensures ok { IfOk result (λ _. fault_of_rests machine.now search.now ≡ None) }
+    ensures err { IfErr result (λ fault. (fault ≡ OutOfMemory) ⊎
+        (fault_of_rests machine.now search.now ≡ Some fault)) }
+{
+    match listed_threads(alloc, machine, search.rests) {
+        Ok(_) => Ok(()),
+        Err(fault) => Err(fault),
+    }
+}
+
+// What a search for endings comes to.
+fn endings_done<'a, P: Progress>(
+    alloc: Global,
+    text: &[u8],
+    machine: &Machine,
+    search: &EndingsJob<'_>,
+    expected: Option<&Expectations<'_>>,
+    progress: &mut P,
+) -> Result<Done<'a>, Fault<'a>>
+    ensures ok { IfOk result (λ done. IsDoneBy search.now.trace search.now text.now machine.now
+        (option_copied expected.entry) (output_of done)) }
+    ensures err { IfErr result (λ fault. (fault ≡ OutOfMemory) ⊎
+        (fault_of_endings machine.now search.now ≡ Some fault)) }
+{
+    judge_rests(alloc, machine, search)?;
+    match search.trace {
+        None => answer_done(alloc, text, machine, search, expected, progress),
+        Some(number) => trace_done(alloc, machine, search, number, progress),
+    }
 }
 
 // The condition of a text.
@@ -278,11 +319,10 @@ pub(crate) fn search_done<'a, P: Progress>(
         IsSearchDone search.now text.now machine.now (option_copied expected.entry)
         (output_of done)) }
     ensures err { IfErr result (λ fault. (fault ≡ OutOfMemory) ⊎
-        (fault_of_search search.now ≡ Some fault)) }
+        (fault_of_search machine.now search.now ≡ Some fault)) }
 {
-    match (search.always, search.trace) {
-        (Some(condition), _) => condition_done(alloc, machine, search, condition, progress),
-        (None, None) => answer_done(alloc, text, machine, search, expected, progress),
-        (None, Some(number)) => trace_done(alloc, machine, search, number, progress),
+    match search.always {
+        Some(condition) => condition_done(alloc, machine, search, condition, progress),
+        None => endings_done(alloc, text, machine, search, expected, progress),
     }
 }

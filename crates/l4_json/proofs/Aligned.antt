@@ -1,4 +1,4 @@
--- The lines of instructions that a text with scripts of version 1 has, beside those of its machine.
+-- The lines of instructions that a text has, beside those of its machine.
 use Rattle.std.proofs.Common.{◌≡◌, ℕ, ◌+◌, ◌-◌, ◌<◌, Bool, true, false, cond, List, [], ◌∷◌, ◌++◌, append_assoc, drop, get_or, length, map, set, Option, Some, None, Result, Ok, Err, refl, sym, ap, subst, ◌∙◌, arith}
 use Rattle.std.specs.Prelude.{◌==◌, codes, find, nat_lt}
 use Rattle.std.specs.Str.{bytes_eq}
@@ -13,13 +13,13 @@ use Rattle.l4_script.specs.Judged.{Judged, ◌>>=◌, must}
 use Rattle.l4_script.specs.Lines.{after, has_empty_word, is_printable, is_skipped, line_of}
 use Rattle.l4_script.specs.Machines.{extended, last_place, last_thread, with_instruction, with_thread}
 use Rattle.l4_script.specs.Statements.{Heading, declaration_of, declare, extend, format_line, instruction_of, processors_line}
-use Rattle.l4_script.specs.Texts.{Reading, Stage, Start, Processors, Threads, Target, after_line, after_said, after_words, declared_in, ended, first_machine_of_text, is_missed, judged_at, naming, nothing_read, read, targets_of, thread_line, unless_missed}
+use Rattle.l4_script.specs.Texts.{Reading, Stage, Start, Processors, Threads, Target, after_line, after_said, after_words, declared_in, ended, is_missed, judged_at, naming, nothing_read, read, targets_of, thread_line, unless_missed}
 use Rattle.l4_script.proofs.AcceptedLines.{declaration_said}
 use Rattle.l4_script.proofs.Judging.{bind_ok, then_ok, must_ok, same_ok, chosen, says}
 use Rattle.l4_words.specs.Lines.{parts_of}
 use Rattle.l4_words.specs.Words.{words_in}
 use Rattle.l4_json.specs.Lines.{all_but_last}
-use Rattle.l4_json.specs.Scripts.{begins_with_thread, declares_thread, first_script_lines, groups}
+use Rattle.l4_json.specs.Scripts.{EachHasLine, begins_with_thread, declares_thread, groups}
 
 abbrev size : Declaration → ℕ
 size d = length d.script
@@ -248,10 +248,10 @@ but_one : (gs : List (List ℕ)) → map length (drop 1 gs) ≡ drop 1 (map leng
 but_one [] = refl
 but_one (g ∷ gs) = refl
 
-pub first_aligned : (text : List ℕ) (m : Machine) → first_machine_of_text text ≡ Ok m → map length (first_script_lines (all_but_last (parts_of text))) ≡ sizes m.threads
+pub each_has_line : EachHasLine
 unfolding IsAligned
-first_aligned text m e =
-    chosen (map length (first_script_lines (all_but_last (parts_of text))) ≡ sizes m.threads) (nat_lt 0x100000 (length text)) (Err (fault_at 0 TooLong)) (read (parts_of text) Start 1) (Ok m) e
+each_has_line text m e =
+    chosen (map length (drop 1 (groups (all_but_last (parts_of text)) 1 [])) ≡ sizes m.threads) (nat_lt 0x100000 (length text)) (Err (fault_at 0 TooLong)) (read (parts_of text) Start 1) (Ok m) e
     (λ t e. absurd cc)
     (λ e.
     let all = aligned (parts_of text) Start 1 [] [] m refl e in

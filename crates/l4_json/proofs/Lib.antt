@@ -1,4 +1,3 @@
-mod Adding
 mod Again
 mod Aligned
 mod Escapes
@@ -7,5 +6,4 @@ mod Fitting
 mod Going
 mod Objects
 pub mod Reading
-mod SecondAligned
 mod Texts

@@ -5,13 +5,10 @@ use Rattle.std.proofs.lemmas.List.{append_assoc}
 use Rattle.std.proofs.lemmas.List.Splits.{length-slice_split}
 use Rattle.l4_model.specs.Machine.{Machine}
 use Rattle.l4_words.specs.Lines.{parts_of}
-use Rattle.l4_script.specs.Second.Texts.{Stage}
-use Rattle.l4_lint.specs.Doubts.{Doubtful, begun_behind, doubts_from, line_doubts, second_doubts_from, second_line_doubts, stage_behind, thread_after, thread_at}
-use Rattle.l4_lint.specs.Lines.{lines_of, without_last}
-use Rattle.l4_lint.specs.Second.Parts.{parts_of as parts_in_line}
+use Rattle.l4_lint.specs.Doubts.{Doubtful, begun_behind, doubts_from, line_doubts, lines_of, thread_after, without_last}
 
 -- The first line of a text comes before the lines of what follows it.
-pub first_line : (line rest text : List ℕ) → parts_of text ≡ line ∷ parts_of rest →
+first_line : (line rest text : List ℕ) → parts_of text ≡ line ∷ parts_of rest →
     lines_of text ≡ line ∷ lines_of rest
 first_line line rest text is =
     ap without_last is
@@ -35,21 +32,5 @@ one_more m begun number found new whole line rest text is adds all =
     ap (λ (all : List Doubtful). all ++ behind) adds
     ∙ append_assoc found here behind
     ∙ ap (λ (lines : List (List ℕ)). found ++ doubts_from m lines begun number)
-    (sym (first_line line rest text is))
-    ∙ all
-
-pub one_more_of_second : (m : Machine) (stage : Stage) (number : ℕ) (found new whole : List Doubtful)
-    (line rest text : List ℕ) → parts_of text ≡ line ∷ parts_of rest →
-    new ≡ found ++
-    second_line_doubts m (thread_at m (stage_behind number stage line)) number (parts_in_line line) →
-    found ++ second_doubts_from m (lines_of text) stage number ≡ whole →
-    new ++ second_doubts_from m (lines_of rest) (stage_behind number stage line) (number + 1) ≡ whole
-one_more_of_second m stage number found new whole line rest text is adds all =
-    let after = stage_behind number stage line in
-    let here = second_line_doubts m (thread_at m after) number (parts_in_line line) in
-    let behind = second_doubts_from m (lines_of rest) after (number + 1) in
-    ap (λ (all : List Doubtful). all ++ behind) adds
-    ∙ append_assoc found here behind
-    ∙ ap (λ (lines : List (List ℕ)). found ++ second_doubts_from m lines stage number)
     (sym (first_line line rest text is))
     ∙ all

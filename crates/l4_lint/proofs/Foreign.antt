@@ -4,10 +4,10 @@ use Rattle.std.specs.Prelude.{◌==◌, is_some, not, ◌&&◌}
 use Rattle.std.specs.List.{list_any}
 use Rattle.std.proofs.lemmas.Bool.{and_parts, not-true, or_from}
 use Rattle.std.proofs.lemmas.Bool.Decides.{nat_tests}
-use Rattle.l4_model.specs.Words.{GlobalId, Id, NilThread, AnyThread, AnyLocalThread, LocalThread, GlobalThread, same_id}
+use Rattle.l4_model.specs.Words.{GlobalId, Id, NilThread, AnyThread, AnyLocalThread, LocalThread, GlobalThread, Period, same_id}
 use Rattle.l4_model.specs.Machine.{Machine, Declaration, Instr, Run, Ipc, Ask, End, OrderKind, CancelSend, CancelReceive, CancelBoth, Delete, agree, declaration_of, same_space}
 use Rattle.l4_model.specs.World.{World, PendingOrder, Context, opening}
-use Rattle.l4_model.specs.Rules.{act, ask_act, id_from, is_admitted, permitted, receive_phase, Orders, RunsAlone}
+use Rattle.l4_model.specs.Rules.{act, ask_act, destination, is_admitted, ipc_act, permitted, receive_phase, Orders, RunsAlone}
 use Rattle.l4_model.specs.Steps.{Step, Order, next, order_kind_code, order_of}
 use Rattle.l4_model.specs.History.{run, reached}
 use Rattle.l4_model.proofs.Chains.{bind_then, some_is}
@@ -46,10 +46,10 @@ ask_admitted m caller (GlobalThread t) what order h = by (is_admitted m caller t
 
 act_admitted : (m : Machine) (id : GlobalId) (now : ℕ) (c : Context) (i : Instr) (order : PendingOrder) → order_of (act m id now c i) ≡ Some order →
     is_admitted m id order.target order.what ≡ true
-act_admitted m id now c (Ask target what) order h = ask_admitted m id (id_from c target) what order h
+act_admitted m id now c (Ask target what) order h = ask_admitted m id target what order h
 act_admitted m id now c (Ipc to from send_period receive_period) order h =
     absurd (no_order (order_of (act m id now c (Ipc to from send_period receive_period))) order
-    (ipc_orders_nothing m id now c (id_from c to) send_period (receive_phase (id_from c from) receive_period)) h)
+    (ipc_orders_nothing m id now c (destination c to) send_period (receive_phase from receive_period)) h)
   where
     no_order : (o : Option PendingOrder) (order : PendingOrder) → o ≡ None → o ≡ Some order → ⊥
     no_order o order e f = cc

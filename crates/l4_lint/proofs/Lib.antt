@@ -2,11 +2,8 @@ pub mod Changes
 pub mod Doubting
 pub mod First
 pub mod Foreign
-pub mod Joining
-pub mod Looking
 pub mod Named
 pub mod Never
-pub mod SecondSteps
 pub mod Silent
 pub mod Sizes
 pub mod Steps

@@ -16,7 +16,7 @@ use Rattle.l4_model.proofs.Chains.{bind_then, some_is}
 use Rattle.l4_model.proofs.Inversions.{DeliverTaken, deliver_taken}
 use Rattle.l4_model.proofs.Places.{same_id_is, known_send, eqb_same}
 use Rattle.l4_model.proofs.Requests.{message_short}
-use Rattle.l4_script.specs.Canonical.{is_register}
+use Rattle.l4_script.specs.Canonical.{can_be_assigned, can_be_written, is_register}
 use Rattle.l4_lint.specs.Always.{delivers_register, delivers_propagated}
 use Rattle.l4_lint.specs.Doubts.{uses, may_receive, is_taken_from, names_originator, asks_to_propagate}
 use Rattle.l4_lint.proofs.Changes.{Each, step_each, sender_fact}
@@ -72,11 +72,6 @@ receives_nothing (Fixed (GlobalThread t)) h = cc
 receives_nothing Last h = cc
 receives_nothing (InRegister format a) h = cc
 
--- An instruction writes no register below the first.
-abbrev pub writes_above : Instr → Bool
-writes_above (Run (Assign a value)) = is_register a
-writes_above _ = true
-
 written_above : (a : ℕ) → is_register a ≡ true → 0 < a
 written_above a h = let le : 1 ≤ a = leb-true 1 a (and_parts (nat_le 1 a) (nat_le a last_register) h).0 in omega (arith, le)
 
@@ -88,34 +83,34 @@ Below r d tag actual = tag % 64 < r
 abbrev Short : ℕ → Declaration → Message → Type 0
 Short r d message = length message.words < r
 
-uses_allows : (r : ℕ) (d : Declaration) (i : Instr) → uses r i ≡ false → writes_above i ≡ true → Allows (Below r d) i
-uses_allows r d (Run (Assign a value)) u w = written_above a w
-uses_allows r d (Tag word) u w = λ tag actual h. let lt : word % 64 < r = leb-false r (word % 64) u in lt
-uses_allows r d (Vs from) u w = λ tag actual h c. h
-uses_allows r d (Ipc to from send_period receive_period) u w =
+uses_allows : (f : Format) (size r : ℕ) (d : Declaration) (i : Instr) → uses r i ≡ false → can_be_written f size i ≡ true → Allows (Below r d) i
+uses_allows f size r d (Run (Assign a value)) u w = written_above a (and_parts (is_register a) (can_be_assigned f value) w).0
+uses_allows f size r d (Tag word) u w = λ tag actual h. let lt : word % 64 < r = leb-false r (word % 64) u in lt
+uses_allows f size r d (Vs from) u w = λ tag actual h c. h
+uses_allows f size r d (Ipc to from send_period receive_period) u w =
     receives_nothing from (or_parts (may_receive from) (is_taken_from r to) u).0
-uses_allows r d (Ask target what) u w = tt
-uses_allows r d (Jump place) u w = tt
-uses_allows r d (OnErr place) u w = tt
-uses_allows r d (OnLabel label place) u w = tt
-uses_allows r d (OnWord a word place) u w = tt
-uses_allows r d (OnFrom id place) u w = tt
-uses_allows r d End u w = tt
+uses_allows f size r d (Ask target what) u w = tt
+uses_allows f size r d (Jump place) u w = tt
+uses_allows f size r d (OnErr place) u w = tt
+uses_allows f size r d (OnLabel label place) u w = tt
+uses_allows f size r d (OnWord a word place) u w = tt
+uses_allows f size r d (OnFrom id place) u w = tt
+uses_allows f size r d End u w = tt
 
-register_closed : (m : Machine) (r : ℕ) (d : Declaration) → 0 < r → list_any (uses r) d.script ≡ false →
-    list_all writes_above d.script ≡ true → IsClosed m d (Below r d) (Short r d)
-register_closed m r d some none all =
+register_closed : (m : Machine) (f : Format) (size r : ℕ) (d : Declaration) → 0 < r → list_any (uses r) d.script ≡ false →
+    list_all (can_be_written f size) d.script ≡ true → IsClosed m d (Below r d) (Short r d)
+register_closed m f size r d some none all =
     record {
-      each = each_allowed (Below r d) (uses r) writes_above d.script (uses_allows r d) none all;
+      each = each_allowed (Below r d) (uses r) (can_be_written f size) d.script (uses_allows f size r d) none all;
       fresh = omega (arith, some);
       zero = λ tag actual h. omega (arith, some);
       error = λ tag actual h. omega (arith, some);
       message = λ c h. omega (arith, h, length-take (register c 0 % 64) (drop 1 c.words));
     }
 
-pub never_delivers_register : (m : Machine) (i r : ℕ) (d : Declaration) (h : List Step) (w : World) → IsPlaced m i d →
-    list_any (uses r) d.script ≡ false → list_all writes_above d.script ≡ true → reached m h ≡ Some w → list_any (delivers_register r d.id) h ≡ false
-never_delivers_register m i r d h w placed none all reach =
+pub never_delivers_register : (m : Machine) (f : Format) (size i r : ℕ) (d : Declaration) (h : List Step) (w : World) → IsPlaced m i d →
+    list_any (uses r) d.script ≡ false → list_all (can_be_written f size) d.script ≡ true → reached m h ≡ Some w → list_any (delivers_register r d.id) h ≡ false
+never_delivers_register m f size i r d h w placed none all reach =
     run_never m (Below r) (Short r) (delivers_register r d.id) step h (opening m) w reach (opening_silent m (Below r) (Short r))
   where
     delivery : (w v : World) (s : Name) (receiver shown actual : GlobalId) (tag : ℕ) (words : List ℕ) → DeliverTaken m w v s receiver shown actual tag words →
@@ -126,7 +121,7 @@ never_delivers_register m i r d h w placed none all reach =
         let some : 0 < r = ltb-true 0 r lt in
         let long : r ≤ length words = leb-true r (length words) le in
         let short : length k.p.send.message.words < r =
-        its_message m (Below r) (Short r) i d w v s receiver shown actual tag words placed (register_closed m r d some none all) thread k each in
+        its_message m (Below r) (Short r) i d w v s receiver shown actual tag words placed (register_closed m f size r d some none all) thread k each in
         let same : length words ≡ length k.p.send.message.words = ap length ((bytes_eq-Decides words k.p.send.message.words).0 k.same_words) in
         absurd (omega (arith, long, short, same))
 
@@ -150,21 +145,21 @@ is_none : {A : Type 0} (o : Option A) → is_some o ≡ false → o ≡ None
 is_none None h = refl
 is_none (Some x) h = cc
 
-names_allows : (m : Machine) (d : Declaration) (i : Instr) → names_originator m d.id i ≡ false → writes_above i ≡ true →
+names_allows : (m : Machine) (d : Declaration) (f : Format) (size : ℕ) (i : Instr) → names_originator m d.id i ≡ false → can_be_written f size i ≡ true →
     Allows (Unnamed m d) i
-names_allows m d (Run (Assign a value)) u w = written_above a w
-names_allows m d (Tag word) u w = λ tag actual h. h
-names_allows m d (Vs (Fixed id)) u w = λ tag actual h c. is_none (permitted m d.id id) u
-names_allows m d (Vs Last) u w = cc
-names_allows m d (Vs (InRegister format a)) u w = cc
-names_allows m d (Ipc to from send_period receive_period) u w = receives_nothing from u
-names_allows m d (Ask target what) u w = tt
-names_allows m d (Jump place) u w = tt
-names_allows m d (OnErr place) u w = tt
-names_allows m d (OnLabel label place) u w = tt
-names_allows m d (OnWord a word place) u w = tt
-names_allows m d (OnFrom id place) u w = tt
-names_allows m d End u w = tt
+names_allows m d f size (Run (Assign a value)) u w = written_above a (and_parts (is_register a) (can_be_assigned f value) w).0
+names_allows m d f size (Tag word) u w = λ tag actual h. h
+names_allows m d f size (Vs (Fixed id)) u w = λ tag actual h c. is_none (permitted m d.id id) u
+names_allows m d f size (Vs Last) u w = cc
+names_allows m d f size (Vs (InRegister format a)) u w = cc
+names_allows m d f size (Ipc to from send_period receive_period) u w = receives_nothing from u
+names_allows m d f size (Ask target what) u w = tt
+names_allows m d f size (Jump place) u w = tt
+names_allows m d f size (OnErr place) u w = tt
+names_allows m d f size (OnLabel label place) u w = tt
+names_allows m d f size (OnWord a word place) u w = tt
+names_allows m d f size (OnFrom id place) u w = tt
+names_allows m d f size End u w = tt
 
 own_message : (m : Machine) (d : Declaration) (c : Context) → permitted m d.id c.actual ≡ None → IsOwn d (message_of m d.id c)
 own_message m d c none =
@@ -175,11 +170,11 @@ own_message m d c none =
     by true h = h
     by false h = refl
 
-own_closed : (m : Machine) (d : Declaration) → list_any (names_originator m d.id) d.script ≡ false →
-    list_all writes_above d.script ≡ true → IsClosed m d (Unnamed m d) (IsOwn d)
-own_closed m d none all =
+own_closed : (m : Machine) (f : Format) (size : ℕ) (d : Declaration) → list_any (names_originator m d.id) d.script ≡ false →
+    list_all (can_be_written f size) d.script ≡ true → IsClosed m d (Unnamed m d) (IsOwn d)
+own_closed m f size d none all =
     record {
-      each = each_allowed (Unnamed m d) (names_originator m d.id) writes_above d.script (names_allows m d) none all;
+      each = each_allowed (Unnamed m d) (names_originator m d.id) (can_be_written f size) d.script (names_allows m d f size) none all;
       fresh = refl;
       zero = λ tag actual h. h;
       error = λ tag actual h. h;
@@ -200,17 +195,17 @@ asks_not tag h = rw h refl
 same_id_refl : (t : GlobalId) → same_id t t ≡ true
 same_id_refl t = rw (eqb_same t.number, eqb_same t.version) refl
 
-pub never_delivers_propagated : (m : Machine) (i : ℕ) (d : Declaration) (h : List Step) (w : World) → IsPlaced m i d →
-    list_any (names_originator m d.id) d.script ≡ false → list_all writes_above d.script ≡ true → reached m h ≡ Some w →
+pub never_delivers_propagated : (m : Machine) (f : Format) (size i : ℕ) (d : Declaration) (h : List Step) (w : World) → IsPlaced m i d →
+    list_any (names_originator m d.id) d.script ≡ false → list_all (can_be_written f size) d.script ≡ true → reached m h ≡ Some w →
     list_any (delivers_propagated d.id) h ≡ false
-never_delivers_propagated m i d h w placed none all reach =
+never_delivers_propagated m f size i d h w placed none all reach =
     run_never m (Unnamed m) IsOwn (delivers_propagated d.id) step h (opening m) w reach (opening_silent m (Unnamed m) IsOwn)
   where
     delivery : (w v : World) (s : Name) (receiver shown actual : GlobalId) (tag : ℕ) (words : List ℕ) → DeliverTaken m w v s receiver shown actual tag words →
         Each m (Silent m (Unnamed m) IsOwn) w → s.thread ≡ d.id → (asks_to_propagate tag || not (same_id d.id shown)) ≡ false
     delivery w v s receiver shown actual tag words k each thread =
         let message = k.p.send.message in
-        let own : IsOwn d message = its_message m (Unnamed m) IsOwn i d w v s receiver shown actual tag words placed (own_closed m d none all) thread k each in
+        let own : IsOwn d message = its_message m (Unnamed m) IsOwn i d w v s receiver shown actual tag words placed (own_closed m f size d none all) thread k each in
         let cross = is_cross m receiver message in
         let tag_is : tag ≡ received_tag cross message = eqb-true tag (received_tag cross message) k.same_tag in
         let plain : received_tag cross message ≡ message.label * 2 ^ 16 + bit cross * 2 ^ 14 + 0 * 2 ^ 12 + length message.words =

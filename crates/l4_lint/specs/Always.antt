@@ -1,21 +1,18 @@
 -- What a doubt that is marked `always` says. It holds in every history of the machine that the text
 -- declares.
-use Rattle.std.specs.Prelude.{ℕ, ◌≡◌, ◌+◌, ◌-◌, Bool, true, false, not, ◌&&◌, ◌||◌, nat_lt, nat_le, if◌then◌else◌, Option, Ok, unwrap_or, IsSomeAnd, List, [], ◌∷◌, length, take}
+use Rattle.std.specs.Prelude.{ℕ, ◌≡◌, ◌-◌, Bool, true, false, not, ◌&&◌, ◌||◌, nat_lt, nat_le, Option, Ok, unwrap_or, IsSomeAnd, List, [], ◌∷◌, length, take}
 use Rattle.std.specs.List.{AllByRecursion, count_by, list_any}
 use Rattle.l4_model.specs.Words.{GlobalId, same_id}
 use Rattle.l4_model.specs.Machine.{Declaration, Delete, Machine, OrderKind}
 use Rattle.l4_model.specs.Steps.{Step, Deliver, Order, Tick, OfThread, OfSend}
 use Rattle.l4_model.specs.History.{IsHistory}
-use Rattle.l4_words.specs.Lines.{parts_of}
 use Rattle.l4_words.specs.Threads.{thread_of}
 use Rattle.l4_script.specs.Numbers.{number_of}
-use Rattle.l4_script.specs.Second.Texts as second
 use Rattle.l4_script.specs.Versions.{machine_of_text}
 use Rattle.l4_lint.specs.declared.doubts.Doubt.{Doubt}
 use Rattle.l4_lint.specs.declared.doubts.Doubt.TheVariants.{NoThread, NotSent, NotPropagated, OtherSpace}
 use Rattle.l4_lint.specs.declared.doubts.Mark.TheVariants.{Always}
-use Rattle.l4_lint.specs.Doubts.{Doubtful, asks_to_propagate, marked, stage_behind, thread_after, thread_at}
-use Rattle.l4_lint.specs.Lines.{lines_of}
+use Rattle.l4_lint.specs.Doubts.{Doubtful, asks_to_propagate, lines_of, marked, thread_after}
 use Rattle.l4_lint.specs.Reading.{begins_script}
 
 -- The threads that a step names.
@@ -69,31 +66,16 @@ Says OtherSpace word thread h =
     IsSomeAnd thread (λ d. IsSomeAnd (thread_of word) (λ t. NoStep (cancels d.id t) h))
 Says _ word thread h = ⊥
 
--- The thread in whose script a line of this number stands: by the thread lines before it, or by
--- what is read up to the line.
-
+-- The thread in whose script a line of this number stands.
 abbrev pub thread_on : Machine → (lines : List (List ℕ)) → (number : ℕ) → Option Declaration
 thread_on m lines number = thread_after m (count_by begins_script (take (number - 1) lines))
 
-abbrev pub stage_after : (lines : List (List ℕ)) → second.Stage → (number : ℕ) → second.Stage
-stage_after [] stage number = stage
-stage_after (line ∷ lines) stage number =
-    stage_after lines (stage_behind number stage line) (number + 1)
-
-abbrev pub second_thread_on : Machine → (lines : List (List ℕ)) → (number : ℕ) →
-    Option Declaration
-second_thread_on m lines number =
-    thread_at m (stage_after (take number lines) second.Start 1)
-
-abbrev pub thread_in : (text : List ℕ) → Machine → (number : ℕ) → Option Declaration
-thread_in text m number = if second.begins_second (parts_of text)
-    then second_thread_on m (lines_of text) number else thread_on m (lines_of text) number
-
-abbrev pub IsAlwaysSo : (thread : (number : ℕ) → Option Declaration) → List Step → Doubtful → Type 0
-IsAlwaysSo thread h d = marked d.doubt ≡ Always → Says d.doubt d.word (thread d.line) h
+abbrev pub IsAlwaysSo : Machine → (lines : List (List ℕ)) → List Step → Doubtful → Type 0
+IsAlwaysSo m lines h d = marked d.doubt ≡ Always →
+    Says d.doubt d.word (thread_on m lines d.line) h
 
 -- Each of these doubts of a text that is marked `always` holds in every history.
 abbrev pub AreAlwaysSo : (text : List ℕ) → List Doubtful → Type 0
 AreAlwaysSo text found =
     (m : Machine) (h : List Step) → machine_of_text text ≡ Ok m → IsHistory m h →
-    AllByRecursion (IsAlwaysSo (thread_in text m) h) found
+    AllByRecursion (IsAlwaysSo m (lines_of text) h) found

@@ -9,7 +9,6 @@ use Rattle.l4_words.specs.Lines.{parts_of}
 use Rattle.l4_words.specs.Threads.{thread_of}
 use Rattle.l4_script.specs.Judged.{Judged}
 use Rattle.l4_script.specs.Numbers.{number_of, time_from}
-use Rattle.l4_script.specs.Second.Texts as second
 use Rattle.l4_script.specs.Versions.{machine_of_text}
 use Rattle.l4_script.specs.declared.text.fault.TextFault.{TextFault}
 use Rattle.l4_lint.specs.declared.doubts.Doubt.{Doubt}
@@ -22,9 +21,7 @@ use Rattle.l4_lint.specs.declared.doubts.Mark.TheVariants.{Always, Perhaps}
 use Rattle.l4_lint.specs.Bytes.{behind, word_of}
 use Rattle.l4_lint.specs.Faults.{faults_of}
 use Rattle.l4_lint.specs.Judging.{is_digit}
-use Rattle.l4_lint.specs.Lines.{lines_of}
 use Rattle.l4_lint.specs.Reading.{begins_script}
-use Rattle.l4_lint.specs.Second.Parts.{Parts, parts_of as parts_in_line}
 use Rattle.l4_lint.specs.Spelling.{faults_text, place_text}
 
 -- The line and the column of its first byte, both counted from 1, the word that stands there, and
@@ -188,14 +185,14 @@ is_foreign m (Some d) None = false
 is_foreign m (Some d) (Some t) =
     is_some (place_of m t) && not (is_some (permitted m d.id (GlobalThread t)))
 
-abbrev pub order_doubts : Machine → Option Declaration → (number : ℕ) → (line words : List ℕ) →
+abbrev pub order_doubts : Machine → Option Declaration → (number : ℕ) → (line : List ℕ) →
     List Doubtful
-order_doubts m d number line words =
-    id_doubts m number line (behind words)
+order_doubts m d number line =
+    id_doubts m number line (behind line)
     ++ doubted
-    (bytes_eq (word_of words) (codes "exregs")
-    && is_foreign m d (thread_of (word_of (behind words))))
-    (doubtful_at number line (behind words) OtherSpace)
+    (bytes_eq (word_of line) (codes "exregs")
+    && is_foreign m d (thread_of (word_of (behind line))))
+    (doubtful_at number line (behind line) OtherSpace)
 
 -- A line that writes a register names it first.
 
@@ -206,25 +203,29 @@ names_register _ = false
 abbrev pub is_write : (word : List ℕ) → Bool
 is_write word = names_register (first_operand word)
 
-abbrev pub script_doubts : Machine → Option Declaration → (number : ℕ) → (line words : List ℕ) →
+abbrev pub script_doubts : Machine → Option Declaration → (number : ℕ) → (line : List ℕ) →
     List Doubtful
-script_doubts m None number line words = []
-script_doubts m (Some d) number line words =
-    if is_write (word_of words) then write_doubts d number line (behind words)
-    else if bytes_eq (word_of words) (codes "tag") then tag_doubts m d number line (behind words)
+script_doubts m None number line = []
+script_doubts m (Some d) number line =
+    if is_write (word_of line) then write_doubts d number line (behind line)
+    else if bytes_eq (word_of line) (codes "tag") then tag_doubts m d number line (behind line)
     else []
-
--- Of the words that a line ends with. In a text of version 1 they are all of it.
-abbrev pub words_doubts : Machine → Option Declaration → (number : ℕ) → (line words : List ℕ) →
-    List Doubtful
-words_doubts m d number line words =
-    if bytes_eq (word_of words) (codes "ipc") then ipc_doubts m d number line (behind words)
-    else if is_one_of_ids (word_of words) then order_doubts m d number line words
-    else script_doubts m d number line words
 
 abbrev pub line_doubts : Machine → Option Declaration → (number : ℕ) → (line : List ℕ) →
     List Doubtful
-line_doubts m d number line = words_doubts m d number line line
+line_doubts m d number line =
+    if bytes_eq (word_of line) (codes "ipc") then ipc_doubts m d number line (behind line)
+    else if is_one_of_ids (word_of line) then order_doubts m d number line
+    else script_doubts m d number line
+
+-- The lines of a text: what stands behind the last line end of a text without a fault is empty.
+abbrev pub without_last : (parts : List (List ℕ)) → List (List ℕ)
+without_last [] = []
+without_last (last ∷ []) = []
+without_last (line ∷ next ∷ parts) = line ∷ without_last (next ∷ parts)
+
+abbrev pub lines_of : (text : List ℕ) → List (List ℕ)
+lines_of text = without_last (parts_of text)
 
 -- The thread whose script has a line: the one that the last `thread` line before it declares.
 abbrev pub thread_after : Machine → (begun : ℕ) → Option Declaration
@@ -239,44 +240,13 @@ doubts_from m (line ∷ lines) begun number =
     line_doubts m (thread_after m begun) number line
     ++ doubts_from m lines (begun_behind begun line) (number + 1)
 
--- The same of a text with scripts of version 2. What is doubtful there stands among the words of a
--- line, and the thread is the last one that is read up to the line.
-
-abbrev pub stage_or : second.Stage → Judged second.Stage → second.Stage
-stage_or before (Ok after) = after
-stage_or before (Err k) = before
-
-abbrev pub stage_behind : (number : ℕ) → second.Stage → (line : List ℕ) → second.Stage
-stage_behind number stage line = stage_or stage (second.after_line number stage line)
-
-abbrev pub thread_at : Machine → second.Stage → Option Declaration
-thread_at m (second.Threads r) = thread_after m (length r.machine.threads)
-thread_at m stage = None
-
-abbrev pub second_line_doubts : Machine → Option Declaration → (number : ℕ) → Parts → List Doubtful
-second_line_doubts m d number p = words_doubts m d number p.front p.words
-
-abbrev pub second_doubts_from : Machine → (lines : List (List ℕ)) → second.Stage → (number : ℕ) →
-    List Doubtful
-second_doubts_from m [] stage number = []
-second_doubts_from m (line ∷ lines) stage number =
-    second_line_doubts m (thread_at m (stage_behind number stage line)) number (parts_in_line line)
-    ++ second_doubts_from m lines (stage_behind number stage line) (number + 1)
-
 -- All doubts of a text, in order of its lines. A text with a faulty line has none.
-
-abbrev pub doubts_in : (of_second : Bool) → Machine → (lines : List (List ℕ)) → List Doubtful
-doubts_in of_second m lines = if of_second then second_doubts_from m lines second.Start 1
-    else doubts_from m lines 0 1
-
-abbrev pub doubts_on : (of_second : Bool) → Result Machine TextFault → (lines : List (List ℕ)) →
-    List Doubtful
-doubts_on of_second (Err fault) lines = []
-doubts_on of_second (Ok m) lines = doubts_in of_second m lines
+abbrev pub doubts_on : Result Machine TextFault → (lines : List (List ℕ)) → List Doubtful
+doubts_on (Err fault) lines = []
+doubts_on (Ok m) lines = doubts_from m lines 0 1
 
 abbrev pub doubts_of : (text : List ℕ) → List Doubtful
-doubts_of text =
-    doubts_on (second.begins_second (parts_of text)) (machine_of_text text) (lines_of text)
+doubts_of text = doubts_on (machine_of_text text) (lines_of text)
 
 -- How a doubt is marked. What `always` says is in `Says`.
 

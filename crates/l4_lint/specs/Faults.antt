@@ -11,24 +11,37 @@ use Rattle.l4_script.specs.Faults.{fault_at}
 use Rattle.l4_script.specs.Judged.{Judged}
 use Rattle.l4_script.specs.Texts.{Target, Stage, Start, Processors, Threads, is_missed}
 use Rattle.l4_script.specs.Texts as texts
-use Rattle.l4_script.specs.Second.Texts.{begins_second}
 use Rattle.l4_lint.specs.declared.hints.Hint.TheVariants as hints
 use Rattle.l4_lint.specs.declared.hints.Lines.TheVariants as these
 use Rattle.l4_lint.specs.Bytes.{behind}
 use Rattle.l4_lint.specs.Contexts.{context_at}
 use Rattle.l4_lint.specs.Forms.{line_place}
-pub use Rattle.l4_lint.specs.Found.{Fault, fault, fault_in, unended}
-pub use Rattle.l4_lint.specs.Lines.{line_at}
-use Rattle.l4_lint.specs.Places.{placed}
+use Rattle.l4_lint.specs.Places.{Place, placed, place_at}
 use Rattle.l4_lint.specs.Reading.{Reader, reader, judged, led_on, left_out, goes_on}
-use Rattle.l4_lint.specs.Second.Faults as second
+
+-- The line, counted from 1 with the skipped ones (0 where the fault is of no line), the kind and
+-- the place.
+pub record Fault : Type 0 where
+  pub line : ℕ
+  pub kind : TextFaultKind
+  pub place : Place
+
+abbrev pub fault : (line : ℕ) → TextFaultKind → Place → Fault
+fault line k at = record { line = line; kind = k; place = at }
 
 -- The fault of a text that ends in front of its first or its second line, the line of this number.
 abbrev pub text_ends : (number : ℕ) → Stage → Fault
 text_ends number stage =
     fault number kinds.BadLine (placed 1 [] (hints.Begins (context_at stage false).lines))
 
+-- The last line has no line end.
+abbrev pub unended : (number : ℕ) → (line : List ℕ) → Fault
+unended number line = fault number kinds.BadLine (placed (length line + 1) [] hints.NoLineEnd)
+
 -- A line that names a place that its script does not have.
+abbrev pub line_at : (parts : List (List ℕ)) → (number : ℕ) → List ℕ
+line_at parts number = unwrap_or (slice_get parts (number - 1)) []
+
 abbrev pub missed_fault : (parts : List (List ℕ)) → Target → Fault
 missed_fault parts t =
     fault t.line kinds.BadTarget
@@ -85,11 +98,13 @@ not_read = reader Start false false
 abbrev pub faults_of : (text : List ℕ) → List Fault
 faults_of text =
     if nat_lt 0x100000 (length text) then too_long ∷ []
-    else (if begins_second (parts_of text)
-    then second.faults_from (parts_of text) (parts_of text) second.not_read 1
-    else faults_from (parts_of text) (parts_of text) not_read 1)
+    else faults_from (parts_of text) (parts_of text) not_read 1
 
--- The first fault of a list.
+-- The first fault of a list, and that of a reading.
 abbrev pub first_in : List Fault → Option TextFault
 first_in [] = None
 first_in (f ∷ others) = Some (fault_at f.line f.kind)
+
+abbrev pub fault_in : Result Machine TextFault → Option TextFault
+fault_in (Ok machine) = None
+fault_in (Err f) = Some f

@@ -6,12 +6,9 @@ pub mod Doubts
 pub mod Excerpts
 pub mod Faults
 pub mod Forms
-pub mod Found
 pub mod Inner
 pub mod Judging
-pub mod Lines
 pub mod Places
 pub mod Reading
-pub mod Second
 pub mod Spelling
 pub mod Walks

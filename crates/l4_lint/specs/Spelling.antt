@@ -100,24 +100,14 @@ plain_hint hints.Unknown = codes "no line declares this name"
 plain_hint hints.OfHeir = codes "a thread with the script of another has no line of its own"
 plain_hint other = []
 
-abbrev pub declared_text : (line : ℕ) → List ℕ
-declared_text line = codes "line " ++ decimal line ++ codes " declares this name"
-
-abbrev pub near_text : (line : ℕ) → List ℕ
-near_text line = codes "line " ++ decimal line ++ codes " declares a name that is near"
-
-abbrev pub counted_text : (ticks : ℕ) → List ℕ
-counted_text ticks = decimal ticks ++ codes "us"
-
-abbrev pub near_times_text : (below above : ℕ) → List ℕ
-near_times_text below above =
-    codes "no time means this; the nearest are " ++ counted_text below ++ codes " and "
-    ++ counted_text above
-
 abbrev pub hint_text : Hint → List ℕ
-hint_text (hints.DeclaredOn line) = declared_text line
-hint_text (hints.NearOn line) = near_text line
-hint_text (hints.NearTimes below above) = near_times_text below above
+hint_text (hints.DeclaredOn line) =
+    codes "line " ++ decimal line ++ codes " declares this name"
+hint_text (hints.NearOn line) =
+    codes "line " ++ decimal line ++ codes " declares a name that is near"
+hint_text (hints.NearTimes below above) =
+    codes "no time means this; the nearest are " ++ decimal below ++ codes "us and "
+    ++ decimal above ++ codes "us"
 hint_text hint = plain_hint hint
 
 -- What stands there, its bytes escaped as Rust escapes them in ASCII, if anything stands there.

@@ -6,9 +6,9 @@ ghost use Rattle.l4_lint.specs.Commands.{operands_of};
 
 use crate::hints::{Lines, Operand};
 
-pub(crate) const FORMAT: &[u8] = b"l4";
+const FORMAT: &[u8] = b"l4";
 
-pub(crate) const PROCESSORS: &[u8] = b"cpus";
+const PROCESSORS: &[u8] = b"cpus";
 
 pub(crate) const THREAD: &[u8] = b"thread";
 
@@ -20,23 +20,23 @@ const ADD: &[u8] = b"add";
 
 const TAG: &[u8] = b"tag";
 
-pub(crate) const VIRTUAL_SENDER: &[u8] = b"vs";
+const VIRTUAL_SENDER: &[u8] = b"vs";
 
-pub(crate) const IPC: &[u8] = b"ipc";
+const IPC: &[u8] = b"ipc";
 
-pub(crate) const EXCHANGE_REGISTERS: &[u8] = b"exregs";
+const EXCHANGE_REGISTERS: &[u8] = b"exregs";
 
-pub(crate) const DELETE: &[u8] = b"delete";
+const DELETE: &[u8] = b"delete";
 
-pub(crate) const JUMP: &[u8] = b"jump";
+const JUMP: &[u8] = b"jump";
 
-pub(crate) const ON_ERROR: &[u8] = b"onerr";
+const ON_ERROR: &[u8] = b"onerr";
 
 const END: &[u8] = b"end";
 
 const FORMAT_OPERANDS: &[Operand] = &[Operand::Profile, Operand::Width];
 
-pub(crate) const PROCESSORS_OPERANDS: &[Operand] = &[Operand::Processors];
+const PROCESSORS_OPERANDS: &[Operand] = &[Operand::Processors];
 
 const THREAD_OPERANDS: &[Operand] = &[
     Operand::Thread,
@@ -69,7 +69,7 @@ const NOTHING: &[Operand] = &[];
 
 /// The operands of the instruction of this name. None where no instruction has it.
 #[tactic(auto, unfolding(crate::specs::Commands::instruction_operands))]
-pub(crate) fn instruction_operands(name: &[u8]) -> Option<&'static [Operand]>
+fn instruction_operands(name: &[u8]) -> Option<&'static [Operand]>
     ensures { option_copied result ≡ instruction_operands name.now }
 {
     if name == SET {
@@ -115,7 +115,7 @@ pub(crate) fn first_operand(name: &[u8]) -> Option<Operand>
     instruction_operands(name)?.first().copied()
 }
 
-pub(crate) fn operands_behind(
+fn operands_behind(
     name: &[u8],
     keyword: &[u8],
     operands: &'static [Operand],

@@ -1,29 +1,23 @@
 //! What is doubtful in a text that declares a machine.
-ghost use Rattle.std.specs.Prelude.{ℕ, List, ◌≡◌, ◌++◌, ◌==◌, map, IfOk, OnOk};
+ghost use Rattle.std.specs.Prelude.{ℕ, List, ◌≡◌, ◌≤◌, ◌++◌, length, map, IfOk, OnOk};
 ghost use Rattle.std.specs.List.{list_any};
 ghost use Rattle.std.specs.Option.{option_copied};
 ghost use Rattle.std.specs.Str.{bytes_eq};
 ghost use Rattle.l4_script.specs.Inner.Scripts.{id_from_of, instr_of};
-ghost use Rattle.l4_script.specs.Inner.Second.{stage_of};
 ghost use Rattle.l4_script.specs.Numbers.{time_from};
-ghost use Rattle.l4_script.specs.Second.Texts.{Start, begins_second};
-ghost use Rattle.l4_words.specs.Lines.{parts_of as text_parts};
 ghost use Rattle.l4_script.specs.Versions.{machine_of_text};
 ghost use Rattle.l4_lint.specs.Always.{AreAlwaysSo};
 ghost use Rattle.l4_lint.specs.Doubts.{answer_doubts, asks_to_propagate, doubt_line, doubt_text};
-ghost use Rattle.l4_lint.specs.Doubts.{doubted, doubts_in, doubts_text};
-ghost use Rattle.l4_lint.specs.Doubts.{second_doubts_from, second_line_doubts, stage_behind, thread_at};
-ghost use Rattle.l4_lint.specs.Lines.{lines_of};
+ghost use Rattle.l4_lint.specs.Doubts.{doubted, doubts_text, lines_of};
 ghost use Rattle.l4_lint.specs.Doubts.{doubtful_at, doubts_from, doubts_of, id_doubts, ipc_doubts};
 ghost use Rattle.l4_lint.specs.Doubts.{is_endless, is_no_thread, is_one_of_ids, is_write};
-ghost use Rattle.l4_lint.specs.Doubts.{words_doubts, mark_word, marked, names_originator, number_in};
+ghost use Rattle.l4_lint.specs.Doubts.{line_doubts, mark_word, marked, names_originator, number_in};
 ghost use Rattle.l4_lint.specs.Doubts.{from_doubts, is_decimal, is_foreign, is_long, is_own};
 ghost use Rattle.l4_lint.specs.Doubts.{order_doubts};
 ghost use Rattle.l4_lint.specs.Doubts.{receives, time_doubts, to_doubts};
 ghost use Rattle.l4_lint.specs.Doubts.{is_taken_from, may_receive};
 ghost use Rattle.l4_lint.specs.Doubts.{script_doubts, tag_doubts, thread_after, uses, write_doubts};
 ghost use Rattle.l4_lint.specs.Reading.{begins_script};
-ghost use Rattle.l4_lint.specs.Second.Parts.{parts_of};
 ghost use Rattle.l4_lint.specs.Inner.Views.{doubtful_of};
 
 use crate::bytes::split_word;
@@ -35,7 +29,7 @@ use crate::spelling::push_place;
 use l4_script::instructions::{IdFrom, Instr, Source};
 use l4_script::machine::{Declaration, Machine};
 use l4_script::text::second::{Stage, begins_second};
-use l4_script::text::{TextFaultKind, law_canonical_text, number, time};
+use l4_script::text::{TextFaultKind, number, time};
 use l4_types::errors::NoMemory;
 use l4_types::ids::{GlobalId, ThreadId};
 use l4_types::times::Period;
@@ -122,11 +116,12 @@ fn is(word: &[u8], other: &[u8]) -> bool
 
 // The first word of the rest of a line, with its doubt.
 fn doubtful_at<'a>(number: usize, line: &'a [u8], rest: &'a [u8], doubt: Doubt) -> Doubtful<'a>
+    requires { length rest.now ≤ length line.now }
     ensures { doubtful_of result ≡ doubtful_at number line.now rest.now doubt }
 {
     Doubtful {
         line: number,
-        column: line.len().saturating_sub(rest.len()) + 1,
+        column: line.len() - rest.len() + 1,
         word: split_word(rest).0,
         doubt,
     }
@@ -164,6 +159,7 @@ fn push_id<'a>(
     rest: &'a [u8],
     found: &mut Vec<Doubtful<'a>>,
 ) -> Result<(), NoMemory>
+    requires { length rest.now ≤ length line.now }
     ensures { OnOk result (map doubtful_of found.new.items ≡
         map doubtful_of found.old.items ++ id_doubts machine.now number line.now rest.now) }
 {
@@ -189,6 +185,7 @@ fn push_answer<'a>(
     time: &'a [u8],
     found: &mut Vec<Doubtful<'a>>,
 ) -> Result<(), NoMemory>
+    requires { length time.now ≤ length line.now }
     ensures { OnOk result (map doubtful_of found.new.items ≡
         map doubtful_of found.old.items ++ answer_doubts number line.now to.now time.now) }
 {
@@ -219,6 +216,7 @@ fn push_to<'a>(
     to: &'a [u8],
     found: &mut Vec<Doubtful<'a>>,
 ) -> Result<(), NoMemory>
+    requires { length to.now ≤ length line.now }
     ensures { OnOk result (map doubtful_of found.new.items ≡ map doubtful_of found.old.items ++
         to_doubts machine.now (option_copied declared.entry) number line.now to.now) }
 {
@@ -245,6 +243,7 @@ fn push_from<'a>(
     from: &'a [u8],
     found: &mut Vec<Doubtful<'a>>,
 ) -> Result<(), NoMemory>
+    requires { length from.now ≤ length line.now }
     ensures { OnOk result (map doubtful_of found.new.items ≡ map doubtful_of found.old.items ++
         from_doubts machine.now (option_copied declared.entry) number line.now from.now) }
 {
@@ -277,6 +276,7 @@ fn push_time<'a>(
     time: &'a [u8],
     found: &mut Vec<Doubtful<'a>>,
 ) -> Result<(), NoMemory>
+    requires { length time.now ≤ length line.now }
     ensures { OnOk result (map doubtful_of found.new.items ≡
         map doubtful_of found.old.items ++ time_doubts number line.now time.now) }
 {
@@ -296,6 +296,7 @@ fn push_ipc<'a>(
     to: &'a [u8],
     found: &mut Vec<Doubtful<'a>>,
 ) -> Result<(), NoMemory>
+    requires { length to.now ≤ length line.now }
     ensures { OnOk result (map doubtful_of found.new.items ≡ map doubtful_of found.old.items ++
         ipc_doubts machine.now (option_copied declared.entry) number line.now to.now) }
 {
@@ -327,13 +328,12 @@ fn push_order<'a>(
     declared: Option<&Declaration>,
     number: usize,
     line: &'a [u8],
-    words: &'a [u8],
     found: &mut Vec<Doubtful<'a>>,
 ) -> Result<(), NoMemory>
     ensures { OnOk result (map doubtful_of found.new.items ≡ map doubtful_of found.old.items ++
-        order_doubts machine.now (option_copied declared.entry) number line.now words.now) }
+        order_doubts machine.now (option_copied declared.entry) number line.now) }
 {
-    let (word, rest) = split_word(words);
+    let (word, rest) = split_word(line);
     push_id(machine, number, line, rest, found)?;
     let is_doubted = is(word, b"exregs")
         && is_foreign(machine, declared, thread(split_word(rest).0));
@@ -411,6 +411,7 @@ fn push_write<'a>(
     rest: &'a [u8],
     found: &mut Vec<Doubtful<'a>>,
 ) -> Result<(), NoMemory>
+    requires { length rest.now ≤ length line.now }
     ensures { OnOk result (map doubtful_of found.new.items ≡
         map doubtful_of found.old.items ++ write_doubts declared.now number line.now rest.now) }
 {
@@ -460,6 +461,7 @@ fn push_tag<'a>(
     rest: &'a [u8],
     found: &mut Vec<Doubtful<'a>>,
 ) -> Result<(), NoMemory>
+    requires { length rest.now ≤ length line.now }
     ensures { OnOk result (map doubtful_of found.new.items ≡ map doubtful_of found.old.items ++
         tag_doubts machine.now declared.now number line.now rest.now) }
 {
@@ -490,16 +492,15 @@ fn push_of_script<'a>(
     declared: Option<&Declaration>,
     number: usize,
     line: &'a [u8],
-    words: &'a [u8],
     found: &mut Vec<Doubtful<'a>>,
 ) -> Result<(), NoMemory>
     ensures { OnOk result (map doubtful_of found.new.items ≡ map doubtful_of found.old.items ++
-        script_doubts machine.now (option_copied declared.entry) number line.now words.now) }
+        script_doubts machine.now (option_copied declared.entry) number line.now) }
 {
     let Some(declared) = declared else {
         return Ok(());
     };
-    let (word, rest) = split_word(words);
+    let (word, rest) = split_word(line);
     if is_write(word) {
         return push_write(declared, number, line, rest, found);
     }
@@ -509,26 +510,25 @@ fn push_of_script<'a>(
     Ok(())
 }
 
-// Appends the doubts of the words that a line ends with.
-fn push_words<'a>(
+// Appends the doubts of a line.
+fn push_line<'a>(
     machine: &Machine,
     declared: Option<&Declaration>,
     number: usize,
     line: &'a [u8],
-    words: &'a [u8],
     found: &mut Vec<Doubtful<'a>>,
 ) -> Result<(), NoMemory>
     ensures { OnOk result (map doubtful_of found.new.items ≡ map doubtful_of found.old.items ++
-        words_doubts machine.now (option_copied declared.entry) number line.now words.now) }
+        line_doubts machine.now (option_copied declared.entry) number line.now) }
 {
-    let (word, rest) = split_word(words);
+    let (word, rest) = split_word(line);
     if is(word, b"ipc") {
         return push_ipc(machine, declared, number, line, rest, found);
     }
     if is_one_of_ids(word) {
-        return push_order(machine, declared, number, line, words, found);
+        return push_order(machine, declared, number, line, found);
     }
-    push_of_script(machine, declared, number, line, words, found)
+    push_of_script(machine, declared, number, line, found)
 }
 
 fn begins_script(line: &[u8]) -> bool
@@ -558,11 +558,10 @@ fn doubts_in<'a>(
     let mut begun = 0;
     let mut before = 0;
     'lines: while let Some((line, rest)) = split_line(left) {
-        push_words(
+        push_line(
             machine,
             thread_after(machine, begun),
             before + 1,
-            line,
             line,
             &mut found,
         )?;
@@ -573,94 +572,51 @@ fn doubts_in<'a>(
     Ok(found)
 }
 
-// The thread whose script is the last that was read so far, as the whole text declares it.
-fn thread_at<'m>(machine: &'m Machine, stage: &Stage<'_>) -> Option<&'m Declaration>
-    ensures { option_copied result ≡ thread_at machine.now (stage_of stage.now) }
-{
+// The thread whose script is the last so far, as the whole text declares it.
+fn thread_of<'m>(machine: &'m Machine, stage: &Stage<'_>) -> Option<&'m Declaration> {
     match stage {
         Stage::Threads(reading) => thread_after(machine, reading.machine().threads().len()),
         Stage::Start | Stage::Processors(_) => None,
     }
 }
 
-// Reads the line of this number. What is faulty changes nothing.
-fn read_on<'a>(
-    alloc: Global,
-    stage: &mut Stage<'a>,
-    number: usize,
-    line: &'a [u8],
-) -> Result<(), NoMemory>
-    ensures { OnOk result
-        (stage_of stage.new ≡ stage_behind number (stage_of stage.old) line.now) }
-{
-    match stage.read_line(number, alloc, line) {
-        Err(TextFaultKind::NoMemory) => Err(NoMemory),
-        _ => Ok(()),
-    }
-}
-
-// Appends the doubts of a line with scripts of version 2.
-fn push_second_line<'a>(
-    machine: &Machine,
-    declared: Option<&Declaration>,
-    number: usize,
-    line: &'a [u8],
-    found: &mut Vec<Doubtful<'a>>,
-) -> Result<(), NoMemory>
-    ensures { OnOk result (map doubtful_of found.new.items ≡ map doubtful_of found.old.items ++
-        second_line_doubts machine.now (option_copied declared.entry) number
-        (parts_of line.now)) }
-{
-    let parts = parts_of(line);
-    push_words(machine, declared, number, parts.front, parts.words, found)
-}
-
 // The doubts of the text of a machine with scripts of version 2, line by line.
-fn second_doubts_in<'a>(
+fn second_doubts<'a>(
     alloc: Global,
     machine: &Machine,
     text: &'a [u8],
-) -> Result<Vec<Doubtful<'a>>, NoMemory>
-    ensures { IfOk result (λ found. map doubtful_of found.items ≡
-        second_doubts_from machine.now (lines_of text.now) Start 1) }
-{
+) -> Result<Vec<Doubtful<'a>>, NoMemory> {
     let mut found = Vec::new(alloc);
     let mut stage = Stage::Start;
     let mut left = text;
-    let mut before = 0;
+    let mut number = 1;
     'lines: while let Some((line, rest)) = split_line(left) {
-        read_on(alloc, &mut stage, before + 1, line)?;
-        let declared = thread_at(machine, &stage);
-        push_second_line(machine, declared, before + 1, line, &mut found)?;
-        before += 1;
+        if let Err(TextFaultKind::NoMemory) = stage.read_line(number, alloc, line) {
+            return Err(NoMemory);
+        }
+        let parts = parts_of(line);
+        let before = found.len();
+        push_line(
+            machine,
+            thread_of(machine, &stage),
+            number,
+            parts.words,
+            &mut found,
+        )?;
+        for doubtful in &mut found[before..] {
+            doubtful.column += parts.front.len() - parts.words.len();
+        }
+        number += 1;
         left = rest;
     }
     Ok(found)
-}
-
-// The doubts of the text of a machine.
-fn doubts_on<'a>(
-    alloc: Global,
-    machine: &Machine,
-    text: &'a [u8],
-) -> Result<Vec<Doubtful<'a>>, NoMemory>
-    ensures { IfOk result (λ found. map doubtful_of found.items ≡
-        doubts_in (begins_second (text_parts text.now)) machine.now (lines_of text.now)) }
-{
-    if begins_second(text) {
-        second_doubts_in(alloc, machine, text)
-    } else {
-        doubts_in(alloc, machine, text)
-    }
 }
 
 /// What a doubt says that is marked `Always` holds in every history of the machine that the text
 /// declares.
 pub fn law_always()
     ensures { (text : List ℕ) → AreAlwaysSo text (doubts_of text) }
-{
-    law_canonical_text();
-}
+{}
 
 /// What is doubtful in a text that declares a machine, in order of its lines and from left to
 /// right. A text with a fault has no doubts. What is marked `Always` holds in every history.
@@ -670,7 +626,8 @@ pub fn doubts<'a>(alloc: Global, text: &'a [u8]) -> Result<Vec<Doubtful<'a>>, No
 {
     law_always();
     match Machine::parse(alloc, text) {
-        Ok(machine) => doubts_on(alloc, &machine, text),
+        Ok(machine) if begins_second(text) => second_doubts(alloc, &machine, text),
+        Ok(machine) => doubts_in(alloc, &machine, text),
         Err(fault) if fault.kind == TextFaultKind::NoMemory => Err(NoMemory),
         Err(_) => Ok(Vec::new(alloc)),
     }

@@ -109,7 +109,7 @@ fn is_threadless(number: Option<u64>, version: Option<u64>) -> bool
 }
 
 /// Whether a word is `N.V` with a version that no thread has.
-pub(crate) fn has_no_thread(word: &[u8]) -> bool
+fn has_no_thread(word: &[u8]) -> bool
     ensures { result ≡ has_no_thread word.now }
 {
     let (number, version) = split_at_byte(b'.', word);
@@ -228,7 +228,7 @@ fn is_time(operand: Operand) -> bool
 }
 
 /// The hint for a word that is no number, or is out of range.
-pub(crate) fn number_hint(wanted: Operand, word: &[u8]) -> Hint
+fn number_hint(wanted: Operand, word: &[u8]) -> Hint
     ensures { result ≡ number_hint wanted word.now }
 {
     if is_like_hexadecimal(word) {

@@ -1,5 +1,5 @@
 //! A place in a line.
-ghost use Rattle.std.specs.Prelude.{◌≡◌};
+ghost use Rattle.std.specs.Prelude.{◌≡◌, ◌≤◌, length};
 ghost use Rattle.l4_lint.specs.Places.{placed, place_at};
 ghost use Rattle.l4_lint.specs.Inner.Views.{place_of};
 
@@ -27,10 +27,12 @@ impl<'a> Place<'a> {
 
     /// The word with which the rest of a line begins.
     pub(crate) fn at(line: &[u8], rest: &'a [u8], hint: Hint) -> Place<'a>
+        requires short { length line.now ≤ 0x10_0000 }
+        requires rest { length rest.now ≤ length line.now }
         ensures { place_of result ≡ place_at line.now rest.now hint }
     {
         Place {
-            column: line.len().saturating_sub(rest.len()) + 1,
+            column: line.len() - rest.len() + 1,
             word: split_word(rest).0,
             hint,
         }

@@ -3,7 +3,6 @@ ghost use Rattle.std.specs.Prelude.{◌≡◌, ◌++◌, codes, decimal, flat_ma
 ghost use Rattle.std.specs.Char.Escape.{escape_ascii};
 ghost use Rattle.std.specs.Option.{option_copied};
 ghost use Rattle.l4_lint.specs.Spelling.{kind_word, operand_text, lines_text, plain_hint, hint_text};
-ghost use Rattle.l4_lint.specs.Spelling.{counted_text, declared_text, near_text, near_times_text};
 ghost use Rattle.l4_lint.specs.Spelling.{shown_word, place_text, fault_line, faults_text};
 ghost use Rattle.l4_lint.specs.Inner.Views.{fault_of};
 
@@ -129,60 +128,24 @@ fn plain_hint(hint: Hint) -> &'static str
     }
 }
 
-// Appends on which line a name is declared.
-fn push_declared(line: usize, out: &mut Vec<u8>) -> Result<(), NoMemory>
-    ensures { OnOk result (out.new.items ≡ out.old.items ++ declared_text line) }
-{
-    let mut said = String::new(*out.allocator());
-    write!(said, "line {line} declares this name")?;
-    out.extend_from_slice(said.as_bytes())?;
-    Ok(())
-}
-
-// Appends on which line a name is declared that is near.
-fn push_near(line: usize, out: &mut Vec<u8>) -> Result<(), NoMemory>
-    ensures { OnOk result (out.new.items ≡ out.old.items ++ near_text line) }
-{
-    let mut said = String::new(*out.allocator());
-    write!(said, "line {line} declares a name that is near")?;
-    out.extend_from_slice(said.as_bytes())?;
-    Ok(())
-}
-
-// Appends so many microseconds.
-fn push_counted(ticks: u64, out: &mut Vec<u8>) -> Result<(), NoMemory>
-    ensures { OnOk result (out.new.items ≡ out.old.items ++ counted_text ticks) }
-{
-    let mut said = String::new(*out.allocator());
-    write!(said, "{ticks}us")?;
-    out.extend_from_slice(said.as_bytes())?;
-    Ok(())
-}
-
-// Appends which times are nearest.
-fn push_near_times(below: u64, above: u64, out: &mut Vec<u8>) -> Result<(), NoMemory>
-    ensures { OnOk result (out.new.items ≡ out.old.items ++ near_times_text below above) }
-{
-    out.extend_from_slice(b"no time means this; the nearest are ")?;
-    push_counted(below, out)?;
-    out.extend_from_slice(b" and ")?;
-    push_counted(above, out)?;
-    Ok(())
-}
-
 /// Appends what is said about a place.
 fn push_hint(hint: Hint, out: &mut Vec<u8>) -> Result<(), NoMemory>
     ensures { OnOk result (out.new.items ≡ out.old.items ++ hint_text hint) }
 {
+    let mut said = String::new(*out.allocator());
     match hint {
-        Hint::DeclaredOn(line) => push_declared(line, out),
-        Hint::NearOn(line) => push_near(line, out),
-        Hint::NearTimes(below, above) => push_near_times(below, above, out),
-        _ => {
-            out.extend_from_slice(plain_hint(hint).as_bytes())?;
-            Ok(())
+        Hint::DeclaredOn(line) => write!(said, "line {line} declares this name")?,
+        Hint::NearOn(line) => write!(said, "line {line} declares a name that is near")?,
+        Hint::NearTimes(below, above) => {
+            write!(
+                said,
+                "no time means this; the nearest are {below}us and {above}us"
+            )?
         }
+        _ => said.push_str(plain_hint(hint))?,
     }
+    out.extend_from_slice(said.as_bytes())?;
+    Ok(())
 }
 
 /// Appends a byte, escaped where it is not printable.

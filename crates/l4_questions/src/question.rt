@@ -48,6 +48,9 @@ pub struct Question<'a> {
     pub memory: u64,
     /// Only endings in which a send waits, or a thread receives from one thread alone.
     pub stuck: bool,
+    /// Threads that do not count as stuck, by their ids with commas between them: a thread that
+    /// waits for an interrupt rests in a receive from one thread. An item that is no id names none.
+    pub rests: Option<&'a str>,
     /// Only endings whose report has such a line.
     pub with_line: Option<&'a str>,
     /// Only endings whose report has no such line.
@@ -85,6 +88,7 @@ impl<'a> Question<'a> {
           states = states;
           memory = 2048;
           stuck = false;
+          rests = None;
           with_line = None;
           never = None;
           wanted = Whatever;
@@ -95,6 +99,7 @@ impl<'a> Question<'a> {
             states,
             memory: USUAL_MEMORY,
             stuck: false,
+            rests: None,
             with_line: None,
             never: None,
             wanted: Wanted::Whatever,

@@ -2,8 +2,7 @@ use Rattle.std.proofs.Common.{◌≡◌, ◌≤◌, ◌+◌, ◌++◌, ℕ, Bool
 use Rattle.std.specs.Prelude.{if◌then◌else◌}
 use Rattle.std.specs.Int.{from_bool}
 use Rattle.l4_model.specs.Machine.{Declaration}
-use Rattle.l4_lint.specs.Doubts.{begun_behind, doubts_from, line_doubts, thread_after}
-use Rattle.l4_lint.specs.Lines.{lines_of}
+use Rattle.l4_lint.specs.Doubts.{begun_behind, doubts_from, line_doubts, lines_of, thread_after}
 use Rattle.l4_lint.specs.Reading.{begins_script}
 use Rattle.l4_lint.specs.Inner.Views.{doubtful_of}
 use Rattle.l4_lint.proofs.Doubting.{one_more}
@@ -26,13 +25,13 @@ lines-preserved c =
     let begun = c.lines.begun in
     let number = c.lines.before + 1 in
     let found = map doubtful_of c.lines.found.items in
-    let new = map doubtful_of c.push_words.new.found.items in
+    let new = map doubtful_of c.push_line.new.found.items in
     let next : begun + c.from-begun.result ≡ begun_behind begun line =
     ap (λ (n : ℕ). begun + n)
     (c.from-begun.ensures ∙ ap from_bool c.begins_script.ensures
     ∙ one_where_so (begins_script line)) in
     let adds : new ≡ found ++ line_doubts m (thread_after m begun) number line =
-    c.in_ok-push_words.ensures
+    c.in_ok-push_line.ensures
     ∙ ap (λ (d : Option Declaration). found ++ line_doubts m d number line)
     c.thread_after.ensures in
     let few : c.from-begun.result ≤ 1 =

@@ -1,6 +1,5 @@
 use Rattle.std.proofs.Common.{◌≡◌, ◌+◌, ◌≤◌, ◌++◌, length, map}
-use Rattle.l4_lint.specs.Doubts.{doubts_from}
-use Rattle.l4_lint.specs.Lines.{lines_of}
+use Rattle.l4_lint.specs.Doubts.{doubts_from, lines_of}
 use Rattle.l4_lint.specs.Inner.Views.{doubtful_of}
 use Rattle.l4_lint.proofs.doubts.doubts_in.Given as goal
 

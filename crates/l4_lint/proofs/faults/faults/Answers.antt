@@ -1,4 +1,4 @@
-use Rattle.std.proofs.Common.{◌≡◌, ap, ◌∙◌, true, false, length, sym, rules, tests, arith}
+use Rattle.std.proofs.Common.{◌≡◌, ap, ◌∙◌, false, length, rules, tests, arith}
 use Rattle.std.specs.Prelude.{nat_lt}
 use Rattle.std.proofs.lemmas.Grind.{common_steps}
 use Rattle.std.proofs.lemmas.Bool.Decides.{nat_tests}
@@ -10,13 +10,4 @@ use Rattle.l4_lint.proofs.faults.faults.Goals as goal
 pub returns-clause-first : goal.returns-clause-first
 returns-clause-first c =
     let short : nat_lt 0x100000 (length c.args.text.now) ≡ false = first_of (search (rules, tests), grind (arith, nat_tests), grind (arith, common_steps)) in
-    IfOk-weaker c.faults_in-2.result _ _
-    (λ found e. ap first_in e ∙ short_first c.args.text.now false short (sym c.begins_second.ensures ∙ c.if-begins_second.false))
-    c.faults_in-2.ensures
-
-pub returns-then-begins_second-clause-first : goal.returns-then-begins_second-clause-first
-returns-then-begins_second-clause-first c =
-    let short : nat_lt 0x100000 (length c.args.text.now) ≡ false = first_of (search (rules, tests), grind (arith, nat_tests), grind (arith, common_steps)) in
-    IfOk-weaker c.faults_in.result _ _
-    (λ found e. ap first_in e ∙ short_first c.args.text.now true short (sym c.begins_second.ensures ∙ c.if-begins_second.true))
-    c.faults_in.ensures
+    IfOk-weaker c.faults_in.result _ _ (λ found e. ap first_in e ∙ short_first c.args.text.now short) c.faults_in.ensures

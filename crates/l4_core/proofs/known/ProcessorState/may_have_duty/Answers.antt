@@ -1,7 +1,8 @@
-use Rattle.std.proofs.Common.{◌≡◌, false, sym, ◌∙◌}
+use Rattle.std.proofs.Common.{◌≡◌, ◌||◌, false, is_some, ap, sym, ◌∙◌}
 use Rattle.l4_model.specs.World.{Ready}
 use Rattle.l4_core_model.specs.Plain.{is_queued}
 use Rattle.l4_core_model.specs.Local.{thread}
+use Rattle.l4_core.specs.Inner.Covered.{duty_at}
 use Rattle.l4_core.proofs.Fitting.{ready_not_sends, unqueued}
 use Rattle.l4_core.proofs.Parting.{runs_or_sends_owes}
 use Rattle.l4_core.proofs.known.ProcessorState.may_have_duty.Goals as goal

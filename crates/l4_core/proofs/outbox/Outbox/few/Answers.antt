@@ -1,4 +1,4 @@
-use Rattle.std.proofs.Common.{◌≤◌, drop, length, take, subst, arith}
+use Rattle.std.proofs.Common.{◌≡◌, ◌≤◌, ℕ, List, drop, length, take, sym, subst, arith}
 use Rattle.l4_core.specs.Inner.Outboxes.{Outbox}
 use Rattle.l4_core.proofs.Outboxes.{few-left, posted-count}
 use Rattle.l4_core.proofs.outbox.Outbox.few.Goals as goal

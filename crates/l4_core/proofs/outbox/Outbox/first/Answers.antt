@@ -1,4 +1,4 @@
-use Rattle.std.proofs.Common.{◌≡◌, ◌+◌, ◌-◌, ℕ, List, Some, get_or, ap, sym, ◌∙◌, take, drop, arith}
+use Rattle.std.proofs.Common.{◌≡◌, ◌+◌, ◌-◌, ◌<◌, ℕ, List, Some, get_or, refl, ap, sym, ◌∙◌, subst, take, drop, length, arith}
 use Rattle.std.specs.Prelude.{slice_get}
 use Rattle.l4_types.specs.Inner.LetterHeads.{letter_with, word_count}
 use Rattle.l4_core.proofs.Outboxes.{first-posted, first-at, Posted}

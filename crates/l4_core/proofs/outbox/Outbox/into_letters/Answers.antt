@@ -1,4 +1,4 @@
-use Rattle.std.proofs.Common.{sym, ◌∙◌, arith}
+use Rattle.std.proofs.Common.{◌≡◌, ◌++◌, ◌∷◌, ◌+◌, ◌≤◌, ◌<◌, [], List, Some, None, ℕ, drop, length, ap, sym, ◌∙◌, arith}
 use Rattle.l4_core.proofs.Outboxes.{items-of-none, items-of-some}
 use Rattle.l4_core.proofs.outbox.Outbox.into_letters.Goals as goal
 

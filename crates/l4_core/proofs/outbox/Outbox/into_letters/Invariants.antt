@@ -1,4 +1,4 @@
-use Rattle.std.proofs.Common.{◌≡◌, ◌++◌, length}
+use Rattle.std.proofs.Common.{◌≡◌, ◌++◌, ℕ, length}
 use Rattle.l4_core.proofs.outbox.Outbox.into_letters.Given as goal
 
 abbrev pub invariant-letters : goal.invariant-letters

@@ -1,4 +1,4 @@
-use Rattle.std.proofs.Common.{drop, take, sym, ◌∙◌}
+use Rattle.std.proofs.Common.{◌≡◌, ◌↔◌, [], drop, length, take, ap, sym, ◌∙◌, arith}
 use Rattle.std.proofs.lemmas.Bool.{eqb-true, eq-eqb}
 use Rattle.l4_core.proofs.Outboxes.{none-left, posted-count}
 use Rattle.l4_core.proofs.outbox.Outbox.is_empty.Goals as goal

@@ -1,9 +1,9 @@
-use Rattle.std.proofs.Common.{◌≡◌, ◌++◌, ◌∷◌, ◌-◌, ◌+◌, ◌<◌, [], List, drop, take, ℕ, arith, ap₂, set, subst, sym}
+use Rattle.std.proofs.Common.{◌≡◌, ◌++◌, ◌∷◌, ◌-◌, ◌+◌, ◌≤◌, ◌<◌, [], List, drop, take, ℕ, arith, ap, ap₂, length, set, subst, sym, ◌∙◌}
 use Rattle.std.proofs.lemmas.Grind.{common_steps}
 use Rattle.l4_types.specs.Inner.LetterHeads.{letter_with, posted_in}
 use Rattle.l4_core_model.specs.Letters.{Letter}
-use Rattle.l4_core.specs.Inner.Outboxes.{Outbox}
-use Rattle.l4_core.proofs.Outboxes.{outbox-more, posted-more, one-more}
+use Rattle.l4_core.specs.Inner.Outboxes.{Outbox, IsOutbox}
+use Rattle.l4_core.proofs.Outboxes.{outbox-more, posted-more, one-more, Posted}
 use Rattle.l4_core.proofs.outbox.Outbox.post.Goals as goal
 
 wrote : (c : goal.After-append) → c.append.new.self ≡ c.self.inside.words ++ c.args.words.now

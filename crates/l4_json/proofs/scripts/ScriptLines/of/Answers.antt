@@ -3,7 +3,7 @@ use Rattle.l4_words.specs.Lines.{parts_of}
 use Rattle.l4_json.specs.Lines.{all_but_last}
 use Rattle.l4_json.specs.Scripts.{groups}
 use Rattle.l4_json.proofs.Texts.{but_first_line}
-use Rattle.l4_json.proofs.scripts.first_lines.Goals as goal
+use Rattle.l4_json.proofs.scripts.ScriptLines.of.Goals as goal
 
 pub loop-line-preserved : goal.loop-line-preserved
 loop-line-preserved c =

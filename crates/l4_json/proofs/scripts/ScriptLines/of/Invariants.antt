@@ -2,7 +2,7 @@ use Rattle.std.proofs.Common.{◌≡◌, ◌+◌, ◌≤◌, ◌++◌, [], lengt
 use Rattle.l4_words.specs.Lines.{parts_of}
 use Rattle.l4_json.specs.Lines.{all_but_last}
 use Rattle.l4_json.specs.Scripts.{groups}
-use Rattle.l4_json.proofs.scripts.first_lines.Given as goal
+use Rattle.l4_json.proofs.scripts.ScriptLines.of.Given as goal
 
 abbrev pub invariant-loop-line : goal.invariant-loop-line
 invariant-loop-line l =

@@ -1,7 +1,0 @@
-pub mod Commands
-pub mod Faults
-pub mod Forms
-pub mod Judging
-pub mod Names
-pub mod Parts
-pub mod Reading

@@ -24,7 +24,7 @@
 pub mod round_trips;
 
 // Machine texts.
-pub use l4_script::instructions::{IdFrom, Instr, Ipc, Register, Source};
+pub use l4_script::instructions::{Instr, Ipc, Register, Source, To};
 pub use l4_script::machine::{Declaration, MOST_INSTRUCTIONS, MOST_THREADS, Machine};
 pub use l4_script::text::{MOST_BYTES, TextFault, TextFaultKind};
 pub use l4_types::times::Period;

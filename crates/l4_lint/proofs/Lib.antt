@@ -2,7 +2,6 @@ pub mod Changes
 pub mod Doubting
 pub mod First
 pub mod Foreign
-pub mod Joining
 pub mod Looking
 pub mod Named
 pub mod Never

@@ -106,13 +106,10 @@ declared_text line = codes "line " ++ decimal line ++ codes " declares this name
 abbrev pub near_text : (line : ℕ) → List ℕ
 near_text line = codes "line " ++ decimal line ++ codes " declares a name that is near"
 
-abbrev pub counted_text : (ticks : ℕ) → List ℕ
-counted_text ticks = decimal ticks ++ codes "us"
-
 abbrev pub near_times_text : (below above : ℕ) → List ℕ
 near_times_text below above =
-    codes "no time means this; the nearest are " ++ counted_text below ++ codes " and "
-    ++ counted_text above
+    codes "no time means this; the nearest are " ++ decimal below ++ codes "us and "
+    ++ decimal above ++ codes "us"
 
 abbrev pub hint_text : Hint → List ℕ
 hint_text (hints.DeclaredOn line) = declared_text line

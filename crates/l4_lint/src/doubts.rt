@@ -345,7 +345,7 @@ fn push_order<'a>(
 }
 
 // Whether a receive phase may follow: `last` and a register may have any id.
-fn may_receive(from: IdFrom) -> bool
+pub(crate) fn may_receive(from: IdFrom) -> bool
     ensures { result ≡ may_receive (id_from_of from) }
 {
     match from {
@@ -354,13 +354,13 @@ fn may_receive(from: IdFrom) -> bool
     }
 }
 
-fn is_register(register: u64, source: Source) -> bool
+pub(crate) fn is_register(register: u64, source: Source) -> bool
     ensures { result ≡ (source == register) }
 {
     u64::from(source.number()) == register
 }
 
-fn is_taken_from(register: u64, from: IdFrom) -> bool
+pub(crate) fn is_taken_from(register: u64, from: IdFrom) -> bool
     ensures { result ≡ is_taken_from register (id_from_of from) }
 {
     match from {

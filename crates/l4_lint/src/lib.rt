@@ -31,6 +31,7 @@ mod missed;
 pub mod places;
 pub mod printed;
 mod reading;
+mod scripts;
 mod second;
 pub mod spelling;
 mod walks;

@@ -3,7 +3,7 @@ ghost use Rattle.std.specs.Prelude.{◌≡◌, ◌++◌, codes, decimal, flat_ma
 ghost use Rattle.std.specs.Char.Escape.{escape_ascii};
 ghost use Rattle.std.specs.Option.{option_copied};
 ghost use Rattle.l4_lint.specs.Spelling.{kind_word, operand_text, lines_text, plain_hint, hint_text};
-ghost use Rattle.l4_lint.specs.Spelling.{counted_text, declared_text, near_text, near_times_text};
+ghost use Rattle.l4_lint.specs.Spelling.{declared_text, near_text, near_times_text};
 ghost use Rattle.l4_lint.specs.Spelling.{shown_word, place_text, fault_line, faults_text};
 ghost use Rattle.l4_lint.specs.Inner.Views.{fault_of};
 
@@ -149,24 +149,16 @@ fn push_near(line: usize, out: &mut Vec<u8>) -> Result<(), NoMemory>
     Ok(())
 }
 
-// Appends so many microseconds.
-fn push_counted(ticks: u64, out: &mut Vec<u8>) -> Result<(), NoMemory>
-    ensures { OnOk result (out.new.items ≡ out.old.items ++ counted_text ticks) }
-{
-    let mut said = String::new(*out.allocator());
-    write!(said, "{ticks}us")?;
-    out.extend_from_slice(said.as_bytes())?;
-    Ok(())
-}
-
 // Appends which times are nearest.
 fn push_near_times(below: u64, above: u64, out: &mut Vec<u8>) -> Result<(), NoMemory>
     ensures { OnOk result (out.new.items ≡ out.old.items ++ near_times_text below above) }
 {
-    out.extend_from_slice(b"no time means this; the nearest are ")?;
-    push_counted(below, out)?;
-    out.extend_from_slice(b" and ")?;
-    push_counted(above, out)?;
+    let mut said = String::new(*out.allocator());
+    write!(
+        said,
+        "no time means this; the nearest are {below}us and {above}us"
+    )?;
+    out.extend_from_slice(said.as_bytes())?;
     Ok(())
 }
 

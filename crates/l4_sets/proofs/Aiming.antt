@@ -32,7 +32,7 @@ any_more p q (x ∷ xs) f h = by (p x) refl h (any_more p q xs f)
         or_right false b h = h
 
 module _ (m : Machine) (script : List Instr) (aims : List Aimed) (settled : IsSettled m script aims)
-    (aim : Aim) (below : IsBelow aim) where
+    (aim : Aim) where
   -- What is marked is known.
   abbrev AreKnownToo : List Bool → Type 0
   AreKnownToo marks = (k : ℕ) → is_marked marks k ≡ true → is_aimed (aimed_at aims k) aim ≡ true
@@ -54,7 +54,7 @@ module _ (m : Machine) (script : List Instr) (aims : List Aimed) (settled : IsSe
       let s = settled (k + 0) (inside (k + 0) i script at) in
       let place : k + 0 ≡ k = omega arith in
       one_of mark (has_aim m i aim) (list_any (is_marked all) (places_behind i k)) h (olds 0)
-      (λ own. s.own i aim below at own)
+      (λ own. s.own i aim at own)
       (λ later. s.behind i aim at
       (any_more (is_marked all) (λ next. is_aimed (aimed_at aims next) aim) (places_behind i (k + 0)) known
       (ap (λ n. list_any (is_marked all) (places_behind i n)) place ∙ later)))
@@ -96,7 +96,7 @@ module _ (m : Machine) (script : List Instr) (aims : List Aimed) (settled : IsSe
 
 pub are_aimed : (m : Machine) (script : List Instr) (aims : List Aimed) → IsSettled m script aims →
     AreAimed m script aims
-are_aimed m script aims settled k aim below marked = all_known m script aims settled aim below k marked
+are_aimed m script aims settled k aim below marked = all_known m script aims settled aim k marked
 
 -- A mark stands at a place of its script.
 marked_within : (marks : List Bool) (k : ℕ) → is_marked marks k ≡ true → k < length marks
@@ -117,8 +117,8 @@ aim_within m aim script k h =
 -- One more place is settled.
 pub settled_on : (m : Machine) (script : List Instr) (aims : List Aimed) (place : ℕ) (due : Aimed) →
     due ≡ aimed_at aims place → ((k : ℕ) → k < place → IsSettledAt m script aims k) →
-    ((i : Instr) (aim : Aim) → IsBelow aim → slice_get script place ≡ Some i →
-    has_aim m i aim ≡ true → is_aimed due aim ≡ true) →
+    ((i : Instr) (aim : Aim) → slice_get script place ≡ Some i → has_aim m i aim ≡ true →
+    is_aimed due aim ≡ true) →
     ((i : Instr) (aim : Aim) → slice_get script place ≡ Some i →
     is_aimed_behind aims i place aim ≡ true → is_aimed due aim ≡ true) → (k : ℕ) → k < place + 1 →
     IsSettledAt m script aims k
@@ -129,7 +129,7 @@ settled_on m script aims place due same before own behind k inside = by (cases_l
     by (inr least) =
         let here : k ≡ place = omega (arith, inside, least) in
         subst (IsSettledAt m script aims) (sym here) (record {
-          own = λ i aim low at h. ap (λ a. is_aimed a aim) (sym same) ∙ own i aim low at h;
+          own = λ i aim at h. ap (λ a. is_aimed a aim) (sym same) ∙ own i aim at h;
           behind = λ i aim at h. ap (λ a. is_aimed a aim) (sym same) ∙ behind i aim at h;
         })
 

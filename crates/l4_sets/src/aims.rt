@@ -267,8 +267,7 @@ fn aim_due(machine: &Machine, script: &[Instr], aims: &[Aimed], place: usize) ->
     requires place { place < length script.now }
     requires limit { length script.now ≤ most_instructions }
     requires each { length aims.now ≡ length script.now }
-    ensures own { (i : ModelInstr) (aim : Aim) → IsBelow aim →
-        slice_get (map instr_of script.now) place ≡ Some i →
+    ensures own { (i : ModelInstr) (aim : Aim) → slice_get (map instr_of script.now) place ≡ Some i →
         has_aim machine.now i aim ≡ true → is_aimed result aim ≡ true }
     ensures behind { (i : ModelInstr) (aim : Aim) →
         slice_get (map instr_of script.now) place ≡ Some i →

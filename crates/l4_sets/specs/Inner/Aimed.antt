@@ -31,8 +31,8 @@ is_aimed_behind aims i place aim =
 
 -- Of a place all is known that its instruction says, and that is known of the places behind it.
 pub record IsSettledAt (m : Machine) (script : List Instr) (aims : List Aimed) (k : ℕ) : Type 0 where
-  pub own : (i : Instr) (aim : Aim) → IsBelow aim → slice_get script k ≡ Some i →
-      has_aim m i aim ≡ true → is_aimed (aimed_at aims k) aim ≡ true
+  pub own : (i : Instr) (aim : Aim) → slice_get script k ≡ Some i → has_aim m i aim ≡ true →
+      is_aimed (aimed_at aims k) aim ≡ true
   pub behind : (i : Instr) (aim : Aim) → slice_get script k ≡ Some i →
       is_aimed_behind aims i k aim ≡ true → is_aimed (aimed_at aims k) aim ≡ true
 

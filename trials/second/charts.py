@@ -45,14 +45,23 @@ class Part:
         return self.chosen is None or thread in self.chosen
 
 
-def numbered_lines(text):
-    """For each thread the numbers and the texts of the lines of its instructions."""
-    scripts = []
+def numbered_lines(text, machine):
+    """For each thread the numbers of the lines of its instructions, and what these say."""
+    reader, scripts, own = machines.Reader(machine.format), {}, []
     for number, line in enumerate(text.split("\n"), 1):
-        if line.startswith("thread "):
-            scripts.append([])
-        elif scripts and line and not line.startswith(machines.COMMENT):
-            scripts[-1].append((number, line))
+        said = line.partition(machines.COMMENT)[0].strip()
+        match said.split():
+            case "name", name, thread:
+                reader.names[name] = reader.identifier(thread)
+            case "thread", first, *others:
+                last = others[1] if others[0] == "to" else first
+                own = scripts[reader.identifier(others[-1])] if others[-2] == "as" else []
+                threads = range(reader.identifier(first), reader.identifier(last) + 1, words.global_id(1, 0))
+                scripts.update(dict.fromkeys(threads, own))
+            case [label] if label.endswith(":"):
+                pass
+            case [_, *_]:
+                own.append((number, said))
     return scripts
 
 
@@ -61,7 +70,7 @@ class Charted:
 
     def __init__(self, text, machine, history, part):
         self.machine, self.part = machine, part
-        self.scripts = dict(zip(machine.threads, numbered_lines(text), strict=True))
+        self.scripts = numbered_lines(text, machine)
         self.world = World(machine)
         self.rows = [self.row(number, step) for number, step in enumerate(history[: part.last], 1)]
 

@@ -1,5 +1,6 @@
 """Edits that plant a mistake: how they are read, and in which function they stand."""
 
+import collections
 import itertools
 import pathlib
 import re
@@ -136,7 +137,15 @@ def paths_of(home):
                 if " for " not in head and (one := OF_ONE.match(head)):
                     asked = f"{one[1]}+{one[2]}::{name.split('::')[-1]}"
                 found.append((path, asked))
-    return found
+    # Two types, or two modules, of one name may have functions of one name.
+    named = collections.Counter(end for path, _ in found for end in endings_of(path))
+    return [(path, f"{home.name}::{path}" if asked in endings_of(path) and named[asked] > 1 else asked) for path, asked in found]
+
+
+def endings_of(path):
+    """The path, and what is left of it without its first modules."""
+    words = path.split("::")
+    return {"::".join(words[first:]) for first in range(len(words))}
 
 
 def table_of(group):

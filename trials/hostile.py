@@ -17,10 +17,10 @@ TURNS = "300"
 PROGRESS = 5_000
 KINDS = "BadLine|BadNumber|BadId|BadName|BadCpu|TypedItems|DoubleId|TooManyThreads|TooManyInstructions|BadTarget|TooLong"
 FAULTS = re.compile(rf"l4run: (line \d+: (?:{KINDS})|schedule item \d+|(?:turns|depth|states|memory|ending) out of range|expectation line \d+: (?:BadLine|Unknown|BadWord|Deleted|Number)|trace line \d+|threads item \d+|refused at step \d+)\n")
-# A line for each fault of a text, or for each doubt, and one for each thread that waits, each circle and each thread's counts.
+# A line for each fault of a text, or for each doubt, and one for each thread that waits, each circle, each held send and each thread's counts.
 LINT = re.compile(rf"line (\d+) column \d+: ({KINDS})(?:: `[ -~]*`)?: [ -~]+".encode())
 DOUBT = re.compile(rb"line \d+ column \d+: (?:always|perhaps): `[ -~]*`: [ -~]+")
-BEHIND = rb"(?:waits \S+ \S+ (?:send|receive)\n)*(?:(?:circle|deadlock)(?: \S+)+\n)*(?:counts \S+ turns \d+ sends \d+ delivered \d+ received \d+ refused(?: [2-7]:\d+){6}\n)*"
+BEHIND = rb"(?:waits \S+ \S+ (?:send|receive)\n)*(?:(?:circle|deadlock)(?: \S+)+\n)*(?:held \S+\n)*(?:counts \S+ turns \d+ sends \d+ delivered \d+ received \d+ refused(?: [2-7]:\d+){6}\n)*"
 PASSED = re.compile(rb"passed \d+ (?:quiet|spent)\n" + BEHIND)
 ENDINGS = re.compile(rb"(^|\n)(worlds \d+ steps \d+ (whole|cut)|states \d+ depth \d+ (whole, least ticks(, in turn)?|cut))\n$")
 ITEM = re.compile(rb"schedule item (\d+): (?:`[ -~]*`: )?[ -~]+")

@@ -30,6 +30,7 @@ LINES = {
     "waits": "waits {thread} {for} {phase}",
     "circle": "circle {threads..}",
     "deadlock": "deadlock {threads..}",
+    "held": "held {send}",
     "counts": "counts {thread} turns {turns} sends {sends} delivered {delivered} received {received} refused {refused..}",
     "passed": "passed {steps} {ending}",
     "because": "because {cause}",

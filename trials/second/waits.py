@@ -1,4 +1,4 @@
-"""Who waits for whom in a world, where threads wait for each other in a circle, and what each thread did in a history."""
+"""Who waits for whom in a world, where threads wait for each other in a circle, which sends are held, and what each thread did in a history."""
 
 import collections
 
@@ -11,9 +11,10 @@ INSTRUCTIONS = ("local", "begin", "wait", "order")
 
 
 def waits_text(world):
-    """A line for each thread that waits, and one for each circle."""
+    """A line for each thread that waits, one for each circle, and one for each send that is held."""
     lines = [f"waits {words.spelled(thread)} {wait}" for thread, wait in waits(world)]
     lines += [circle_line(world, circle) for circle in in_order_of_first(world)]
+    lines += [f"held {member.send.name}" for member in world.members.values() if is_held(world, member.send)]
     return "".join(line + "\n" for line in lines)
 
 
@@ -23,6 +24,13 @@ def waits(world):
             yield thread, f"{words.spelled(member.send.destination)} send"
         elif member.receives():
             yield thread, f"{words.spelled(member.source)} receive"
+
+
+def is_held(world, send):
+    """Whether this is a send of time zero that is not refused, though its receiver does not wait: that is in a call which may yet let it wait."""
+    if send is None or send.period != 0 or world.is_nobody(send.destination):
+        return False
+    return world.members[send.destination].phase is not threads.Phase.RECEIVING and not world.may_refuse(send)
 
 
 def partner(world, thread):

@@ -56,6 +56,13 @@ impl<'m> Auditor<'m> {
         Ok(Auditor { world, begun })
     }
 
+    /// The world that it has come to.
+    pub fn world(&self) -> &World<'m>
+        ensures { result.now ≡ self.now.at }
+    {
+        &self.world
+    }
+
     /// Judges the next step. If the step is not possible, or memory is refused, nothing changes:
     /// all calls then answer for the world before the step.
     #[inline(always)]

@@ -2,7 +2,7 @@
 
 /// The version of the program and of the kit that proves it, and the profiles and formats that it
 /// reads.
-pub const VERSION: &str = "0.43
+pub const VERSION: &str = "0.44
 rattle-kit-13f logic dac8208d650f15bf
 profiles 1 and 2, words of 64 and 32 bits";
 
@@ -26,6 +26,8 @@ Behind that, `--waits` tells who waits for whom, as `waits 1.1 2.1 send`, and wh
 in a circle, as
 `circle 1.1 2.1`, or as `deadlock 1.1 2.1` where none of them can go on by any step
 of theirs. While one order is undone or one retarget owed, of whatever thread, each is a `circle`.
+`held 9.1#1` is a send of time zero that waits until its receiver's call to another processor is \
+decided.
 `--counts` tells what each thread did, as
 
   counts 1.1 turns 4 sends 1 delivered 1 received 0 refused 2:0 3:0 4:0 5:0 6:0 7:0

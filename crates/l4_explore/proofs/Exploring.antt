@@ -1,7 +1,8 @@
 -- Where a search ends, what it has found is what it says.
-use Rattle.std.proofs.Common.{◌≡◌, ℕ, ◌+◌, ◌-◌, ◌<◌, ◌≤◌, true, false, ◌⊎◌, inl, inr, List, [], ◌∷◌, length, zero, suc, Option, None, Some, refl, sym, ap, ◌∙◌, arith}
+use Rattle.std.proofs.Common.{◌≡◌, ℕ, ◌+◌, ◌-◌, ◌<◌, ◌≤◌, Bool, true, false, ◌⊎◌, inl, inr, List, [], ◌∷◌, ◌++◌, length, zero, suc, Option, None, Some, refl, sym, ap, ◌∙◌, arith}
 use Rattle.std.proofs.Math.Nat.{eq-or-lt_of_le}
 use Rattle.std.proofs.lemmas.Bool.{cases_lt}
+use Rattle.std.proofs.Math.ListN.{length-append}
 use Rattle.l4_explore.specs.Orders.{IsBefore}
 use Rattle.l4_explore.specs.Tries.{State}
 use Rattle.l4_explore.specs.Search.{Seen, seen_at, depth_of, AreFound, AreWithin, IsCutByDepth, IsCutByStates, IsExplored, IsGoneOn, IsSearched, IsStopped, Offers}
@@ -32,6 +33,43 @@ no_deeper f found i j all le l = by (eq-or-lt_of_le le)
     by (inl e) = let same = ap (λ k. length (seen_at found k).schedule) e in omega (arith, same)
     by (inr m) =
         before_length (seen_at found i).schedule (seen_at found j).schedule (all.rising i j m l)
+
+-- A search that was not carried to its end has found what one finds that is cut.
+pub cut_early : (f : List ℕ → Option State) (offers : Offers) (found : List Seen)
+    (next reached : ℕ) → AreFound f found → ((i : ℕ) → i < next → IsGoneOn offers found i) →
+    length (seen_at found next).schedule ≡ reached → AreWithin found (reached + 1) →
+    IsExplored f offers found reached false
+cut_early f offers found next reached all gone_on same near = record {
+  all = all;
+  gone_on = λ i l why. by i l why (cases_lt i next);
+  near = near;
+}
+  where
+    by : (i : ℕ) → i < length found →
+        (length (seen_at found i).schedule < reached) ⊎ (false ≡ true) →
+        (i < next) ⊎ (next ≤ i) → IsGoneOn offers found i
+    by i l why (inl less) = gone_on i less
+    by i l (inl short) (inr le) =
+        let d = no_deeper f found next i all le l in absurd (omega (arith, d, short, same))
+    by i l (inr whole) (inr le) = cc
+
+-- All states that were found are nearly as near as the one that comes next.
+pub near_next : (f : List ℕ → Option State) (offers : Offers) (found : List Seen) (next : ℕ) →
+    IsSearched f offers found next → next < length found →
+    AreWithin found (length (seen_at found next).schedule + 1)
+near_next f offers found next s inside i l =
+    let schedule = (seen_at found next).schedule in
+    let near = before_length (seen_at found i).schedule (schedule ++ 0 ∷ []) (s.before i 0 inside l) in
+    omega (arith, near, length-append schedule (0 ∷ []))
+
+-- Whether or not all choices of a state were met, the search has gone on from those before it.
+pub gone_before : (f : List ℕ → Option State) (offers : Offers) (found : List Seen) (next : ℕ)
+    (all : Bool) → (all ≡ true → IsSearched f offers found (next + 1)) →
+    (all ≡ false → IsStopped f offers found next) → (i : ℕ) → i < next → IsGoneOn offers found i
+gone_before f offers found next true searched stopped i less =
+    let s = searched refl in s.gone_on i (omega (arith, less))
+gone_before f offers found next false searched stopped i less =
+    let s = stopped refl in s.gone_on i less
 
 module _ (f : List ℕ → Option State) (offers : Offers) (found : List Seen) (next depth : ℕ) where
   -- None is left that was not gone on from.
@@ -76,19 +114,7 @@ module _ (f : List ℕ → Option State) (offers : Offers) (found : List Seen) (
   module _ (most reached : ℕ) (s : IsStopped f offers found next) (all : AreFound f found)
       (same : length (seen_at found next).schedule ≡ reached) where
     pub cut_by_states : AreWithin found (reached + 1) → IsExplored f offers found reached false
-    cut_by_states near = record {
-      all = all;
-      gone_on = λ i l why. by i l why (cases_lt i next);
-      near = near;
-    }
-      where
-        by : (i : ℕ) → i < length found →
-            (length (seen_at found i).schedule < reached) ⊎ (false ≡ true) →
-            (i < next) ⊎ (next ≤ i) → IsGoneOn offers found i
-        by i l why (inl less) = s.gone_on i less
-        by i l (inl short) (inr le) =
-            let d = no_deeper f found next i all le l in absurd (omega (arith, d, short, same))
-        by i l (inr whole) (inr le) = cc
+    cut_by_states near = cut_early f offers found next reached all s.gone_on same near
 
     pub is_cut_by_states : reached < depth → length found ≡ most →
         IsCutByStates f offers found depth most reached

@@ -3,6 +3,7 @@ mod Listed
 pub mod Lasting
 mod Trying
 mod Exploring
+mod Telling
 pub mod Covering
 pub mod Nearing
 mod Growing

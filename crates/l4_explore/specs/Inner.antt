@@ -4,4 +4,5 @@ pub mod Grown
 pub mod Rows
 pub mod States
 pub mod Table
+pub mod Told
 pub mod Views

@@ -1,4 +1,5 @@
 pub mod Inner
 pub mod Orders
 pub mod Search
+pub mod Told
 pub mod Tries

@@ -15,6 +15,7 @@
 
 mod codes;
 pub mod found;
+pub mod listener;
 mod numbers;
 mod pieces;
 pub mod progress;

@@ -49,6 +49,7 @@ rows =
     ∷ row (codes "waits") (Label (codes "waits") ∷ Word (codes "thread") ∷ Word (codes "for") ∷ Word (codes "phase") ∷ [])
     ∷ row (codes "circle") (Label (codes "circle") ∷ Words (codes "threads") ∷ [])
     ∷ row (codes "deadlock") (Label (codes "deadlock") ∷ Words (codes "threads") ∷ [])
+    ∷ row (codes "held") (Label (codes "held") ∷ Word (codes "send") ∷ [])
     ∷ row (codes "counts") (Label (codes "counts") ∷ Word (codes "thread") ∷ Label (codes "turns") ∷ Word (codes "turns") ∷ Label (codes "sends") ∷ Word (codes "sends") ∷ Label (codes "delivered") ∷ Word (codes "delivered") ∷ Label (codes "received") ∷ Word (codes "received") ∷ Label (codes "refused") ∷ Words (codes "refused") ∷ [])
     ∷ row (codes "passed") (Label (codes "passed") ∷ Word (codes "steps") ∷ Word (codes "ending") ∷ [])
     ∷ row (codes "because") (Label (codes "because") ∷ Text (codes "cause") ∷ [])

@@ -153,6 +153,10 @@ pub const ROWS: &[Row] = &[
         parts: &[Part::Label("deadlock"), Part::Words("threads")],
     },
     Row {
+        kind: "held",
+        parts: &[Part::Label("held"), Part::Word("send")],
+    },
+    Row {
         kind: "counts",
         parts: &[
             Part::Label("counts"),

@@ -350,7 +350,7 @@ fn may_receive(from: IdFrom) -> bool
 {
     match from {
         IdFrom::Fixed(id) => id != ThreadId::NIL,
-        IdFrom::Last | IdFrom::InRegister(_) | IdFrom::InShortRegister(_) => true,
+        IdFrom::Last | IdFrom::InRegister(_, _) => true,
     }
 }
 
@@ -364,9 +364,7 @@ fn is_taken_from(register: u64, from: IdFrom) -> bool
     ensures { result ≡ is_taken_from register (id_from_of from) }
 {
     match from {
-        IdFrom::InRegister(source) | IdFrom::InShortRegister(source) => {
-            is_register(register, source)
-        }
+        IdFrom::InRegister(_, source) => { is_register(register, source) }
         IdFrom::Fixed(_) | IdFrom::Last => false,
     }
 }

@@ -53,7 +53,7 @@ fn may_name(id: GlobalId, from: IdFrom) -> bool
 {
     match from {
         IdFrom::Fixed(named) => is_id_of(named, id),
-        IdFrom::Last | IdFrom::InRegister(_) | IdFrom::InShortRegister(_) => true,
+        IdFrom::Last | IdFrom::InRegister(_, _) => true,
     }
 }
 

@@ -81,7 +81,7 @@ module _ (m : Machine) (found : List Seen) (depth : ℕ) (is_whole : Bool)
             (inr (looked.rising i j less inside)),
       )
 
-  of_found : AreAllEndings m (map (entries_of m) (ends_of found)) depth is_whole
+  pub of_found : AreAllEndings m (map (entries_of m) (ends_of found)) depth is_whole
   of_found = record {
     sound = all_ends m (IsEnding m) found
         (all_places (λ s. s.state.is_end ≡ true → IsEnding m (entries_of m s.schedule)) unseen

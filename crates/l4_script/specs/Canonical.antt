@@ -28,7 +28,7 @@ id_word f AnyLocalThread = codes "anylocal"
 id_word f (LocalThread word) = codes "#" ++ low_digits (id_digits f) word
 id_word f (GlobalThread t) = thread_word t
 
--- Where an id is from. A register stands in no text yet.
+-- Where an id is from. A register stands in texts of version 2 alone.
 abbrev pub id_from_word : Format → IdFrom → List ℕ
 id_from_word f (Fixed id) = id_word f id
 id_from_word f Last = codes "last"
@@ -55,7 +55,7 @@ time_word (Some ticks) = if ticks == 0 then codes "zero" else ticks_word ticks (
 -- Lines, as the lists of their words
 
 -- Which line assigns a value, and the number that stands there last. The word of `from` is assigned
--- by no text yet, and has no such number.
+-- in texts of version 2 alone, and has no such number.
 
 abbrev pub keyword_of : Value → List ℕ
 keyword_of (Word word) = codes "set"
@@ -124,7 +124,7 @@ abbrev pub is_register : ℕ → Bool
 is_register n = nat_le 1 n && nat_le n last_register
 
 -- An id that stands there, and a destination, which may be `last` besides. Ids in registers, and
--- branches on labels, words and senders, stand in no text yet.
+-- branches on labels, words and senders, stand in texts of version 2 alone.
 
 abbrev pub has_id : Format → IdFrom → Bool
 has_id f (Fixed id) = has_word_in f id

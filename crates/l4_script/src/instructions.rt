@@ -6,6 +6,7 @@ ghost use Rattle.l4_types.specs.Inner.PeriodView.{IsTimely};
 ghost use Rattle.l4_script.specs.Inner.Scripts.{instr_of};
 ghost use Rattle.l4_script.specs.Second.Statements.{with_place};
 
+use l4_types::formats::Format;
 use l4_types::ids::ThreadId;
 use l4_types::registers::MESSAGE_REGISTERS;
 use l4_types::steps::OrderKind;
@@ -104,10 +105,8 @@ pub enum IdFrom {
     Fixed(ThreadId),
     /// What the register `from` has at that moment.
     Last,
-    /// The id whose word the register has then (texts of 64 bits).
-    InRegister(Source),
-    /// The id whose word the register has then (texts of 32 bits).
-    InShortRegister(Source),
+    /// The id whose word of this format the register has then, nilthread where it is none.
+    InRegister(Format, Source),
 }
 
 /// An Ipc of a script (manual: Ipc). Its periods are below 2^42 ticks, as a time can spell no

@@ -225,7 +225,7 @@ fn aim_of(machine: &Machine, from: IdFrom) -> Aimed
             at: Processors::none(),
             at_last: true,
         },
-        IdFrom::InRegister(_) | IdFrom::InShortRegister(_) => Aimed {
+        IdFrom::InRegister(_, _) => Aimed {
             at: Processors::from(0),
             at_last: false,
         },
@@ -347,7 +347,7 @@ fn may_be(id: GlobalId, from: IdFrom) -> bool
 {
     match from {
         IdFrom::Fixed(named) => is_id_of(named, id),
-        IdFrom::Last | IdFrom::InRegister(_) | IdFrom::InShortRegister(_) => true,
+        IdFrom::Last | IdFrom::InRegister(_, _) => true,
     }
 }
 

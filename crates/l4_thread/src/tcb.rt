@@ -168,6 +168,7 @@ impl Tcb {
 
     /// The message of its undecided send. Where there is none, that of a send that it would begin
     /// now without propagation.
+    #[inline(always)]
     pub fn outgoing(&self) -> MessageRef<'_>
         ensures { result ≡ outgoing self.now.id self.now.thread }
     {

@@ -418,13 +418,12 @@ impl Thread {
         match from {
             IdFrom::Fixed(id) => id,
             IdFrom::Last => self.regs.from,
-            IdFrom::InRegister(source) => self.id_in(Format::W64, source),
-            IdFrom::InShortRegister(source) => self.id_in(Format::W32, source),
+            IdFrom::InRegister(format, source) => self.id_in(format, source),
         }
     }
 
     // The id whose word a message register has, nilthread where it is no word of the format.
-    #[inline(never)]
+    #[inline(always)]
     fn id_in(&self, format: Format, source: Source) -> ThreadId
         ensures { result ≡ unwrap_or
             (id_in (format_of format) (register self.now.context source)) NilThread }
@@ -433,7 +432,7 @@ impl Thread {
     }
 
     // The word of the id that the register `from` has, 0 where the format has none.
-    #[inline(never)]
+    #[inline(always)]
     fn word_from(&self, format: Format) -> u64
         ensures { result ≡ unwrap_or (word_in (format_of format) self.now.context.from) 0 }
     {
@@ -441,6 +440,7 @@ impl Thread {
     }
 
     /// The receive phase of an Ipc that begins now, unless its specifier is nilthread.
+    #[inline(always)]
     pub(crate) fn receive_phase(&self, ipc: &Ipc) -> Option<(ThreadId, Period)>
         ensures value { option_map receive_from result ≡ receive_phase
             (id_from self.now.context (id_from_of ipc.now.from)) (period_of ipc.now.receive_period) }

@@ -1,5 +1,6 @@
 pub mod After
 pub mod Circling
+pub mod Holding
 pub mod Joined
 pub mod Lasting
 pub mod Ranges

@@ -1,3 +1,4 @@
 pub mod Circles
 pub mod Deadlocks
+pub mod Held
 pub mod Lines

@@ -4,10 +4,11 @@ use Rattle.std.specs.Prelude.{flat_map, length, slice_index_or, codes}
 use Rattle.std.specs.List.{range_with_len}
 use Rattle.l4_model.specs.Words.{GlobalId, global_id, Id}
 use Rattle.l4_model.specs.Machine.{Machine}
-use Rattle.l4_model.specs.World.{World}
+use Rattle.l4_model.specs.World.{Name, World}
 use Rattle.l4_model.specs.Steps.{Step}
 use Rattle.l4_model.specs.Still.{late}
 use Rattle.l4_words.specs.Lines.{line_of_words}
+use Rattle.l4_words.specs.Names.{name_word}
 use Rattle.l4_words.specs.Threads.{id_word, thread_word}
 use Rattle.l4_audit.specs.Possible.{possible}
 use Rattle.l4_audit.specs.Waits.{waits_in}
@@ -15,6 +16,7 @@ use Rattle.l4_audit.specs.declared.waits.Wait.{Wait}
 use Rattle.l4_audit.specs.declared.waits.Wait.TheVariants.{Send, Arrival, Receive}
 use Rattle.l4_waits.specs.Circles.{nexts_of, circle_at}
 use Rattle.l4_waits.specs.Deadlocks.{are_stuck}
+use Rattle.l4_waits.specs.Held.{held_sends}
 
 -- The id that a thread sends to or receives from, and which of the two.
 abbrev pub whom : Wait → Id
@@ -59,10 +61,20 @@ circle_lines waits steps nexts =
 abbrev pub text_of : List (GlobalId × Wait) → List Step → List ℕ
 text_of waits steps = flat_map wait_line waits ++ circle_lines waits steps (nexts_of waits)
 
--- Those for circles alone.
+-- Those for sends that are held.
+
+abbrev pub held_line : Name → List ℕ
+held_line s = line_of_words (codes "held" ∷ name_word s ∷ [])
+
+abbrev pub held_lines : List Name → List ℕ
+held_lines sends = flat_map held_line sends
+
+-- Those for circles and held sends alone.
 abbrev pub circles_text : Machine → World → List ℕ
 circles_text m w =
     circle_lines (waits_in m w) (possible m (late w)) (nexts_of (waits_in m w))
+    ++ held_lines (held_sends m w)
 
 abbrev pub waits_text : Machine → World → List ℕ
-waits_text m w = text_of (waits_in m w) (possible m (late w))
+waits_text m w =
+    text_of (waits_in m w) (possible m (late w)) ++ held_lines (held_sends m w)

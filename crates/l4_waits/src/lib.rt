@@ -6,7 +6,8 @@
 //! phase is closed for. So each thread has at most one partner, and circles are found by following
 //! it. A circle is a *deadlock* where none of its threads can go on by any step, now or after any
 //! ticks. Nor may an order be undone or a retarget owed. Other threads that still run may yet
-//! delete or cancel one of its threads, or send in the name of one.
+//! delete or cancel one of its threads, or send in the name of one. A send of time zero is *held*
+//! while its receiver is in a call to another processor that would accept it afterwards.
 //!
 //! ```rust
 //! let mut lines = Vec::new(alloc);
@@ -19,4 +20,5 @@
 
 pub mod circles;
 pub mod deadlocks;
+pub mod held;
 pub mod lines;

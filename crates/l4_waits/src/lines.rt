@@ -6,13 +6,15 @@ ghost use Rattle.l4_model.specs.History.{IsHistory, reached};
 ghost use Rattle.l4_model.specs.World.{World};
 ghost use Rattle.l4_types.specs.StepView.{step_of};
 ghost use Rattle.l4_waits.specs.Circles.{circle_at};
+ghost use Rattle.l4_waits.specs.Held.{held_sends};
 ghost use Rattle.l4_waits.specs.Lines.{whom, how_word, wait_line, id_at, ids_at};
 ghost use Rattle.l4_waits.specs.Lines.{circle_word, ids_line, circle_line, circle_lines};
-ghost use Rattle.l4_waits.specs.Lines.{circles_text, text_of, waits_text};
+ghost use Rattle.l4_waits.specs.Lines.{circles_text, held_line, held_lines, text_of, waits_text};
 ghost use Rattle.l4_words.specs.Threads.{thread_word};
 
 use crate::circles::{circle_at, nexts_of};
 use crate::deadlocks::are_stuck;
+use crate::held::held_sends;
 use l4_audit::audit::{AuditFault, audited};
 use l4_audit::auditor::Auditor;
 use l4_audit::reasons::StepFault;
@@ -21,22 +23,24 @@ use l4_history::history::History;
 use l4_script::machine::Machine;
 use l4_types::errors::NoMemory;
 use l4_types::ids::{GlobalId, ThreadId};
-use l4_types::steps::Step;
-use l4_words::spelling::{push_id, push_thread};
+use l4_types::steps::{Name, Step};
+use l4_words::spelling::{push_id, push_name, push_thread};
 use std::alloc::{AllocError, Global};
 
 /// Appends who waits for whom at the end of an audit. A line for each thread that waits comes in
-/// order of declaration. Then one for each circle comes in order of its first thread. If memory is
-/// refused, nothing is appended.
+/// order of declaration. Then one for each circle comes in order of its first thread, and one for
+/// each send of time zero that is held. If memory is refused, nothing is appended.
 pub fn write_waits(alloc: Global, auditor: Auditor<'_>, out: &mut Vec<u8>) -> Result<(), NoMemory>
     ensures ok { OnOk result (out.new.items ≡ out.old.items ++
         waits_text auditor.entry.at.machine auditor.entry.at.world) }
     ensures err { OnErr result (out.new.items ≡ out.old.items) }
 {
     let waits = auditor.waits(alloc)?;
+    let held = held_sends(alloc, auditor.world())?;
     let steps = auditor.possible_late(alloc)?;
     let mut text = String::new(alloc);
     push_text(&mut text, waits.as_slice(), steps.as_slice())?;
+    push_helds(&mut text, held.as_slice())?;
     out.extend_from_slice(text.as_bytes())?;
     Ok(())
 }
@@ -60,12 +64,13 @@ pub fn write_waits_after(
     }
 }
 
-// The lines of the circles at the end of an audit.
+// The lines of the circles and of held sends at the end of an audit.
 fn circles_of(alloc: Global, auditor: Auditor<'_>) -> Result<Vec<u8>, NoMemory>
     ensures { IfOk result (λ lines. lines.items ≡
         circles_text auditor.entry.at.machine auditor.entry.at.world) }
 {
     let waits = auditor.waits(alloc)?;
+    let sends = held_sends(alloc, auditor.world())?;
     let late = auditor.possible_late(alloc)?;
     let nexts = nexts_of(alloc, waits.as_slice())?;
     let mut text = String::new(alloc);
@@ -75,6 +80,7 @@ fn circles_of(alloc: Global, auditor: Auditor<'_>) -> Result<Vec<u8>, NoMemory>
         late.as_slice(),
         nexts.as_slice(),
     )?;
+    push_helds(&mut text, sends.as_slice())?;
     Ok(text.into_bytes())
 }
 
@@ -103,7 +109,8 @@ fn audited_until<'m>(
     Ok(auditor)
 }
 
-/// The lines of the circles after the first `count` steps of a history, as `write_waits` has them.
+/// The lines of the circles and of held sends after the first `count` steps of a history, as
+/// `write_waits` has them.
 ///
 /// `NoMemory`: memory was refused.
 pub fn circles_after(
@@ -238,6 +245,25 @@ fn push_circle(text: &mut String, steps: &[Step], ids: &[GlobalId]) -> Result<()
 {
     text.push_str(circle_word(are_stuck(steps, ids)))?;
     push_threads(text, ids)?;
+    text.push('\n')?;
+    Ok(())
+}
+
+fn push_helds(text: &mut String, sends: &[Name]) -> Result<(), AllocError>
+    ensures { OnOk result (string_bytes text.new ≡ string_bytes text.old ++ held_lines sends.now) }
+{
+    for send in sends {
+        push_held(text, *send)?;
+    }
+    Ok(())
+}
+
+#[tactic(auto, using(crate::proofs::Joined::held_line_joined))]
+fn push_held(text: &mut String, send: Name) -> Result<(), AllocError>
+    ensures { OnOk result (string_bytes text.new ≡ string_bytes text.old ++ held_line send) }
+{
+    text.push_str("held")?;
+    push_name(text, send)?;
     text.push('\n')?;
     Ok(())
 }

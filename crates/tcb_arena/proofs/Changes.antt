@@ -9,10 +9,10 @@ use Rattle.std.proofs.lemmas.Map.Keys.{IsDistinct-push}
 use Rattle.std.proofs.lemmas.Map.Steps.{length-le_from_distinct_below}
 use Rattle.std.specs.List.{range_with_len, IsDistinct}
 use Rattle.l4_model.specs.World.{is_in}
-use Rattle.tcb_arena.specs.Inner.Rings.{Lists, AreSound, list_at, taken_out, without_first, AreRings, Leads, ring, rings, without, is_in_any}
+use Rattle.tcb_arena.specs.Inner.Rings.{Lists, AreSound, list_at, taken_out, without_first, AreRings, Leads, ring, rings, with_before, without, is_in_any}
 use Rattle.tcb_arena.proofs.Splices.{second, length-set2, AreInverse-spliced, moved, moved_there, spliced_step}
-use Rattle.tcb_arena.proofs.Lists.{length-without, is_in_any-without, IsDistinct-without, map-range, map-range_set, map-map-range, is_in-push, is_in_any-grown, is_in_any-at, is_in_any-range, IsDistinct-nil, without_the_first}
-use Rattle.tcb_arena.proofs.Walks.{length-walk, walk-leads, leads-below, free_is_nowhere, leads_without, leads_push, leads_kept, first-leads, after-leads, leads-one, leads-at}
+use Rattle.tcb_arena.proofs.Lists.{length-without, is_in_any-without, IsDistinct-without, map-range, map-range_set, map-map-range, is_in-push, is_in_any-grown, is_in_any-at, is_in_any-range, is_in_any-before, is_in_any-put_before, IsDistinct-before, IsDistinct-nil, without_the_first}
+use Rattle.tcb_arena.proofs.Walks.{length-walk, walk-leads, leads-below, free_is_nowhere, leads_without, leads_push, leads_kept, leads_before, first-leads, after-leads, leads-one, leads-at}
 
 -- Rings
 
@@ -204,6 +204,84 @@ unfolding rings
 is_in_any-free names next prev x r lx e =
     is_in_any-range (ring names next) x names (length next - names)
     (λ h room l. free_is_nowhere names next h x lx room e (ring names next h) (get_or next h 0) (r.leads h room (omega (arith, r.room))))
+
+-- A name put before another one, which comes after t
+
+module _ (names : ℕ) (next prev : List ℕ) (o x t : ℕ) (r : AreRings names next prev) (lo : o < names) (there : is_in_any o (rings names next) ≡ true) (lx : x < names) (free : is_in_any x (rings names next) ≡ false) (et : t ≡ get_or prev o 0) where
+  abbrev set_before : List ℕ
+  set_before = set (set next t x) x o
+
+  bo : o < length next
+  bo = omega (arith, r.room)
+
+  bx : x < length next
+  bx = omega (arith, r.room)
+
+  bself : get_or next x 0 ≡ x
+  bself = ⊎_elim (λ (e : get_or next x 0 ≡ x). e) (λ (ne : get_or next x 0 ≡ x → ⊥). absurd (false≢true (sym free ∙ r.found x lx ne))) (cases_eq (get_or next x 0) x)
+
+  bt : t < length next
+  bt = omega (arith, r.inverse.prev_in o bo)
+
+  bt' : get_or next t 0 ≡ o
+  bt' = ap (λ k. get_or next k 0) et ∙ r.inverse.next_prev o bo
+
+  goes : (y : ℕ) → y < length next → y ≢ x → get_or set_before y 0 ≡ moved o x (get_or next y 0)
+  goes y l ne = spliced_step next prev t x o x y r.inverse bt bt' l ne
+
+  to_o : get_or set_before x 0 ≡ o
+  to_o = second next t x x o bx
+
+  bnowhere : (h : ℕ) → names ≤ h → h < length next → is_in x (ring names next h) ≡ false
+  bnowhere h rh l = free_is_nowhere names next h x lx rh bself (ring names next h) (get_or next h 0) (r.leads h rh l)
+
+  leads_set : (h : ℕ) → names ≤ h → h < length next → Leads names set_before h (get_or set_before h 0) (with_before o x (ring names next h))
+  leads_set h rh l =
+      let ne : h ≢ x = λ e. absurd (omega arith) in
+      let P : ℕ → Type 0 = λ k. Leads names set_before h k (with_before o x (ring names next h)) in
+      subst P (sym (goes h l ne))
+      (leads_before names next set_before h o x rh lo lx to_o (λ y ly n. goes y (omega (arith, r.room)) n) (ring names next h) (get_or next h 0) (bnowhere h rh l) (r.distinct h rh l) (r.leads h rh l))
+
+  distinct_set : (h : ℕ) → names ≤ h → h < length next → IsDistinct (λ a b. eqb a b) (with_before o x (ring names next h))
+  distinct_set h rh l = IsDistinct-before o x (ring names next h) (bnowhere h rh l) (r.distinct h rh l)
+
+  ring-before : (h : ℕ) → names ≤ h → h < length next → ring names set_before h ≡ with_before o x (ring names next h)
+  ring-before h rh l = ring-leads names set_before h (with_before o x (ring names next h)) rh (leads_set h rh l)
+      (length-le_from_distinct_below (with_before o x (ring names next h)) names (distinct_set h rh l) (leads-below names set_before h (with_before o x (ring names next h)) (get_or set_before h 0) (leads_set h rh l)))
+
+  pub rings-before : rings names set_before ≡ map (with_before o x) (rings names next)
+  unfolding rings
+  rings-before =
+      ap (λ n. map (ring names set_before) (range_with_len names (n - names))) (length-set2 next t x x o)
+      ∙ map-range (ring names set_before) (λ h. with_before o x (ring names next h)) names (length next - names) (λ h room l. ring-before h room (omega (arith, r.room)))
+      ∙ sym (map-map-range (with_before o x) (ring names next) names (length next - names))
+
+  pub AreRings-before : AreRings names set_before (set (set prev x t) o x)
+  AreRings-before =
+      let ln : length set_before ≡ length next = length-set2 next t x x o in
+      record {
+        room = omega (arith, r.room);
+        inverse = AreInverse-spliced next prev t x o x r.inverse bt bx bt' bself;
+        leads = λ h rh l.
+            let l' : h < length next = omega arith in
+            subst (λ (xs : List ℕ). Leads names set_before h (get_or set_before h 0) xs) (sym (ring-before h rh l')) (leads_set h rh l');
+        distinct = λ h rh l.
+            let l' : h < length next = omega arith in
+            subst (λ (xs : List ℕ). IsDistinct (λ a b. eqb a b) xs) (sym (ring-before h rh l')) (distinct_set h rh l');
+        found = λ y ly went.
+            ap (is_in_any y) rings-before
+            ∙ ⊎_elim
+            (λ (e : y ≡ x). ap (λ z. is_in_any z (map (with_before o x) (rings names next))) e ∙ is_in_any-put_before o x (rings names next) there)
+            (λ (ne : y ≡ x → ⊥).
+            let was : get_or next y 0 ≢ y = λ e.
+            went
+            (goes y (omega (arith, r.room)) ne
+            ∙ moved_there o x (get_or next y 0)
+            (λ w. let same : y ≡ o = sym e ∙ w in false≢true (sym (is_in_any-free names next prev o r lo (ap (λ k. get_or next k 0) (sym same) ∙ w)) ∙ there))
+            ∙ e) in
+            is_in_any-before o x y (rings names next) (r.found y ly was))
+            (cases_eq y x);
+      }
 
 -- All names linked to themselves
 

@@ -1,13 +1,13 @@
 -- Entries by rising deadline, made of the rings that the blocks stand in, whatever the number of rings.
-use Rattle.std.specs.Prelude.{slice_get, Some, Option, take}
-use Rattle.std.proofs.Common.{◌≡◌, ◌≢◌, ℕ, ◌+◌, ◌<◌, ◌≤◌, ◌%◌, Bool, true, false, not, cond, eqb, leb, ◌||◌, ◌⊎◌, inl, inr, List, [], ◌∷◌, ◌++◌, length, map, get_or, set, refl, sym, ◌∙◌, ap, subst, ⊎_elim, arith, zero, suc, get_or-set_same, get_or-set_other, add-one}
+use Rattle.std.specs.Prelude.{slice_get, Some, None}
+use Rattle.std.proofs.Common.{◌≡◌, ◌≢◌, ℕ, ◌<◌, ◌≤◌, ◌%◌, Bool, true, false, not, cond, eqb, leb, ◌||◌, ◌⊎◌, inl, inr, List, [], ◌∷◌, ◌++◌, length, map, get_or, set, refl, sym, ◌∙◌, ap, subst, ⊎_elim, arith, zero, suc, get_or-set_same, get_or-set_other}
 use Rattle.std.proofs.lemmas.Bool.{cases_eq, ne_eqb, eq-eqb, eqb-false, cond-true, cond-false, cases_lt, le-leb, lt-leb, or_parts, or_left, or_right, false≢true}
 use Rattle.std.proofs.lemmas.List.{map-set, map_push, length-map}
 use Rattle.std.specs.List.{list_any}
 use Rattle.l4_core_model.specs.Plain.{put_entry, without_block}
 use Rattle.l4_model.specs.World.{is_in}
 use Rattle.tcb_arena.specs.Inner.Rings.{without, is_in_any}
-use Rattle.tcb_arena.specs.Inner.Due.{earlier_of, put_all, put_rings, entry}
+use Rattle.tcb_arena.specs.Inner.Due.{put_all, put_rings, entry}
 use Rattle.tcb_arena.proofs.Lists.{is_in-at, get_or-without, without_here as name_here, without_there as name_there}
 
 abbrev pub E : Type 0
@@ -174,7 +174,7 @@ any-put_all b (e ∷ es) acc =
     ∙ elim (eqb b e.1) as (λ (t : Bool). ((t || list_any (λ (x : E). eqb b x.1) acc) || list_any (λ (x : E). eqb b x.1) es) ≡ (list_any (λ (x : E). eqb b x.1) acc || (t || list_any (λ (x : E). eqb b x.1) es)))
     [ true ↦ elim (list_any (λ (x : E). eqb b x.1) acc) as (λ (u : Bool). true ≡ (u || true)) [ true ↦ refl | false ↦ refl ] | false ↦ refl ]
 
-any-entries : (ds : List ℕ) (b : ℕ) (ys : List ℕ) → list_any (λ (x : E). eqb b x.1) (map (entry ds) ys) ≡ is_in b ys
+pub any-entries : (ds : List ℕ) (b : ℕ) (ys : List ℕ) → list_any (λ (x : E). eqb b x.1) (map (entry ds) ys) ≡ is_in b ys
 any-entries ds b [] = refl
 any-entries ds b (y ∷ ys) = ap (λ t. eqb b y || t) (any-entries ds b ys)
 
@@ -186,7 +186,7 @@ any-put_rings ds b (l ∷ ls) acc =
 
 -- Entries of names
 
-entries-without : (ds : List ℕ) (b : ℕ) (ys : List ℕ) → map (entry ds) (without b ys) ≡ without_block b (map (entry ds) ys)
+pub entries-without : (ds : List ℕ) (b : ℕ) (ys : List ℕ) → map (entry ds) (without b ys) ≡ without_block b (map (entry ds) ys)
 entries-without ds b [] = refl
 entries-without ds b (y ∷ ys) =
     elim (eqb b y) as (λ (t : Bool). map (entry ds) (cond (not t) (y ∷ without b ys) (without b ys)) ≡ cond (not t) (entry ds y ∷ without_block b (map (entry ds) ys)) (without_block b (map (entry ds) ys)))
@@ -200,7 +200,7 @@ all_entries-without ds b (l ∷ ls) =
 pub armed-without : (ds : List ℕ) (b : ℕ) (ls : List (List ℕ)) → put_rings [] (map (map (entry ds)) (map (without b) ls)) ≡ without_block b (put_rings [] (map (map (entry ds)) ls))
 armed-without ds b ls = ap (put_rings []) (all_entries-without ds b ls) ∙ without_put_rings b (map (map (entry ds)) ls) [] tt
 
-entries-absent : (ds : List ℕ) (b d : ℕ) (ys : List ℕ) → is_in b ys ≡ false → map (entry (set ds b d)) ys ≡ map (entry ds) ys
+pub entries-absent : (ds : List ℕ) (b d : ℕ) (ys : List ℕ) → is_in b ys ≡ false → map (entry (set ds b d)) ys ≡ map (entry ds) ys
 entries-absent ds b d [] h = refl
 entries-absent ds b d (y ∷ ys) h =
     let parts : (eqb b y ≡ false) × (is_in b ys ≡ false) = or_parts (eqb b y) (is_in b ys) h in
@@ -222,6 +222,16 @@ pub entry-from : (ds ys : List ℕ) (k : ℕ) (e : E) → slice_get (map (entry 
 entry-from ds [] k e h = absurd (cc)
 entry-from ds (y ∷ ys) zero e h = let p : entry ds y ≡ e = cc in (ap (λ (z : E). Some z.1) p, ap (λ (z : E). get_or ds z.1 0) (sym p) ∙ ap (λ (z : E). z.0) p)
 entry-from ds (y ∷ ys) (suc k) e h = entry-from ds ys k e h
+
+pub entry-at : (ds ys : List ℕ) (k b : ℕ) → slice_get ys k ≡ Some b → slice_get (map (entry ds) ys) k ≡ Some (entry ds b)
+entry-at ds [] k b h = absurd (cc)
+entry-at ds (y ∷ ys) zero b h = let same : y ≡ b = cc in ap (λ n. Some (entry ds n)) same
+entry-at ds (y ∷ ys) (suc k) b h = entry-at ds ys k b h
+
+pub entry-none : (ds ys : List ℕ) (k : ℕ) → slice_get ys k ≡ None → slice_get (map (entry ds) ys) k ≡ None
+entry-none ds [] k h = refl
+entry-none ds (y ∷ ys) zero h = absurd (cc)
+entry-none ds (y ∷ ys) (suc k) h = entry-none ds ys k h
 
 -- A block armed at the end of a ring.
 pub entries-put : (ds : List ℕ) (b d r : ℕ) (ls : List (List ℕ)) → b < length ds → is_in_any b ls ≡ false
@@ -306,30 +316,3 @@ pub placed-without : (n : ℕ) (ds : List ℕ) (b : ℕ) (ls : List (List ℕ)) 
 placed-without n ds b ls placed h k x t =
     let p : (j : ℕ) × (slice_get (get_or ls h []) j ≡ Some x) = get-without b (get_or ls h []) k x (ap (λ ys. slice_get ys k) (sym (get_or-without b h ls)) ∙ t) in
     placed h p.0 x p.1
-
--- The first entry, by one entry after another
-
-pub first-put : (e : E) (xs : List E) → slice_get (put_entry e xs) 0 ≡ Some (earlier_of (slice_get xs 0) e)
-first-put e [] = refl
-first-put e (x ∷ xs) =
-    ⊎_elim
-    (λ (p : e.0 < x.0). ap (λ (r : List E). slice_get r 0) (put_lt e x xs p) ∙ ap (λ (z : E). Some z) (sym (cond-false (leb x.0 e.0) x e (lt-leb x.0 e.0 p))))
-    (λ (p : x.0 ≤ e.0). ap (λ (r : List E). slice_get r 0) (put_le e x xs p) ∙ ap (λ (z : E). Some z) (sym (cond-true (leb x.0 e.0) x e (le-leb x.0 e.0 p))))
-    (cases_lt e.0 x.0)
-
-take_at : (ys : List ℕ) (k x : ℕ) → slice_get ys k ≡ Some x → take (suc k) ys ≡ take k ys ++ x ∷ []
-take_at [] k x h = absurd (cc)
-take_at (y ∷ ys) zero x h = let p : y ≡ x = cc in ap (λ (z : ℕ). z ∷ []) p
-take_at (y ∷ ys) (suc k) x h = ap (λ (r : List ℕ). y ∷ r) (take_at ys k x h)
-
--- The first entry of what the first k names of a ring add.
-abbrev pub best_at : List ℕ → List ℕ → ℕ → List E → Option E
-best_at ds ys k acc = slice_get (put_all acc (map (entry ds) (take k ys))) 0
-
-pub best-more : (ds ys : List ℕ) (k x : ℕ) (acc : List E) → slice_get ys k ≡ Some x → best_at ds ys (k + 1) acc ≡ Some (earlier_of (best_at ds ys k acc) (entry ds x))
-best-more ds ys k x acc h =
-    ap (λ (n : ℕ). best_at ds ys n acc) (add-one k)
-    ∙ ap (λ (r : List ℕ). slice_get (put_all acc (map (entry ds) r)) 0) (take_at ys k x h)
-    ∙ ap (λ (r : List E). slice_get (put_all acc r) 0) (map_push (entry ds) (take k ys) x)
-    ∙ ap (λ (r : List E). slice_get r 0) (put_all_push (entry ds x) (map (entry ds) (take k ys)) acc)
-    ∙ first-put (entry ds x) (put_all acc (map (entry ds) (take k ys)))

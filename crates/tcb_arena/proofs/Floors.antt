@@ -4,7 +4,7 @@ use Rattle.std.proofs.Common.{◌≡◌, ℕ, ◌<◌, ◌≤◌, Bool, true, fa
 use Rattle.std.proofs.lemmas.Bool.{and_parts, leb-true, le-leb, cases_eq, false≢true}
 use Rattle.l4_core_model.specs.Plain.{put_entry, due_block}
 use Rattle.tcb_arena.specs.Inner.Rings.{is_in_any, without}
-use Rattle.tcb_arena.specs.Inner.Due.{are_from, put_all, put_rings, entries_in, armed_in, AreFloors, IsFloor, IsLeast}
+use Rattle.tcb_arena.specs.Inner.Due.{are_from, put_all, put_rings, entries_in, armed_in, IsFloor}
 use Rattle.tcb_arena.proofs.Lists.{is_in-at, get_or-without}
 use Rattle.tcb_arena.proofs.Entries.{E, is_in-get, get-push, get-without, entries-at, entry-from}
 
@@ -48,10 +48,6 @@ none-due floor now (e ∷ es) h lt =
     by true c = let p = and_parts (nat_le floor e.0) (are_from floor es) h in let at : floor ≤ e.0 = leb-true floor e.0 p.0 in let le : e.0 ≤ now = leb-true e.0 now c in absurd (omega arith)
     by false c = refl
 
-pub first-from : (low : ℕ) (es : List E) (e : E) → are_from low es ≡ true → slice_get es 0 ≡ Some e → low ≤ e.0
-first-from low [] e h g = absurd (cc)
-first-from low (x ∷ xs) e h g = let same : x ≡ e = cc in let p = and_parts (nat_le low x.0) (are_from low xs) h in omega (arith, leb-true low x.0 p.0, ap (λ (z : E). z.0) same)
-
 -- A block armed at the end of a ring
 
 pub get-pushed : (ls : List (List ℕ)) (r b h k x : ℕ) → r < length ls → slice_get (get_or (set ls r (get_or ls r [] ++ b ∷ [])) h []) k ≡ Some x
@@ -72,26 +68,6 @@ pub deadline-kept : (ds : List ℕ) (b d : ℕ) (ls : List (List ℕ)) (h k x : 
 deadline-kept ds b d ls h k x free t =
     get_or-set_other ds b x d 0 (λ (e : x ≡ b). absurd (false≢true (sym (is_in-at b h ls free) ∙ is_in-get b (get_or ls h []) k (t ∙ ap Some e))))
 
-pub floors-armed : (floors ds : List ℕ) (ls : List (List ℕ)) (b d r low : ℕ) → b < length ds → r < length ls → r < length floors → is_in_any b ls ≡ false → low ≤ get_or floors r 0 → low ≤ d → AreFloors floors ds ls
-    → AreFloors (set floors r low) (set ds b d) (set ls r (get_or ls r [] ++ b ∷ []))
-floors-armed floors ds ls b d r low lb lr lf free small early f = record {
-  below = λ h k x t.
-      let was : (slice_get (get_or ls h []) k ≡ Some x) → get_or (set floors r low) h 0 ≤ get_or (set ds b d) x 0 = λ q.
-      let stays : get_or (set ds b d) x 0 ≡ get_or ds x 0 = deadline-kept ds b d ls h k x free q in
-      let at : get_or floors h 0 ≤ get_or ds x 0 = f.below h k x q in
-      ⊎_elim
-      (λ (e : h ≡ r). let new : get_or (set floors r low) h 0 ≡ low = ap (λ z. get_or (set floors r low) z 0) e ∙ get_or-set_same floors r low 0 lf in let old : get_or floors h 0 ≡ get_or floors r 0 = ap (λ z. get_or floors z 0) e in omega (arith, stays, at, new, old))
-      (λ (ne : h ≡ r → ⊥). let new : get_or (set floors r low) h 0 ≡ get_or floors h 0 = get_or-set_other floors r h low 0 ne in omega (arith, stays, at, new))
-      (cases_eq h r) in
-      ⊎_elim
-      (λ (p : (h ≡ r) × (b ≡ x)).
-      let new : get_or (set floors r low) h 0 ≡ low = ap (λ z. get_or (set floors r low) z 0) p.0 ∙ get_or-set_same floors r low 0 lf in
-      let own : get_or (set ds b d) x 0 ≡ d = ap (λ z. get_or (set ds b d) z 0) (sym p.1) ∙ get_or-set_same ds b d 0 lb in
-      omega (arith, new, own))
-      was
-      (get-pushed ls r b h k x lr t);
-}
-
 pub floor-armed : (floor low : ℕ) (ds : List ℕ) (ls : List (List ℕ)) (b d r : ℕ) → b < length ds → r < length ls → is_in_any b ls ≡ false → low ≤ floor → low ≤ d → IsFloor floor ds ls
     → IsFloor low (set ds b d) (set ls r (get_or ls r [] ++ b ∷ []))
 floor-armed floor low ds ls b d r lb lr free small early f = record {
@@ -107,20 +83,7 @@ floor-armed floor low ds ls b d r lb lr free small early f = record {
 pub get-left : (ls : List (List ℕ)) (b h k x : ℕ) → slice_get (get_or (map (without b) ls) h []) k ≡ Some x → (j : ℕ) × (slice_get (get_or ls h []) j ≡ Some x)
 get-left ls b h k x t = get-without b (get_or ls h []) k x (ap (λ ys. slice_get ys k) (sym (get_or-without b h ls)) ∙ t)
 
-pub floors-disarmed : (floors ds : List ℕ) (ls : List (List ℕ)) (b : ℕ) → AreFloors floors ds ls → AreFloors floors ds (map (without b) ls)
-floors-disarmed floors ds ls b f = record {
-  below = λ h k x t. let from : (j : ℕ) × (slice_get (get_or ls h []) j ≡ Some x) = get-left ls b h k x t in f.below h from.0 x from.1;
-}
-
 pub floor-disarmed : (floor : ℕ) (ds : List ℕ) (ls : List (List ℕ)) (b : ℕ) → IsFloor floor ds ls → IsFloor floor ds (map (without b) ls)
 floor-disarmed floor ds ls b f = record {
   below = λ h k x t. let from : (j : ℕ) × (slice_get (get_or ls h []) j ≡ Some x) = get-left ls b h k x t in f.below h from.0 x from.1;
 }
-
--- What a look has found
-
-pub floor-found : (ds : List ℕ) (ls : List (List ℕ)) (e : E) → IsLeast ds ls (Some e) → IsFloor e.0 ds ls
-floor-found ds ls e least = record { below = λ h k x t. leb-true e.0 (get_or ds x 0) (least.below h k x t) }
-
-pub floor-none : (high : ℕ) (ds : List ℕ) (ls : List (List ℕ)) → IsLeast ds ls None → IsFloor high ds ls
-floor-none high ds ls least = record { below = λ h k x t. let no : false ≡ true = least.below h k x t in cc }

@@ -6,8 +6,6 @@ pub mod Leaving
 pub mod Lists
 pub mod Once
 pub mod Ordered
-pub mod RingBits
-pub mod Seeking
 pub mod Showing
 pub mod Splices
 pub mod Walks

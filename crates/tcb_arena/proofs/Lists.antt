@@ -1,10 +1,10 @@
 -- Lists of names, with one taken out or put at the end; and lists made of an index.
 use Rattle.std.specs.Prelude.{slice_get, Some, drop}
 use Rattle.std.proofs.Common.{◌≡◌, ◌≢◌, ℕ, ◌+◌, ◌<◌, ◌≤◌, true, false, eqb, ◌||◌, List, [], ◌∷◌, ◌++◌, length, map, get_or, set, refl, sym, ◌∙◌, ap, subst, ⊎_elim, arith, zero, suc}
-use Rattle.std.proofs.lemmas.Bool.{cases_eq, ne_eqb, eq-eqb, or_left, or_right, or_cases, or_parts}
+use Rattle.std.proofs.lemmas.Bool.{cases_eq, ne_eqb, eq-eqb, eqb-true, eqb-false, or_left, or_right, or_cases, or_parts}
 use Rattle.std.specs.List.{range_with_len, IsDistinct, AllByRecursion}
 use Rattle.l4_model.specs.World.{is_in}
-use Rattle.tcb_arena.specs.Inner.Rings.{without, is_in_any}
+use Rattle.tcb_arena.specs.Inner.Rings.{with_before, without, is_in_any}
 
 pub without_here : (x y : ℕ) (ys : List ℕ) → x ≡ y → without x (y ∷ ys) ≡ without x ys
 without_here x y ys e = rw (eq-eqb x y e) refl
@@ -134,6 +134,98 @@ pub is_in_any-range : (f : ℕ → List ℕ) (y a n : ℕ) → ((i : ℕ) → a 
 is_in_any-range f y a zero h = refl
 is_in_any-range f y a (suc n) h =
     ap (λ b. b || is_in_any y (map f (range_with_len (a + 1) n))) (h a (omega arith) (omega arith)) ∙ is_in_any-range f y (a + 1) n (λ i l k. h i (omega arith) (omega arith))
+
+-- A name put before another one
+
+pub before_here : (o x y : ℕ) (ys : List ℕ) → o ≡ y → with_before o x (y ∷ ys) ≡ x ∷ y ∷ ys
+before_here o x y ys e = rw (eq-eqb o y e) refl
+
+pub before_there : (o x y : ℕ) (ys : List ℕ) → o ≢ y → with_before o x (y ∷ ys) ≡ y ∷ with_before o x ys
+before_there o x y ys ne = rw (ne_eqb o y ne) refl
+
+pub is_in-before : (o x y : ℕ) (ys : List ℕ) → is_in y ys ≡ true → is_in y (with_before o x ys) ≡ true
+is_in-before o x y [] e = e
+is_in-before o x y (z ∷ zs) e =
+    ⊎_elim
+    (λ (same : o ≡ z). ap (is_in y) (before_here o x z zs same) ∙ or_right (eqb y x) (is_in y (z ∷ zs)) e)
+    (λ (ne : o ≡ z → ⊥).
+    ap (is_in y) (before_there o x z zs ne)
+    ∙ ⊎_elim
+    (λ (t : eqb y z ≡ true). or_left (eqb y z) (is_in y (with_before o x zs)) t)
+    (λ (t : is_in y zs ≡ true). or_right (eqb y z) (is_in y (with_before o x zs)) (is_in-before o x y zs t))
+    (or_cases (eqb y z) (is_in y zs) e))
+    (cases_eq o z)
+
+is_in-put_before : (o x : ℕ) (ys : List ℕ) → is_in o ys ≡ true → is_in x (with_before o x ys) ≡ true
+is_in-put_before o x [] e = e
+is_in-put_before o x (z ∷ zs) e =
+    ⊎_elim
+    (λ (same : o ≡ z). ap (is_in x) (before_here o x z zs same) ∙ or_left (eqb x x) (is_in x (z ∷ zs)) (eq-eqb x x refl))
+    (λ (ne : o ≡ z → ⊥).
+    ap (is_in x) (before_there o x z zs ne)
+    ∙ or_right (eqb x z) (is_in x (with_before o x zs))
+    (is_in-put_before o x zs
+    (⊎_elim
+    (λ (t : eqb o z ≡ true). absurd (ne (eqb-true o z t)))
+    (λ (t : is_in o zs ≡ true). t)
+    (or_cases (eqb o z) (is_in o zs) e))))
+    (cases_eq o z)
+
+pub is_in_any-before : (o x y : ℕ) (ls : List (List ℕ)) → is_in_any y ls ≡ true → is_in_any y (map (with_before o x) ls) ≡ true
+is_in_any-before o x y [] e = e
+is_in_any-before o x y (l ∷ ls) e =
+    ⊎_elim
+    (λ (t : is_in y l ≡ true). or_left (is_in y (with_before o x l)) (is_in_any y (map (with_before o x) ls)) (is_in-before o x y l t))
+    (λ (t : is_in_any y ls ≡ true). or_right (is_in y (with_before o x l)) (is_in_any y (map (with_before o x) ls)) (is_in_any-before o x y ls t))
+    (or_cases (is_in y l) (is_in_any y ls) e)
+
+pub is_in_any-put_before : (o x : ℕ) (ls : List (List ℕ)) → is_in_any o ls ≡ true → is_in_any x (map (with_before o x) ls) ≡ true
+is_in_any-put_before o x [] e = e
+is_in_any-put_before o x (l ∷ ls) e =
+    ⊎_elim
+    (λ (t : is_in o l ≡ true). or_left (is_in x (with_before o x l)) (is_in_any x (map (with_before o x) ls)) (is_in-put_before o x l t))
+    (λ (t : is_in_any o ls ≡ true). or_right (is_in x (with_before o x l)) (is_in_any x (map (with_before o x) ls)) (is_in_any-put_before o x ls t))
+    (or_cases (is_in o l) (is_in_any o ls) e)
+
+pub get_or-before : (o x h : ℕ) (ls : List (List ℕ)) → get_or (map (with_before o x) ls) h [] ≡ with_before o x (get_or ls h [])
+get_or-before o x h [] = refl
+get_or-before o x zero (l ∷ ls) = refl
+get_or-before o x (suc h) (l ∷ ls) = get_or-before o x h ls
+
+all-not_in : (x : ℕ) (ys : List ℕ) → is_in x ys ≡ false → AllByRecursion (λ z. eqb x z ≡ false) ys
+all-not_in x [] h = tt
+all-not_in x (y ∷ ys) h = let p = or_parts (eqb x y) (is_in x ys) h in (p.0, all-not_in x ys p.1)
+
+not_in-all : (x : ℕ) (ys : List ℕ) → AllByRecursion (λ z. eqb x z ≡ false) ys → is_in x ys ≡ false
+not_in-all x [] h = refl
+not_in-all x (y ∷ ys) h = ap (λ b. b || is_in x ys) h.0 ∙ not_in-all x ys h.1
+
+all-before : (P : ℕ → Type 0) (o x : ℕ) (ys : List ℕ) → P x → AllByRecursion P ys → AllByRecursion P (with_before o x ys)
+all-before P o x [] px h = h
+all-before P o x (y ∷ ys) px h =
+    let Q : List ℕ → Type 0 = AllByRecursion P in
+    ⊎_elim
+    (λ (e : o ≡ y). subst Q (sym (before_here o x y ys e)) (px, h))
+    (λ (n : o ≡ y → ⊥). subst Q (sym (before_there o x y ys n)) (h.0, all-before P o x ys px h.1))
+    (cases_eq o y)
+
+pub IsDistinct-before : (o x : ℕ) (ys : List ℕ) → is_in x ys ≡ false → IsDistinct (λ a b. eqb a b) ys → IsDistinct (λ a b. eqb a b) (with_before o x ys)
+unfolding IsDistinct
+IsDistinct-before o x [] not_in h = h
+IsDistinct-before o x (y ∷ ys) not_in h =
+    let Q : List ℕ → Type 0 = IsDistinct (λ a b. eqb a b) in
+    let p = or_parts (eqb x y) (is_in x ys) not_in in
+    ⊎_elim
+    (λ (e : o ≡ y). subst Q (sym (before_here o x y ys e)) (all-not_in x (y ∷ ys) not_in, h))
+    (λ (n : o ≡ y → ⊥).
+    subst Q (sym (before_there o x y ys n))
+    (all-before (λ z. eqb y z ≡ false) o x ys (ne_eqb y x (λ e. eqb-false x y p.0 (sym e))) h.0, IsDistinct-before o x ys p.1 h.1))
+    (cases_eq o y)
+
+-- The first of distinct names is none of the others.
+pub IsDistinct-first : (y : ℕ) (ys : List ℕ) → IsDistinct (λ a b. eqb a b) (y ∷ ys) → (is_in y ys ≡ false) × IsDistinct (λ a b. eqb a b) ys
+unfolding IsDistinct
+IsDistinct-first y ys h = (not_in-all y ys h.0, h.1)
 
 -- A name that stands in one place alone
 

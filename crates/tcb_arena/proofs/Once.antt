@@ -74,7 +74,7 @@ once_in b (y ∷ ys) h =
     subst P (sym (ap (λ t. cond t 1 0 + times_in b ys) (ne_eqb b y ne))) (let goal : 0 + times_in b ys ≤ 1 = omega (arith, ih) in goal))
     (cases_eq b y)
 
-get-in : (b : ℕ) (ys : List ℕ) → is_in b ys ≡ true → (k : ℕ) × (slice_get ys k ≡ Some b)
+pub get-in : (b : ℕ) (ys : List ℕ) → is_in b ys ≡ true → (k : ℕ) × (slice_get ys k ≡ Some b)
 get-in b [] h = absurd (cc)
 get-in b (y ∷ ys) h =
     ⊎_elim

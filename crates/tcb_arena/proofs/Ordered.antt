@@ -1,363 +1,182 @@
--- The armed blocks in order, by the rings: those of one deadline stand in one ring, in the same order, and of the later ones the least comes
--- first.
-use Rattle.std.specs.Prelude.{slice_get, Some, None, Option, drop, find}
-use Rattle.std.specs.Option.{option_map}
-use Rattle.std.proofs.Common.{◌≡◌, ◌≢◌, ℕ, ◌+◌, ◌<◌, ◌≤◌, ◌%◌, Bool, true, false, not, cond, eqb, leb, List, [], ◌∷◌, ◌++◌, length, map, filter, get_or, refl, sym, ◌∙◌, ap, subst, ⊎_elim, arith, zero, suc, add-one}
-use Rattle.std.proofs.lemmas.Bool.{cases_eq, cases_lt, eq-eqb, ne_eqb, cond-true, cond-false, le-leb, lt-leb}
-use Rattle.std.proofs.lemmas.List.{append-nil, append_assoc}
-use Rattle.std.proofs.lemmas.List.Elements.{filter-append}
+-- The list of the armed blocks by rising deadline: its first block, the place of one more, and that it has those of the rings.
+use Rattle.std.specs.Prelude.{slice_get, Some, None, drop, find}
+use Rattle.std.proofs.Common.{◌≡◌, ◌≢◌, ℕ, ◌<◌, ◌≤◌, Bool, true, false, not, eqb, ◌||◌, List, [], ◌∷◌, ◌++◌, length, map, get_or, set, refl, sym, ◌∙◌, ap, subst, ⊎_elim, arith, zero, suc, get_or-set_same}
+use Rattle.std.proofs.lemmas.Bool.{cases_Bool, cases_lt, cond-true, cond-false, eq-eqb, le-leb, lt-leb, or_left, or_right, or_parts, false≢true}
+use Rattle.std.specs.List.{list_any}
+use Rattle.l4_model.specs.World.{is_in}
 use Rattle.l4_core_model.specs.Plain.{put_entry}
-use Rattle.tcb_arena.specs.Inner.Rings.{Lists, list_at, is_linked, AreSound}
-use Rattle.tcb_arena.specs.Inner.Due.{ArePlaced, Due, armed_in, armed_of, entries_in, entry, has_deadline, put_all, put_rings, shown_due, times_armed}
-use Rattle.tcb_arena.proofs.Lists.{is_in_any-at}
-use Rattle.tcb_arena.proofs.Entries.{E, Rises, put_le, put_lt, rises-put, rises-put_all, rises-put_rings, entries-at, entry-from, is_in-get}
-use Rattle.tcb_arena.proofs.Once.{entry-apart, get-in-any, once-shown, times-ring}
-use Rattle.tcb_arena.proofs.Seeking.{entry-at}
+use Rattle.tcb_arena.specs.Inner.Rings.{Lists, is_in_any, is_linked, with_before}
+use Rattle.tcb_arena.specs.Inner.Due.{armed_in, entries_in, entry, is_later, ArePlaced, AreOrdered, AreRising, IsFloor}
+use Rattle.tcb_arena.proofs.Lists.{before_here, before_there, is_in_any-at}
+use Rattle.tcb_arena.proofs.Entries.{E, Rises, any-entries, any-put_rings, entries-absent, entry-at, entry-from, entry-none, is_in-get, put_le, put_lt, rises-put_rings}
+use Rattle.tcb_arena.proofs.Once.{get-in, get-in-any}
 
-abbrev is_for : ℕ → E → Bool
-is_for d e = eqb e.0 d
-
-abbrev pub is_after : ℕ → E → Bool
-is_after d e = not (leb e.0 d)
-
-abbrev pub at_deadline : ℕ → ℕ → E
-at_deadline d b = (d, b)
-
-rises-armed : (ds : List ℕ) (ls : List (List ℕ)) → Rises 0 (armed_in ds ls)
-rises-armed ds ls = rises-put_rings (entries_in ds ls) [] tt
+-- Rising deadlines
 
 rises-get : (low : ℕ) (xs : List E) (k : ℕ) (e : E) → Rises low xs → slice_get xs k ≡ Some e → low ≤ e.0
 rises-get low [] k e h at = absurd (cc)
 rises-get low (x ∷ xs) zero e h at = let same : x ≡ e = cc in omega (arith, h.0, ap (λ (z : E). z.0) same)
 rises-get low (x ∷ xs) (suc k) e h at = omega (arith, h.0, rises-get x.0 xs k e h.1 at)
 
--- Those of one deadline
+rises-two : (low : ℕ) (xs : List E) (k j : ℕ) (e f : E) → Rises low xs → k ≤ j → slice_get xs k ≡ Some e → slice_get xs j ≡ Some f → e.0 ≤ f.0
+rises-two low [] k j e f h le at at' = absurd (cc)
+rises-two low (x ∷ xs) zero zero e f h le at at' = let same : e ≡ f = cc in omega (arith, ap (λ (z : E). z.0) same)
+rises-two low (x ∷ xs) zero (suc j) e f h le at at' = let same : x ≡ e = cc in omega (arith, ap (λ (z : E). z.0) same, rises-get x.0 xs j f h.1 at')
+rises-two low (x ∷ xs) (suc k) zero e f h le at at' = absurd (omega arith)
+rises-two low (x ∷ xs) (suc k) (suc j) e f h le at at' = rises-two x.0 xs k j e f h.1 (omega arith) at at'
 
-for-here : (d : ℕ) (e : E) (es : List E) → e.0 ≡ d → filter (is_for d) (e ∷ es) ≡ e ∷ filter (is_for d) es
-for-here d e es same = cond-true (is_for d e) (e ∷ filter (is_for d) es) (filter (is_for d) es) (eq-eqb e.0 d same)
+rises-order : (ds : List ℕ) (s o : Lists) → AreOrdered ds s o → Rises 0 (map (entry ds) (get_or o.lists 0 []))
+rises-order ds s o w = subst (Rises 0) (sym w.entries) (rises-put_rings (entries_in ds s.lists) [] tt)
 
-for-there : (d : ℕ) (e : E) (es : List E) → e.0 ≢ d → filter (is_for d) (e ∷ es) ≡ filter (is_for d) es
-for-there d e es ne = cond-false (is_for d e) (e ∷ filter (is_for d) es) (filter (is_for d) es) (ne_eqb e.0 d ne)
+pub order-rising : (ds : List ℕ) (s o : Lists) → AreOrdered ds s o → AreRising ds (get_or o.lists 0 [])
+order-rising ds s o w = record {
+  rising = λ k j x y le t u.
+      rises-two 0 (map (entry ds) (get_or o.lists 0 [])) k j (entry ds x) (entry ds y) (rises-order ds s o w) le (entry-at ds (get_or o.lists 0 []) k x t) (entry-at ds (get_or o.lists 0 []) j y u);
+}
 
-for-later : (d low : ℕ) (xs : List E) → d < low → Rises low xs → filter (is_for d) xs ≡ []
-for-later d low [] lt h = refl
-for-later d low (x ∷ xs) lt h =
-    for-there d x xs (λ (same : x.0 ≡ d). absurd (omega (arith, h.0, lt, same))) ∙ for-later d x.0 xs (omega (arith, h.0, lt)) h.1
+-- The place of one more
 
-for-put : (d low : ℕ) (e : E) (xs : List E) → Rises low xs → filter (is_for d) (put_entry e xs) ≡ filter (is_for d) xs ++ filter (is_for d) (e ∷ [])
-for-put d low e [] h = refl
-for-put d low e (x ∷ xs) h =
+passes : (p : ℕ → Bool) (ys : List ℕ) (x : ℕ) → find p ys ≡ Some x → p x ≡ true
+passes p [] x h = absurd (cc)
+passes p (y ∷ ys) x h =
     ⊎_elim
-    (λ (p : e.0 < x.0).
-    ap (filter (is_for d)) (put_lt e x xs p)
-    ∙ ⊎_elim
-    (λ (same : e.0 ≡ d).
-    let none : filter (is_for d) (x ∷ xs) ≡ [] = for-later d x.0 (x ∷ xs) (omega (arith, p, same)) (omega arith, h.1) in
-    for-here d e (x ∷ xs) same ∙ ap (λ (r : List E). e ∷ r) none ∙ sym (for-here d e [] same)
-    ∙ ap (λ (r : List E). r ++ filter (is_for d) (e ∷ [])) (sym none))
-    (λ (ne : e.0 ≡ d → ⊥).
-    for-there d e (x ∷ xs) ne ∙ sym (append-nil (filter (is_for d) (x ∷ xs)))
-    ∙ ap (λ (r : List E). filter (is_for d) (x ∷ xs) ++ r) (sym (for-there d e [] ne)))
-    (cases_eq e.0 d))
-    (λ (p : x.0 ≤ e.0).
-    ap (filter (is_for d)) (put_le e x xs p)
-    ∙ elim (is_for d x) as (λ (t : Bool). cond t (x ∷ filter (is_for d) (put_entry e xs)) (filter (is_for d) (put_entry e xs)) ≡ cond t (x ∷ filter (is_for d) xs) (filter (is_for d) xs) ++ filter (is_for d) (e ∷ []))
-    [ true ↦ ap (λ (r : List E). x ∷ r) (for-put d x.0 e xs h.1) | false ↦ for-put d x.0 e xs h.1 ])
-    (cases_lt e.0 x.0)
+    (λ (e : p y ≡ true).
+    let here : Some y ≡ Some x = sym (cond-true (p y) (Some y) (find p ys) e) ∙ h in
+    let same : y ≡ x = cc in ap p (sym same) ∙ e)
+    (λ (e : p y ≡ false). passes p ys x (sym (cond-false (p y) (Some y) (find p ys) e) ∙ h))
+    (cases_Bool (p y))
 
-for-put_all : (d : ℕ) (es acc : List E) → Rises 0 acc → filter (is_for d) (put_all acc es) ≡ filter (is_for d) acc ++ filter (is_for d) es
-for-put_all d [] acc h = sym (append-nil (filter (is_for d) acc))
-for-put_all d (e ∷ es) acc h =
-    for-put_all d es (put_entry e acc) (rises-put 0 e acc (omega arith) h)
-    ∙ ap (λ (r : List E). r ++ filter (is_for d) es) (for-put d 0 e acc h)
-    ∙ append_assoc (filter (is_for d) acc) (filter (is_for d) (e ∷ [])) (filter (is_for d) es)
-    ∙ ap (λ (r : List E). filter (is_for d) acc ++ r) (sym (filter-append (is_for d) (e ∷ []) es))
-
-for-none : (d : ℕ) (ls : List (List E)) (acc : List E) → Rises 0 acc → ((h : ℕ) → filter (is_for d) (get_or ls h []) ≡ []) → filter (is_for d) (put_rings acc ls) ≡ filter (is_for d) acc
-for-none d [] acc h none = refl
-for-none d (l ∷ ls) acc h none =
-    for-none d ls (put_all acc l) (rises-put_all l acc h) (λ i. none (suc i)) ∙ for-put_all d l acc h
-    ∙ ap (λ (r : List E). filter (is_for d) acc ++ r) (none 0) ∙ append-nil (filter (is_for d) acc)
-
--- Where they stand in one ring alone, they come in its order.
-for-put_rings : (d r : ℕ) (ls : List (List E)) (acc : List E) → Rises 0 acc → ((h : ℕ) → h ≢ r → filter (is_for d) (get_or ls h []) ≡ [])
-    → filter (is_for d) (put_rings acc ls) ≡ filter (is_for d) acc ++ filter (is_for d) (get_or ls r [])
-for-put_rings d r [] acc h others = sym (append-nil (filter (is_for d) acc))
-for-put_rings d zero (l ∷ ls) acc h others =
-    for-none d ls (put_all acc l) (rises-put_all l acc h) (λ i. others (suc i) (λ (z : suc i ≡ 0). absurd (omega (arith, z)))) ∙ for-put_all d l acc h
-for-put_rings d (suc r) (l ∷ ls) acc h others =
-    for-put_rings d r ls (put_all acc l) (rises-put_all l acc h) (λ i ne. others (suc i) (λ (z : suc i ≡ suc r). ne (omega (arith, z))))
-    ∙ ap (λ (xs : List E). xs ++ filter (is_for d) (get_or ls r []))
-    (for-put_all d l acc h ∙ ap (λ (xs : List E). filter (is_for d) acc ++ xs) (others 0 (λ (z : 0 ≡ suc r). absurd (omega (arith, z)))) ∙ append-nil (filter (is_for d) acc))
-
-for-elsewhere : (ds ns : List ℕ) (d : ℕ) → ((k x : ℕ) → slice_get ns k ≡ Some x → get_or ds x 0 ≢ d) → filter (is_for d) (map (entry ds) ns) ≡ []
-for-elsewhere ds [] d none = refl
-for-elsewhere ds (y ∷ ys) d none = for-there d (entry ds y) (map (entry ds) ys) (none 0 y refl) ∙ for-elsewhere ds ys d (λ k x t. none (suc k) x t)
-
-of-ring : (ds : List ℕ) (s : Lists) (d : ℕ) → ArePlaced 64 ds s → filter (is_for d) (armed_in ds s.lists) ≡ filter (is_for d) (map (entry ds) (list_at s (d % 64)))
-of-ring ds s d w =
-    for-put_rings d (d % 64) (entries_in ds s.lists) [] tt
-    (λ h ne. ap (filter (is_for d)) (entries-at ds s.lists h)
-    ∙ for-elsewhere ds (get_or s.lists h []) d (λ k x t. λ (same : get_or ds x 0 ≡ d). ne (sym (w.placed h k x t) ∙ ap (λ n. n % 64) same)))
-    ∙ ap (filter (is_for d)) (entries-at ds s.lists (d % 64))
-
--- What is found first is the first that passes.
-
-find-filter : (p : E → Bool) (xs : List E) → find p xs ≡ slice_get (filter p xs) 0
-find-filter p [] = refl
-find-filter p (x ∷ xs) =
-    elim (p x) as (λ (t : Bool). cond t (Some x) (find p xs) ≡ slice_get (cond t (x ∷ filter p xs) (filter p xs)) 0) [ true ↦ refl | false ↦ find-filter p xs ]
-
-find-entries : (ds : List ℕ) (d : ℕ) (ns : List ℕ) → find (is_for d) (map (entry ds) ns) ≡ option_map (at_deadline d) (find (has_deadline ds d) ns)
-find-entries ds d [] = refl
-find-entries ds d (y ∷ ys) =
+pub found-in : (p : ℕ → Bool) (ys : List ℕ) (x : ℕ) → find p ys ≡ Some x → is_in x ys ≡ true
+found-in p [] x h = absurd (cc)
+found-in p (y ∷ ys) x h =
     ⊎_elim
-    (λ (same : get_or ds y 0 ≡ d).
-    cond-true (has_deadline ds d y) (Some (entry ds y)) (find (is_for d) (map (entry ds) ys)) (eq-eqb (get_or ds y 0) d same)
-    ∙ ap (λ n. Some (at_deadline n y)) same
-    ∙ sym (ap (option_map (at_deadline d)) (cond-true (has_deadline ds d y) (Some y) (find (has_deadline ds d) ys) (eq-eqb (get_or ds y 0) d same))))
-    (λ (ne : get_or ds y 0 ≡ d → ⊥).
-    cond-false (has_deadline ds d y) (Some (entry ds y)) (find (is_for d) (map (entry ds) ys)) (ne_eqb (get_or ds y 0) d ne)
-    ∙ find-entries ds d ys
-    ∙ sym (ap (option_map (at_deadline d)) (cond-false (has_deadline ds d y) (Some y) (find (has_deadline ds d) ys) (ne_eqb (get_or ds y 0) d ne))))
-    (cases_eq (get_or ds y 0) d)
+    (λ (e : p y ≡ true).
+    let here : Some y ≡ Some x = sym (cond-true (p y) (Some y) (find p ys) e) ∙ h in
+    let same : x ≡ y = cc in or_left (eqb x y) (is_in x ys) (eq-eqb x y same))
+    (λ (e : p y ≡ false). or_right (eqb x y) (is_in x ys) (found-in p ys x (sym (cond-false (p y) (Some y) (find p ys) e) ∙ h)))
+    (cases_Bool (p y))
 
--- The first block for a deadline is the first of its ring for it.
-first-equal : (ds : List ℕ) (s : Lists) (d : ℕ) → ArePlaced 64 ds s → option_map (at_deadline d) (find (has_deadline ds d) (list_at s (d % 64))) ≡ find (is_for d) (armed_in ds s.lists)
-first-equal ds s d w =
-    sym (find-filter (is_for d) (armed_in ds s.lists) ∙ ap (λ (r : List E). slice_get r 0) (of-ring ds s d w)
-    ∙ sym (find-filter (is_for d) (map (entry ds) (list_at s (d % 64)))) ∙ find-entries ds d (list_at s (d % 64)))
+not_later : (ds : List ℕ) (d y : ℕ) → get_or ds y 0 ≤ d → is_later ds d y ≡ false
+not_later ds d y le = ap (λ t. not t) (le-leb (get_or ds y 0) d le)
 
--- Where a block stands
+later : (ds : List ℕ) (d y : ℕ) → d < get_or ds y 0 → is_later ds d y ≡ true
+later ds d y lt = ap (λ t. not t) (lt-leb (get_or ds y 0) d lt)
 
-in-filter : (p : E → Bool) (xs : List E) (k : ℕ) (e : E) → slice_get xs k ≡ Some e → p e ≡ true → (i : ℕ) × (slice_get (filter p xs) i ≡ Some e)
-in-filter p [] k e h pass = absurd (cc)
-in-filter p (x ∷ xs) zero e h pass =
-    let same : x ≡ e = cc in
-    (0, ap (λ (r : List E). slice_get r 0) (cond-true (p x) (x ∷ filter p xs) (filter p xs) (ap p same ∙ pass)) ∙ ap (λ (z : E). Some z) same)
-in-filter p (x ∷ xs) (suc k) e h pass =
-    let from : (i : ℕ) × (slice_get (filter p xs) i ≡ Some e) = in-filter p xs k e h pass in
-    elim (p x) as (λ (t : Bool). (i : ℕ) × (slice_get (cond t (x ∷ filter p xs) (filter p xs)) i ≡ Some e)) [ true ↦ (suc from.0, from.1) | false ↦ from ]
+own : (ds : List ℕ) (b d : ℕ) → b < length ds → entry (set ds b d) b ≡ (let e : E = (d, b) in e)
+own ds b d lb = ap (λ (m : ℕ). let e : E = (m, b) in e) (get_or-set_same ds b d 0 lb)
 
-from-cons : (p : E → Bool) (x : E) (xs : List E) (t : Bool) (i : ℕ) (e : E) → ((j : ℕ) → slice_get (filter p xs) j ≡ Some e → (k : ℕ) × (slice_get xs k ≡ Some e))
-    → slice_get (cond t (x ∷ filter p xs) (filter p xs)) i ≡ Some e → (k : ℕ) × (slice_get (x ∷ xs) k ≡ Some e)
-from-cons p x xs true zero e rest h = (0, h)
-from-cons p x xs true (suc i) e rest h = let from : (k : ℕ) × (slice_get xs k ≡ Some e) = rest i h in (suc from.0, from.1)
-from-cons p x xs false i e rest h = let from : (k : ℕ) × (slice_get xs k ≡ Some e) = rest i h in (suc from.0, from.1)
+one-absent : (ds : List ℕ) (b d y : ℕ) (ys : List ℕ) → is_in b (y ∷ ys) ≡ false → entry (set ds b d) y ≡ entry ds y
+one-absent ds b d y ys free =
+    let parts : (eqb b y ≡ false) × (is_in b ys ≡ false) = or_parts (eqb b y) (is_in b ys) free in
+    let nil : is_in b (y ∷ []) ≡ false = ap (λ t. t || false) parts.0 in
+    let all : map (entry (set ds b d)) (y ∷ []) ≡ map (entry ds) (y ∷ []) = entries-absent ds b d (y ∷ []) nil in
+    let some : Some (entry (set ds b d) y) ≡ Some (entry ds y) = ap (λ (es : List E). slice_get es 0) all in cc
 
-from-filter : (p : E → Bool) (xs : List E) (i : ℕ) (e : E) → slice_get (filter p xs) i ≡ Some e → (k : ℕ) × (slice_get xs k ≡ Some e)
-from-filter p [] i e h = absurd (cc)
-from-filter p (x ∷ xs) i e h = from-cons p x xs (p x) i e (λ j. from-filter p xs j e) h
-
-armed-from : (ds : List ℕ) (s : Lists) (k : ℕ) (e : E) → ArePlaced 64 ds s → slice_get (armed_in ds s.lists) k ≡ Some e
-    → (j : ℕ) × (slice_get (list_at s (e.0 % 64)) j ≡ Some e.1) × (get_or ds e.1 0 ≡ e.0)
-armed-from ds s k e w at =
-    let here : (i : ℕ) × (slice_get (filter (is_for e.0) (armed_in ds s.lists)) i ≡ Some e) = in-filter (is_for e.0) (armed_in ds s.lists) k e at (eq-eqb e.0 e.0 refl) in
-    let there : (j : ℕ) × (slice_get (map (entry ds) (list_at s (e.0 % 64))) j ≡ Some e) =
-    from-filter (is_for e.0) (map (entry ds) (list_at s (e.0 % 64))) here.0 e (ap (λ (r : List E). slice_get r here.0) (sym (of-ring ds s e.0 w)) ∙ here.1) in
-    let from : (slice_get (list_at s (e.0 % 64)) there.0 ≡ Some e.1) × (get_or ds e.1 0 ≡ e.0) = entry-from ds (list_at s (e.0 % 64)) there.0 e there.1 in
-    (there.0, from.0, from.1)
-
-armed-to : (ds : List ℕ) (s : Lists) (h j b : ℕ) → ArePlaced 64 ds s → slice_get (list_at s h) j ≡ Some b → (k : ℕ) × (slice_get (armed_in ds s.lists) k ≡ Some (entry ds b))
-armed-to ds s h j b w at =
-    let d : ℕ = get_or ds b 0 in
-    let ring : slice_get (list_at s (d % 64)) j ≡ Some b = ap (λ n. slice_get (list_at s n) j) (w.placed h j b at) ∙ at in
-    let here : (i : ℕ) × (slice_get (filter (is_for d) (map (entry ds) (list_at s (d % 64)))) i ≡ Some (entry ds b)) =
-    in-filter (is_for d) (map (entry ds) (list_at s (d % 64))) j (entry ds b) (entry-at ds (list_at s (d % 64)) j b ring) (eq-eqb d d refl) in
-    from-filter (is_for d) (armed_in ds s.lists) here.0 (entry ds b) (ap (λ (r : List E). slice_get r here.0) (of-ring ds s d w) ∙ here.1)
-
-linked-from : (ds : List ℕ) (s : Lists) (k : ℕ) (e : E) → ArePlaced 64 ds s → slice_get (armed_in ds s.lists) k ≡ Some e → is_linked s e.1 ≡ true
-linked-from ds s k e w at =
-    let from : (j : ℕ) × (slice_get (list_at s (e.0 % 64)) j ≡ Some e.1) × (get_or ds e.1 0 ≡ e.0) = armed-from ds s k e w at in
-    is_in_any-at e.1 (e.0 % 64) s.lists (is_in-get e.1 (list_at s (e.0 % 64)) from.0 from.1)
-
--- What comes behind a block
-
-abbrev behind : ℕ → List E → List E
-behind b [] = []
-behind b (x ∷ xs) = cond (eqb b x.1) xs (behind b xs)
-
-behind-filter : (p : E → Bool) (xs : List E) (k : ℕ) (e : E) → slice_get xs k ≡ Some e → times_armed e.1 xs ≤ 1 → p e ≡ true → filter p (drop (suc k) xs) ≡ behind e.1 (filter p xs)
-behind-filter p [] k e h once pass = absurd (cc)
-behind-filter p (x ∷ xs) zero e h once pass =
-    let same : x ≡ e = cc in
-    sym (ap (behind e.1) (cond-true (p x) (x ∷ filter p xs) (filter p xs) (ap p same ∙ pass))
-    ∙ cond-true (eqb e.1 x.1) (filter p xs) (behind e.1 (filter p xs)) (eq-eqb e.1 x.1 (ap (λ (z : E). z.1) (sym same))))
-behind-filter p (x ∷ xs) (suc k) e h once pass =
-    let apart : (e.1 ≢ x.1) × (times_armed e.1 xs ≤ 1) = entry-apart x xs k e once h in
-    let rest : filter p (drop (suc k) xs) ≡ behind e.1 (filter p xs) = behind-filter p xs k e h apart.1 pass in
-    elim (p x) as (λ (t : Bool). filter p (drop (suc k) xs) ≡ behind e.1 (cond t (x ∷ filter p xs) (filter p xs)))
-    [ true ↦ rest ∙ sym (cond-false (eqb e.1 x.1) (filter p xs) (behind e.1 (filter p xs)) (ne_eqb e.1 x.1 apart.0)) | false ↦ rest ]
-
-drop-entries : (ds : List ℕ) (k : ℕ) (ns : List ℕ) → drop k (map (entry ds) ns) ≡ map (entry ds) (drop k ns)
-drop-entries ds zero ns = refl
-drop-entries ds (suc k) [] = refl
-drop-entries ds (suc k) (y ∷ ys) = drop-entries ds k ys
-
--- The next block for the same deadline is the next of its ring for it.
-next-equal : (ds : List ℕ) (s : Lists) (d b k : ℕ) → ArePlaced 64 ds s → AreSound s → times_armed b (armed_in ds s.lists) ≤ 1 → slice_get (armed_in ds s.lists) k ≡ Some (at_deadline d b) → (found : Option ℕ)
-    → ((h j : ℕ) → slice_get (list_at s h) j ≡ Some b → found ≡ find (has_deadline ds d) (drop (j + 1) (list_at s h)))
-    → option_map (at_deadline d) found ≡ find (is_for d) (drop (k + 1) (armed_in ds s.lists))
-next-equal ds s d b k w sound once at found finds =
-    let ns : List ℕ = list_at s (d % 64) in
-    let es : List E = map (entry ds) ns in
-    let e : E = at_deadline d b in
-    let from : (j : ℕ) × (slice_get ns j ≡ Some b) × (get_or ds b 0 ≡ d) = armed-from ds s k e w at in
-    let j : ℕ = from.0 in
-    let here : slice_get es j ≡ Some e = entry-at ds ns j b from.1 ∙ ap (λ n. Some (at_deadline n b)) from.2 in
-    sym (ap (λ n. find (is_for d) (drop n (armed_in ds s.lists))) (add-one k)
-    ∙ find-filter (is_for d) (drop (suc k) (armed_in ds s.lists))
-    ∙ ap (λ (r : List E). slice_get r 0)
-    (behind-filter (is_for d) (armed_in ds s.lists) k e at once (eq-eqb d d refl) ∙ ap (behind b) (of-ring ds s d w)
-    ∙ sym (behind-filter (is_for d) es j e here (times-ring ds s (d % 64) b sound) (eq-eqb d d refl)) ∙ ap (filter (is_for d)) (drop-entries ds (suc j) ns))
-    ∙ sym (find-filter (is_for d) (map (entry ds) (drop (suc j) ns)))
-    ∙ find-entries ds d (drop (suc j) ns)
-    ∙ ap (option_map (at_deadline d)) (ap (λ n. find (has_deadline ds d) (drop n ns)) (sym (add-one j)) ∙ sym (finds (d % 64) j from.1)))
-
--- The entry that comes next
-
-after-not : (d : ℕ) (x : E) (xs : List E) → x.0 ≤ d → find (is_after d) (x ∷ xs) ≡ find (is_after d) xs
-after-not d x xs le = cond-false (is_after d x) (Some x) (find (is_after d) xs) (ap not (le-leb x.0 d le))
-
-after-yes : (d : ℕ) (x : E) (xs : List E) → d < x.0 → find (is_after d) (x ∷ xs) ≡ Some x
-after-yes d x xs lt = cond-true (is_after d x) (Some x) (find (is_after d) xs) (ap not (lt-leb x.0 d lt))
-
-for-yes : (d : ℕ) (x : E) (xs : List E) → x.0 ≡ d → find (is_for d) (x ∷ xs) ≡ Some x
-for-yes d x xs same = cond-true (is_for d x) (Some x) (find (is_for d) xs) (eq-eqb x.0 d same)
-
-for-not : (d : ℕ) (x : E) (xs : List E) → x.0 ≢ d → find (is_for d) (x ∷ xs) ≡ find (is_for d) xs
-for-not d x xs ne = cond-false (is_for d x) (Some x) (find (is_for d) xs) (ne_eqb x.0 d ne)
-
-abbrev pub or_else : Option E → Option E → Option E
-or_else None other = other
-or_else (Some e) other = Some e
-
-next-rises : (low k : ℕ) (e : E) (xs : List E) → Rises low xs → slice_get xs k ≡ Some e → slice_get xs (suc k) ≡ or_else (find (is_for e.0) (drop (suc k) xs)) (find (is_after e.0) xs)
-next-rises low k e [] h at = absurd (cc)
-next-rises low zero e (x ∷ []) h at = let same : x ≡ e = cc in sym (after-not e.0 x [] (omega (arith, ap (λ (z : E). z.0) same)))
-next-rises low zero e (x ∷ y ∷ ys) h at =
-    let p : x ≡ e = cc in
-    let same : x.0 ≡ e.0 = ap (λ (z : E). z.0) p in
-    let later : Option E = find (is_after e.0) (x ∷ y ∷ ys) in
+pub order-last : (ds : List ℕ) (b d : ℕ) → b < length ds → (ys : List ℕ) → is_in b ys ≡ false → find (is_later ds d) ys ≡ None → map (entry (set ds b d)) (ys ++ b ∷ []) ≡ put_entry (d, b) (map (entry ds) ys)
+order-last ds b d lb [] free none = ap (λ (e : E). e ∷ []) (own ds b d lb)
+order-last ds b d lb (y ∷ ys) free none =
+    let parts : (eqb b y ≡ false) × (is_in b ys ≡ false) = or_parts (eqb b y) (is_in b ys) free in
     ⊎_elim
-    (λ (lt : e.0 < y.0).
-    let none : find (is_for e.0) (y ∷ ys) ≡ None =
-    find-filter (is_for e.0) (y ∷ ys) ∙ ap (λ (r : List E). slice_get r 0) (for-later e.0 y.0 (y ∷ ys) lt (omega arith, h.1.1)) in
-    sym (ap (λ (o : Option E). or_else o later) none ∙ after-not e.0 x (y ∷ ys) (omega (arith, same)) ∙ after-yes e.0 y ys lt))
-    (λ (le : y.0 ≤ e.0). sym (ap (λ (o : Option E). or_else o later) (for-yes e.0 y ys (omega (arith, le, h.1.0, same)))))
-    (cases_lt e.0 y.0)
-next-rises low (suc k) e (x ∷ xs) h at =
-    next-rises x.0 k e xs h.1 at ∙ ap (or_else (find (is_for e.0) (drop (suc k) xs))) (sym (after-not e.0 x xs (rises-get x.0 xs k e h.1 at)))
+    (λ (lt : d < get_or ds y 0). let here : find (is_later ds d) (y ∷ ys) ≡ Some y = cond-true (is_later ds d y) (Some y) (find (is_later ds d) ys) (later ds d y lt) in absurd (cc))
+    (λ (le : get_or ds y 0 ≤ d).
+    let rest : find (is_later ds d) ys ≡ None = sym (cond-false (is_later ds d y) (Some y) (find (is_later ds d) ys) (not_later ds d y le)) ∙ none in
+    ap (λ (e : E). e ∷ map (entry (set ds b d)) (ys ++ b ∷ [])) (one-absent ds b d y ys free)
+    ∙ ap (λ (es : List E). entry ds y ∷ es) (order-last ds b d lb ys parts.1 rest)
+    ∙ sym (put_le (d, b) (entry ds y) (map (entry ds) ys) le))
+    (cases_lt d (get_or ds y 0))
 
-next-armed : (ds : List ℕ) (ls : List (List ℕ)) (k d b : ℕ) → slice_get (armed_in ds ls) k ≡ Some (at_deadline d b)
-    → slice_get (armed_in ds ls) (k + 1) ≡ or_else (find (is_for d) (drop (k + 1) (armed_in ds ls))) (find (is_after d) (armed_in ds ls))
-next-armed ds ls k d b at =
-    ap (λ n. slice_get (armed_in ds ls) n) (add-one k) ∙ next-rises 0 k (at_deadline d b) (armed_in ds ls) (rises-armed ds ls) at
-    ∙ ap (λ n. or_else (find (is_for d) (drop n (armed_in ds ls))) (find (is_after d) (armed_in ds ls))) (sym (add-one k))
-
--- What comes after a block is the next of its ring for the same deadline, else the first of the later ones.
-pub after-armed : (ds : List ℕ) (s : Lists) (v : Due) (d b k : ℕ) → ArePlaced 64 ds s → AreSound s → shown_due ds s ≡ v → slice_get (armed_of v) k ≡ Some (at_deadline d b) → (found : Option ℕ)
-    → ((h j : ℕ) → slice_get (list_at s h) j ≡ Some b → found ≡ find (has_deadline ds d) (drop (j + 1) (list_at s h)))
-    → or_else (option_map (at_deadline d) found) (find (is_after d) (armed_of v)) ≡ slice_get (armed_of v) (k + 1)
-after-armed ds s v d b k w sound e at found finds =
-    let same : armed_in ds s.lists ≡ armed_of v = ap armed_of e in
-    let here : slice_get (armed_in ds s.lists) k ≡ Some (at_deadline d b) = ap (λ (es : List E). slice_get es k) same ∙ at in
-    let once : times_armed b (armed_in ds s.lists) ≤ 1 = subst (λ (es : List E). times_armed b es ≤ 1) (sym same) ((once-shown 64 ds s v w sound e).once b) in
-    ap (λ (es : List E). or_else (option_map (at_deadline d) found) (find (is_after d) es)) (sym same)
-    ∙ ap (λ (o : Option E). or_else o (find (is_after d) (armed_in ds s.lists))) (next-equal ds s d b k w sound once here found finds)
-    ∙ sym (next-armed ds s.lists k d b here)
-    ∙ ap (λ (es : List E). slice_get es (k + 1)) same
-
--- The first of the later ones
-
-after-for : (d : ℕ) (xs : List E) (e : E) → find (is_after d) xs ≡ Some e → find (is_for e.0) xs ≡ Some e
-after-for d [] e h = absurd (cc)
-after-for d (x ∷ xs) e h =
+pub order-before : (ds : List ℕ) (b d at : ℕ) → b < length ds → (ys : List ℕ) → is_in b ys ≡ false → find (is_later ds d) ys ≡ Some at
+    → map (entry (set ds b d)) (with_before at b ys) ≡ put_entry (d, b) (map (entry ds) ys)
+order-before ds b d at lb [] free some = absurd (cc)
+order-before ds b d at lb (y ∷ ys) free some =
+    let parts : (eqb b y ≡ false) × (is_in b ys ≡ false) = or_parts (eqb b y) (is_in b ys) free in
     ⊎_elim
-    (λ (lt : d < x.0).
-    let same : x ≡ e = let s : Some x ≡ Some e = sym (after-yes d x xs lt) ∙ h in cc in
-    for-yes e.0 x xs (ap (λ (z : E). z.0) same) ∙ ap (λ (z : E). Some z) same)
-    (λ (le : x.0 ≤ d).
-    let rest : find (is_after d) xs ≡ Some e = sym (after-not d x xs le) ∙ h in
-    for-not e.0 x xs (λ (same : x.0 ≡ e.0). absurd (omega (arith, passes xs rest, le, same))) ∙ after-for d xs e rest)
-    (cases_lt d x.0)
+    (λ (lt : d < get_or ds y 0).
+    let here : Some y ≡ Some at = sym (cond-true (is_later ds d y) (Some y) (find (is_later ds d) ys) (later ds d y lt)) ∙ some in
+    let same : y ≡ at = cc in
+    ap (map (entry (set ds b d))) (before_here at b y ys (sym same))
+    ∙ ap (λ (e : E). e ∷ map (entry (set ds b d)) (y ∷ ys)) (own ds b d lb)
+    ∙ ap (λ (es : List E). let e : E = (d, b) in e ∷ es) (entries-absent ds b d (y ∷ ys) free)
+    ∙ sym (put_lt (d, b) (entry ds y) (map (entry ds) ys) lt))
+    (λ (le : get_or ds y 0 ≤ d).
+    let rest : find (is_later ds d) ys ≡ Some at = sym (cond-false (is_later ds d y) (Some y) (find (is_later ds d) ys) (not_later ds d y le)) ∙ some in
+    let ne : at ≢ y = λ (e : at ≡ y). false≢true (sym (not_later ds d y le) ∙ ap (is_later ds d) (sym e) ∙ passes (is_later ds d) ys at rest) in
+    ap (map (entry (set ds b d))) (before_there at b y ys ne)
+    ∙ ap (λ (e : E). e ∷ map (entry (set ds b d)) (with_before at b ys)) (one-absent ds b d y ys free)
+    ∙ ap (λ (es : List E). entry ds y ∷ es) (order-before ds b d at lb ys parts.1 rest)
+    ∙ sym (put_le (d, b) (entry ds y) (map (entry ds) ys) le))
+    (cases_lt d (get_or ds y 0))
+
+-- Behind one that is not later the first later one is that of all.
+find-behind : (p : ℕ → Bool) (ys : List ℕ) (k : ℕ) → ((j x : ℕ) → j ≤ k → slice_get ys j ≡ Some x → p x ≡ false) → find p (drop (suc k) ys) ≡ find p ys
+find-behind p [] k none = refl
+find-behind p (y ∷ ys) zero none = sym (cond-false (p y) (Some y) (find p ys) (none 0 y (omega arith) refl))
+find-behind p (y ∷ ys) (suc k) none =
+    find-behind p ys k (λ j x le t. none (suc j) x (omega arith) t) ∙ sym (cond-false (p y) (Some y) (find p ys) (none 0 y (omega arith) refl))
+
+pub later-behind : (ds ys : List ℕ) (d k x : ℕ) → AreRising ds ys → slice_get ys k ≡ Some x → is_later ds d x ≡ false → find (is_later ds d) (drop (suc k) ys) ≡ find (is_later ds d) ys
+later-behind ds ys d k x r at early =
+    let le : get_or ds x 0 ≤ d =
+    ⊎_elim
+    (λ (lt : d < get_or ds x 0). absurd (false≢true (sym early ∙ later ds d x lt)))
+    (λ (le : get_or ds x 0 ≤ d). le)
+    (cases_lt d (get_or ds x 0)) in
+    find-behind (is_later ds d) ys k (λ j y lj t. not_later ds d y (omega (arith, r.rising j k y x lj t at, le)))
+
+-- It has those of the rings
+
+or_nil : (b : Bool) → (b || false) ≡ b
+or_nil true = refl
+or_nil false = refl
+
+pub one-list : (b : ℕ) (ls : List (List ℕ)) → length ls ≡ 1 → is_in_any b ls ≡ is_in b (get_or ls 0 [])
+one-list b [] one = absurd (omega arith)
+one-list b (l ∷ []) one = or_nil (is_in b l)
+one-list b (l ∷ m ∷ ls) one = absurd (omega arith)
+
+pub order-linked : (ds : List ℕ) (s o : Lists) (b : ℕ) → AreOrdered ds s o → is_linked o b ≡ is_linked s b
+order-linked ds s o b w =
+    one-list b o.lists w.one ∙ sym (any-entries ds b (get_or o.lists 0 [])) ∙ ap (list_any (λ (x : E). eqb b x.1)) w.entries ∙ any-put_rings ds b s.lists []
+
+pub order-within : (ds : List ℕ) (s o : Lists) (b : ℕ) → ArePlaced 64 ds s → AreOrdered ds s o → is_linked o b ≡ true → b < length ds
+order-within ds s o b p w linked =
+    let at : (h : ℕ) × (k : ℕ) × (slice_get (get_or s.lists h []) k ≡ Some b) = get-in-any b s.lists (sym (order-linked ds s o b w) ∙ linked) in
+    p.within at.0 at.1 b at.2
+
+pub read-within : (ds : List ℕ) (s o : Lists) (k b : ℕ) → ArePlaced 64 ds s → AreOrdered ds s o → slice_get (get_or o.lists 0 []) k ≡ Some b → b < length ds
+read-within ds s o k b p w t = order-within ds s o b p w (is_in_any-at b 0 o.lists (is_in-get b (get_or o.lists 0 []) k t))
+
+-- No block of a ring is before the first of the order.
+placed-order : (ds : List ℕ) (s o : Lists) (h k b : ℕ) → AreOrdered ds s o → slice_get (get_or s.lists h []) k ≡ Some b → (j : ℕ) × (slice_get (get_or o.lists 0 []) j ≡ Some b)
+placed-order ds s o h k b w at =
+    let linked : is_in_any b s.lists ≡ true = is_in_any-at b h s.lists (is_in-get b (get_or s.lists h []) k at) in
+    get-in b (get_or o.lists 0 []) (sym (one-list b o.lists w.one) ∙ order-linked ds s o b w ∙ linked)
+
+pub floor-first : (ds : List ℕ) (s o : Lists) (e : E) → AreOrdered ds s o → slice_get (armed_in ds s.lists) 0 ≡ Some e → IsFloor e.0 ds s.lists
+floor-first ds s o e w at = record {
+  below = λ h k b t.
+      let from : (j : ℕ) × (slice_get (get_or o.lists 0 []) j ≡ Some b) = placed-order ds s o h k b w t in
+      rises-two 0 (map (entry ds) (get_or o.lists 0 [])) 0 from.0 e (entry ds b) (rises-order ds s o w) (omega arith) (ap (λ (es : List E). slice_get es 0) w.entries ∙ at)
+      (entry-at ds (get_or o.lists 0 []) from.0 b from.1);
+}
+
+pub floor-none : (ds : List ℕ) (s o : Lists) (high : ℕ) → AreOrdered ds s o → slice_get (armed_in ds s.lists) 0 ≡ None → IsFloor high ds s.lists
+floor-none ds s o high w none = record {
+  below = λ h k b t.
+      let from : (j : ℕ) × (slice_get (get_or o.lists 0 []) j ≡ Some b) = placed-order ds s o h k b w t in
+      absurd (nothing (get_or o.lists 0 []) from.0 from.1 (ap (λ (es : List E). slice_get es 0) w.entries ∙ none));
+}
   where
-    passes : (ys : List E) → find (is_after d) ys ≡ Some e → d < e.0
-    passes [] g = absurd (cc)
-    passes (y ∷ ys) g =
-        ⊎_elim
-        (λ (lt : d < y.0). let same : y ≡ e = let s : Some y ≡ Some e = sym (after-yes d y ys lt) ∙ g in cc in omega (arith, lt, ap (λ (z : E). z.0) same))
-        (λ (le : y.0 ≤ d). passes ys (sym (after-not d y ys le) ∙ g))
-        (cases_lt d y.0)
+    nothing : (ys : List ℕ) (j : ℕ) {b : ℕ} → slice_get ys j ≡ Some b → slice_get (map (entry ds) ys) 0 ≡ None → ⊥
+    nothing [] j t u = cc
+    nothing (y ∷ ys) j t u = cc
 
-after-none : (d : ℕ) (xs : List E) → ((k : ℕ) (e : E) → slice_get xs k ≡ Some e → e.0 ≤ d) → find (is_after d) xs ≡ None
-after-none d [] all = refl
-after-none d (x ∷ xs) all = after-not d x xs (all 0 x refl) ∙ after-none d xs (λ k e t. all (suc k) e t)
+-- What is read of the order is read of the plain list.
+pub read-at : (ds : List ℕ) (s o : Lists) (k b : ℕ) → AreOrdered ds s o → slice_get (get_or o.lists 0 []) k ≡ Some b → slice_get (armed_in ds s.lists) k ≡ Some (entry ds b)
+read-at ds s o k b w t = ap (λ (es : List E). slice_get es k) (sym w.entries) ∙ entry-at ds (get_or o.lists 0 []) k b t
 
--- The first later one has the least of the later deadlines.
-after-least : (d m low : ℕ) (xs : List E) → Rises low xs → d < m → ((k : ℕ) (e : E) → slice_get xs k ≡ Some e → d < e.0 → m ≤ e.0) → (k : ℕ) (e : E) → slice_get xs k ≡ Some e → e.0 ≡ m
-    → option_map (λ (z : E). z.0) (find (is_after d) xs) ≡ Some m
-after-least d m low [] h lt all k e at is = absurd (cc)
-after-least d m low (x ∷ xs) h lt all zero e at is =
-    let same : x ≡ e = cc in
-    let first : x.0 ≡ m = ap (λ (z : E). z.0) same ∙ is in
-    ap (option_map (λ (z : E). z.0)) (after-yes d x xs (omega (arith, first, lt))) ∙ ap (λ n. Some n) first
-after-least d m low (x ∷ xs) h lt all (suc k) e at is =
-    ⊎_elim
-    (λ (p : d < x.0).
-    let first : x.0 ≡ m = omega (arith, all 0 x refl p, rises-get x.0 xs k e h.1 at, is) in
-    ap (option_map (λ (z : E). z.0)) (after-yes d x xs p) ∙ ap (λ n. Some n) first)
-    (λ (p : x.0 ≤ d).
-    ap (option_map (λ (z : E). z.0)) (after-not d x xs p) ∙ after-least d m x.0 xs h.1 lt (λ i y u l. all (suc i) y u l) k e at is)
-    (cases_lt d x.0)
+pub read-none : (ds : List ℕ) (s o : Lists) (k : ℕ) → AreOrdered ds s o → slice_get (get_or o.lists 0 []) k ≡ None → slice_get (armed_in ds s.lists) k ≡ None
+read-none ds s o k w t = ap (λ (es : List E). slice_get es k) (sym w.entries) ∙ entry-none ds (get_or o.lists 0 []) k t
 
--- The first block for the least of the later deadlines is the first later one.
-pub later-found : (ds : List ℕ) (s : Lists) (v : Due) (d m : ℕ) (found : Option ℕ) → ArePlaced 64 ds s → shown_due ds s ≡ v → Some m ≡ option_map (λ (e : E). e.0) (find (is_after d) (armed_in ds s.lists))
-    → found ≡ find (has_deadline ds m) (list_at s (m % 64)) → option_map (at_deadline m) found ≡ find (is_after d) (armed_of v)
-later-found ds s v d m found w e least finds =
-    ap (option_map (at_deadline m)) finds ∙ first-equal ds s m w ∙ by (find (is_after d) (armed_in ds s.lists)) refl ∙ ap (λ (x : Due). find (is_after d) (armed_of x)) e
-  where
-    by : (o : Option E) → find (is_after d) (armed_in ds s.lists) ≡ o → find (is_for m) (armed_in ds s.lists) ≡ find (is_after d) (armed_in ds s.lists)
-    by None q = let none : Some m ≡ None = least ∙ ap (option_map (λ (x : E). x.0)) q in absurd (cc)
-    by (Some x) q =
-        let is : Some m ≡ Some x.0 = least ∙ ap (option_map (λ (z : E). z.0)) q in
-        let same : m ≡ x.0 = cc in
-        ap (λ n. find (is_for n) (armed_in ds s.lists)) same ∙ after-for d (armed_in ds s.lists) x q ∙ sym q
-
--- The least later deadline, by one block after another
-
-abbrev pub IsAtMost : Option ℕ → ℕ → Type 0
-IsAtMost None n = ⊥
-IsAtMost (Some least) n = least ≤ n
-
-pub record IsLeastLater (d upto : ℕ) (ds : List ℕ) (s : Lists) (least : Option ℕ) : Type 0 where
-  pub all : (b : ℕ) → b < upto → is_linked s b ≡ true → d < get_or ds b 0 → IsAtMost least (get_or ds b 0)
-  pub is : (m : ℕ) → least ≡ Some m → (d < m) × (b : ℕ) × (is_linked s b ≡ true) × (get_or ds b 0 ≡ m)
-
-pub least-all : (d upto : ℕ) (ds : List ℕ) (s : Lists) (least : Option ℕ) → ArePlaced 64 ds s → length ds ≤ upto → IsLeastLater d upto ds s least
-    → least ≡ option_map (λ (e : E). e.0) (find (is_after d) (armed_in ds s.lists))
-least-all d upto ds s least w long l = sym (by least refl)
-  where
-    linked : (k : ℕ) (e : E) → slice_get (armed_in ds s.lists) k ≡ Some e → d < e.0 → IsAtMost least e.0
-    linked k e t lt =
-        let from : (j : ℕ) × (slice_get (list_at s (e.0 % 64)) j ≡ Some e.1) × (get_or ds e.1 0 ≡ e.0) = armed-from ds s k e w t in
-        subst (IsAtMost least) from.2
-        (l.all e.1 (omega (arith, w.within (e.0 % 64) from.0 e.1 from.1, long)) (linked-from ds s k e w t) (omega (arith, lt, from.2)))
-
-    by : (o : Option ℕ) → least ≡ o → option_map (λ (e : E). e.0) (find (is_after d) (armed_in ds s.lists)) ≡ o
-    by None q =
-        ap (option_map (λ (e : E). e.0))
-        (after-none d (armed_in ds s.lists)
-        (λ k e t.
-        ⊎_elim
-        (λ (lt : d < e.0). absurd (subst (λ (o : Option ℕ). IsAtMost o e.0) q (linked k e t lt)))
-        (λ (le : e.0 ≤ d). le)
-        (cases_lt d e.0)))
-    by (Some m) q =
-        let is : (d < m) × (b : ℕ) × (is_linked s b ≡ true) × (get_or ds b 0 ≡ m) = l.is m q in
-        let b : ℕ = is.1 in
-        let at : (h : ℕ) × (j : ℕ) × (slice_get (get_or s.lists h []) j ≡ Some b) = get-in-any b s.lists is.2 in
-        let here : (k : ℕ) × (slice_get (armed_in ds s.lists) k ≡ Some (entry ds b)) = armed-to ds s at.0 at.1 b w at.2 in
-        after-least d m 0 (armed_in ds s.lists) (rises-armed ds s.lists) is.0
-        (λ k e t lt. subst (λ (o : Option ℕ). IsAtMost o e.0) q (linked k e t lt))
-        here.0 (entry ds b) here.1 is.3
+pub read-from : (ds : List ℕ) (s o : Lists) (k d b : ℕ) → AreOrdered ds s o → slice_get (armed_in ds s.lists) k ≡ (let e : E = (d, b) in Some e) → slice_get (get_or o.lists 0 []) k ≡ Some b
+read-from ds s o k d b w t = (entry-from ds (get_or o.lists 0 []) k (d, b) (ap (λ (es : List E). slice_get es k) w.entries ∙ t)).0

@@ -5,7 +5,7 @@ use Rattle.std.proofs.lemmas.Bool.{eqb-false, or_parts}
 use Rattle.std.proofs.lemmas.List.{map-set, map_push}
 use Rattle.std.specs.List.{list_any}
 use Rattle.l4_model.specs.World.{changed, is_in}
-use Rattle.l4_core_model.specs.Plain.{Waiting, Plain, unqueued, queued, is_queued, due_block, popped_due, without_block, armed}
+use Rattle.l4_core_model.specs.Plain.{Waiting, Plain, unqueued, queued, is_queued, due_block, popped_due, without_block}
 use Rattle.tcb_arena.specs.declared.Sender.{Sender}
 use Rattle.tcb_arena.specs.Inner.Blocks.{empty_lists, without_due}
 use Rattle.tcb_arena.specs.Inner.Due.{Due, none_armed, armed_of, times_armed, without_first_due}

@@ -3,9 +3,10 @@ use Rattle.std.specs.Prelude.{slice_get, Some, None}
 use Rattle.std.proofs.Common.{ltb, ◌≡◌, ◌≢◌, ℕ, ◌<◌, ◌≤◌, true, false, cond, eqb, ◌||◌, List, [], ◌∷◌, ◌++◌, length, get_or, refl, sym, ◌∙◌, ap, subst, ⊎_elim, arith, zero, suc, drop}
 use Rattle.std.proofs.lemmas.Bool.{cases_eq, ne_eqb, eq-eqb, eqb-true, cond-true, cond-false, or_cases, or_parts, eqb-false, lt-ltb, le-ltb}
 use Rattle.l4_model.specs.World.{is_in}
-use Rattle.tcb_arena.specs.Inner.Rings.{Leads, walk, without}
+use Rattle.std.specs.List.{IsDistinct}
+use Rattle.tcb_arena.specs.Inner.Rings.{Leads, walk, with_before, without}
 use Rattle.tcb_arena.proofs.Splices.{moved, moved_here, moved_there, moved_same}
-use Rattle.tcb_arena.proofs.Lists.{without_here, without_there}
+use Rattle.tcb_arena.proofs.Lists.{before_here, before_there, IsDistinct-first, without_here, without_there}
 
 -- A walk is as long as its fuel at most.
 pub length-walk : (fuel : ℕ) (next : List ℕ) (head at : ℕ) → length (walk fuel next head at) ≤ fuel
@@ -96,6 +97,41 @@ leads_kept names next next' head other x room ne step (y ∷ ys) at not_in h =
     let ih : Leads names next' other (moved head x (get_or next y 0)) ys = leads_kept names next next' head other x room ne step ys (get_or next y 0) not_in'.1 h.2 in
     let P : ℕ → Type 0 = λ k. Leads names next' other k ys in
     (moved_there head x at (λ e. absurd (omega (arith, h.0, h.1))) ∙ h.0, h.1, subst P (sym (step y h.1 (λ e. eqb-false x y not_in'.0 (sym e)))) ih)
+
+-- A name put before another one: what led to that one leads to the name, and the name to it
+
+leads_past : (names : ℕ) (next next' : List ℕ) (head o x : ℕ) → names ≤ head → o < names
+    → ((y : ℕ) → y < names → y ≢ x → get_or next' y 0 ≡ moved o x (get_or next y 0))
+    → (xs : List ℕ) (at : ℕ) → is_in x xs ≡ false → is_in o xs ≡ false → Leads names next head at xs → Leads names next' head (moved o x at) xs
+leads_past names next next' head o x room lo step [] at not_in past h = moved_there o x at (λ e. absurd (omega (arith, h, e))) ∙ h
+leads_past names next next' head o x room lo step (y ∷ ys) at not_in past h =
+    let not_in' : (eqb x y ≡ false) × (is_in x ys ≡ false) = or_parts (eqb x y) (is_in x ys) not_in in
+    let past' : (eqb o y ≡ false) × (is_in o ys ≡ false) = or_parts (eqb o y) (is_in o ys) past in
+    let ih : Leads names next' head (moved o x (get_or next y 0)) ys = leads_past names next next' head o x room lo step ys (get_or next y 0) not_in'.1 past'.1 h.2 in
+    let P : ℕ → Type 0 = λ k. Leads names next' head k ys in
+    (moved_there o x at (λ e. eqb-false o y past'.0 (sym e ∙ h.0)) ∙ h.0, h.1, subst P (sym (step y h.1 (λ e. eqb-false x y not_in'.0 (sym e)))) ih)
+
+pub leads_before : (names : ℕ) (next next' : List ℕ) (head o x : ℕ) → names ≤ head → o < names → x < names → get_or next' x 0 ≡ o
+    → ((y : ℕ) → y < names → y ≢ x → get_or next' y 0 ≡ moved o x (get_or next y 0))
+    → (xs : List ℕ) (at : ℕ) → is_in x xs ≡ false → IsDistinct (λ a b. eqb a b) xs → Leads names next head at xs → Leads names next' head (moved o x at) (with_before o x xs)
+leads_before names next next' head o x room lo lx to_o step [] at not_in apart h = moved_there o x at (λ e. absurd (omega (arith, h, e))) ∙ h
+leads_before names next next' head o x room lo lx to_o step (y ∷ ys) at not_in apart h =
+    let not_in' : (eqb x y ≡ false) × (is_in x ys ≡ false) = or_parts (eqb x y) (is_in x ys) not_in in
+    let apart' = IsDistinct-first y ys apart in
+    let nx : y ≢ x = λ e. eqb-false x y not_in'.0 (sym e) in
+    let Q : List ℕ → Type 0 = λ zs. Leads names next' head (moved o x at) zs in
+    ⊎_elim
+    (λ (e : o ≡ y).
+    let P : ℕ → Type 0 = λ k. Leads names next' head k ys in
+    let behind : Leads names next' head (moved o x (get_or next y 0)) ys =
+    leads_past names next next' head o x room lo step ys (get_or next y 0) not_in'.1 (ap (λ z. is_in z ys) e ∙ apart'.0) h.2 in
+    subst Q (sym (before_here o x y ys e)) (moved_here o x at (h.0 ∙ sym e), lx, (to_o ∙ e, h.1, subst P (sym (step y h.1 nx)) behind)))
+    (λ (n : o ≡ y → ⊥).
+    let P : ℕ → Type 0 = λ k. Leads names next' head k (with_before o x ys) in
+    let ih : Leads names next' head (moved o x (get_or next y 0)) (with_before o x ys) =
+    leads_before names next next' head o x room lo lx to_o step ys (get_or next y 0) not_in'.1 apart'.1 h.2 in
+    subst Q (sym (before_there o x y ys n)) (moved_there o x at (λ e. n (sym e ∙ h.0)) ∙ h.0, h.1, subst P (sym (step y h.1 nx)) ih))
+    (cases_eq o y)
 
 -- What is read at a head and behind a name
 

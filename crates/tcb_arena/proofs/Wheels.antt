@@ -1,18 +1,18 @@
 -- The fields of a `Wheel` beside the rings of its value, before and after each change.
-use Rattle.std.specs.Prelude.{slice_get, Some, None, Option, replicate, is_some, ◌==◌}
-use Rattle.std.proofs.Common.{◌≡◌, ◌≢◌, ℕ, ◌<◌, ◌≤◌, ◌%◌, Bool, true, false, ◌||◌, cond, min, List, [], ◌∷◌, ◌++◌, length, map, get_or, set, refl, sym, ◌∙◌, ap, subst, ⊎_elim, arith, zero, suc, get_or-set_same, get_or-set_other}
-use Rattle.std.proofs.lemmas.Bool.{cases_eq, ne_eqb, eq-eqb, cond-true, cond-false, false≢true}
+use Rattle.std.specs.Prelude.{slice_get, Some, None, find, replicate}
+use Rattle.std.proofs.Common.{◌≡◌, ℕ, ◌<◌, ◌%◌, true, false, min, List, [], ◌∷◌, ◌++◌, length, map, get_or, set, refl, sym, ◌∙◌, ap, subst, ⊎_elim, arith, zero, suc, get_or-set_same}
+use Rattle.std.proofs.lemmas.Bool.{false≢true}
 use Rattle.std.proofs.lemmas.List.{length-map, length-set, length-replicate}
 use Rattle.l4_core_model.specs.Plain.{put_entry, without_block}
+use Rattle.l4_model.specs.World.{is_in}
 use Rattle.tcb_arena.specs.Inner.Blocks.{has_entry}
-use Rattle.tcb_arena.specs.Inner.RingSets.{has}
-use Rattle.tcb_arena.specs.Inner.Rings.{Lists, no_names, put_last, taken_out, is_linked, is_in_any, without}
-use Rattle.tcb_arena.specs.Inner.Due.{Due, IsWheel, AreRings, ArePlaced, AreFilled, AreFloors, IsFloor, IsFound, IsLeast, none_armed, with_entry, without_entry, shown_due, armed_of, armed_in, entries_in, put_rings, other_than, earlier_of, entry}
-use Rattle.tcb_arena.proofs.Lists.{without_absent, without_all_absent, get_or-without, is_in_any-at}
-use Rattle.tcb_arena.proofs.Entries.{E, any-put_rings, all_entries-without, entries-put, armed-put, armed-without, placed-put, placed-without, entries-at, entry-from, first-put, without_there, is_in-get}
-use Rattle.tcb_arena.proofs.Floors.{floor-armed_in, first-from, floors-armed, floor-armed, floors-disarmed, floor-disarmed, floor-found, floor-none, get-pushed, get-left}
+use Rattle.tcb_arena.specs.Inner.Rings.{Lists, no_names, put_before, put_last, taken_out, is_linked, is_in_any, with_before, without}
+use Rattle.tcb_arena.specs.Inner.Due.{Due, IsWheel, AreOrdered, AreRings, ArePlaced, IsFloor, none_armed, with_entry, without_entry, shown_due, armed_of, armed_in, entries_in, is_later, put_rings, entry}
+use Rattle.tcb_arena.proofs.Lists.{get_or-before, get_or-without, without_all_absent, is_in_any-at}
+use Rattle.tcb_arena.proofs.Entries.{E, any-put_rings, all_entries-without, entries-put, entries-without, armed-put, armed-without, placed-put, placed-without, entries-at, entry-from, is_in-get}
+use Rattle.tcb_arena.proofs.Floors.{floor-armed, floor-disarmed, get-pushed, get-left}
 use Rattle.tcb_arena.proofs.Once.{get-in-any}
-use Rattle.tcb_arena.proofs.Seeking.{earlier-kept, earlier-new}
+use Rattle.tcb_arena.proofs.Ordered.{one-list, order-before, order-last, order-linked}
 
 abbrev due_of : ℕ → List (List E) → Due
 due_of blocks rings = record { blocks = blocks; rings = rings }
@@ -75,56 +75,8 @@ placed-armed ds s t v b d w e lb free put =
       placed = placed-put 64 ds b d r s.lists ld lh refl (linked-due ds s v b e ∙ free) w.placed;
     })
 
-some-push : (ys : List ℕ) (b : ℕ) → is_some (slice_get (ys ++ b ∷ []) 0) ≡ true
-some-push [] b = refl
-some-push (y ∷ ys) b = refl
-
-or_true : (b : Bool) → (b || true) ≡ true
-or_true true = refl
-or_true false = refl
-
-or_false : (b : Bool) → (b || false) ≡ b
-or_false true = refl
-or_false false = refl
-
-pub filled-armed : (bits more r b : ℕ) (ls : List (List ℕ)) → r < length ls → AreFilled bits ls → ((other : ℕ) → other < 64 → has more other ≡ (has bits other || other == r))
-    → AreFilled more (set ls r (get_or ls r [] ++ b ∷ []))
-filled-armed bits more r b ls lr f adds = record {
-  each = λ h lh.
-      let new : List ℕ = get_or ls r [] ++ b ∷ [] in
-      ⊎_elim
-      (λ (e : h ≡ r).
-      adds h lh ∙ ap (λ t. has bits h || t) (eq-eqb h r e) ∙ or_true (has bits h)
-      ∙ sym (ap (λ z. is_some (slice_get (get_or (set ls r new) z []) 0)) e ∙ ap (λ (ys : List ℕ). is_some (slice_get ys 0)) (get_or-set_same ls r new [] lr) ∙ some-push (get_or ls r []) b))
-      (λ (ne : h ≡ r → ⊥).
-      adds h lh ∙ ap (λ t. has bits h || t) (ne_eqb h r ne) ∙ or_false (has bits h) ∙ f.each h lh
-      ∙ sym (ap (λ (ys : List ℕ). is_some (slice_get ys 0)) (get_or-set_other ls r h new [] ne)))
-      (cases_eq h r);
-}
-
--- A block that is armed for less than the floor is the first one.
-pub found-armed : (floor b d : ℕ) (ds after : List ℕ) (ls more : List (List ℕ)) → d < floor → IsFloor floor ds ls → armed_in after more ≡ put_entry (d, b) (armed_in ds ls) → IsFound d (Some b) after more
-found-armed floor b d ds after ls more lt f put = record {
-  is = λ block e.
-      let here : slice_get (armed_in after more) 0 ≡ Some (earlier_of (slice_get (armed_in ds ls) 0) (d, b)) = ap (λ (es : List E). slice_get es 0) put ∙ first-put (d, b) (armed_in ds ls) in
-      let same : b ≡ block = cc in
-      here ∙ ap (λ (z : E). Some z) (by (slice_get (armed_in ds ls) 0) refl ∙ ap (λ n. let z : E = (d, n) in z) same);
-}
-  where
-    by : (o : Option E) → slice_get (armed_in ds ls) 0 ≡ o → (let z : E = (d, b) in earlier_of o z ≡ z)
-    by None t = refl
-    by (Some y) t = earlier-new y (d, b) (let le : floor ≤ y.0 = first-from floor (armed_in ds ls) y (floor-armed_in floor ds ls f) t in omega arith)
-
--- Another one leaves the first one where it is.
-pub found-kept : (floor b d : ℕ) (first : Option ℕ) (ds after : List ℕ) (ls more : List (List ℕ)) → floor ≤ d → IsFound floor first ds ls → armed_in after more ≡ put_entry (d, b) (armed_in ds ls) → IsFound floor first after more
-found-kept floor b d first ds after ls more le f put = record {
-  is = λ block e.
-      ap (λ (es : List E). slice_get es 0) put ∙ first-put (d, b) (armed_in ds ls) ∙ ap (λ (o : Option E). Some (earlier_of o (d, b))) (f.is block e)
-      ∙ ap (λ (z : E). Some z) (earlier-kept (floor, block) (d, b) le);
-}
-
 -- All that a wheel keeps, after one more was armed
-module _ (ds : List ℕ) (s t : Lists) (v : Due) (b d r bits more low : ℕ) (floors : List ℕ) (floor : ℕ) (first : Option ℕ) (k : IsWheel ds s bits floors floor first) (is : shown_due ds s ≡ v) (lb : b < v.blocks) (free : has_entry b (armed_of v) ≡ false) (er : r ≡ d % 64) (put : t ≡ put_last s r b) (adds : (other : ℕ) → other < 64 → has more other ≡ (has bits other || other == r)) (small : low ≡ min (get_or floors r 0) d) (long : length floors ≡ 64) where
+module _ (ds latest : List ℕ) (s o t u : Lists) (v : Due) (b d r span floor low : ℕ) (k : IsWheel ds s o latest floor) (is : shown_due ds s ≡ v) (lb : b < v.blocks) (free : has_entry b (armed_of v) ≡ false) (er : r ≡ d % 64) (put : t ≡ put_last s r b) (small : low ≡ min floor d) where
   put' : t ≡ put_last s (d % 64) b
   put' = put ∙ ap (λ n. put_last s n b) er
 
@@ -143,36 +95,49 @@ module _ (ds : List ℕ) (s t : Lists) (v : Due) (b d r bits more low : ℕ) (fl
   in_armed : armed_in (set ds b d) t.lists ≡ put_entry (d, b) (armed_in ds s.lists)
   in_armed = ap armed_of (shown-armed ds s t v b d is lb free put') ∙ armed-with ds s v b d k.placed is ∙ ap (λ (x : Due). put_entry (d, b) (armed_of x)) (sym is)
 
-  filled_armed : AreFilled more t.lists
-  filled_armed = let P : List (List ℕ) → Type 0 = λ (ls : List (List ℕ)). AreFilled more ls in subst P (sym in_lists) (filled-armed bits more r b s.lists lr k.filled adds)
+  whole_armed : IsFloor low (set ds b d) t.lists
+  whole_armed =
+      let P : List (List ℕ) → Type 0 = λ (ls : List (List ℕ)). IsFloor low (set ds b d) ls in
+      subst P (sym in_lists) (floor-armed floor low ds s.lists b d r ld lr absent (omega (arith, small)) (omega (arith, small)) k.whole_floor)
 
-  each_armed : AreFloors (set floors r low) (set ds b d) t.lists
-  each_armed =
-      let P : List (List ℕ) → Type 0 = λ (ls : List (List ℕ)). AreFloors (set floors r low) (set ds b d) ls in
-      subst P (sym in_lists) (floors-armed floors ds s.lists b d r low ld lr (omega (arith, er, long)) absent (omega (arith, small)) (omega (arith, small)) k.each_floor)
-
-  whole_armed : (new : ℕ) → new ≤ floor → new ≤ d → IsFloor new (set ds b d) t.lists
-  whole_armed new le early =
-      let P : List (List ℕ) → Type 0 = λ (ls : List (List ℕ)). IsFloor new (set ds b d) ls in
-      subst P (sym in_lists) (floor-armed floor new ds s.lists b d r ld lr absent le early k.whole_floor)
-
-  pub wheel-armed_first : d < floor → IsWheel (set ds b d) t more (set floors r low) d (Some b)
-  wheel-armed_first lt = record {
+  made : AreOrdered (set ds b d) t u → IsWheel (set ds b d) t u (set latest span b) low
+  made more = record {
     placed = placed-armed ds s t v b d k.placed is lb free put';
-    filled = filled_armed;
-    each_floor = each_armed;
-    whole_floor = whole_armed d (omega arith) (omega arith);
-    found = found-armed floor b d ds (set ds b d) s.lists t.lists lt k.whole_floor in_armed;
+    ordered = more;
+    spans = length-set latest span b ∙ k.spans ∙ sym (length-set ds b d);
+    whole_floor = whole_armed;
   }
 
-  pub wheel-armed_later : floor ≤ d → IsWheel (set ds b d) t more (set floors r low) floor first
-  wheel-armed_later le = record {
-    placed = placed-armed ds s t v b d k.placed is lb free put';
-    filled = filled_armed;
-    each_floor = each_armed;
-    whole_floor = whole_armed floor (omega arith) le;
-    found = found-kept floor b d first ds (set ds b d) s.lists t.lists le k.found in_armed;
-  }
+  -- It is in no order before.
+  pub order-free : is_linked o b ≡ false
+  order-free = order-linked ds s o b k.ordered ∙ absent
+
+  lone : is_in b (get_or o.lists 0 []) ≡ false
+  lone = sym (one-list b o.lists k.ordered.one) ∙ order-free
+
+  pub wheel-armed_last : find (is_later ds d) (get_or o.lists 0 []) ≡ None → u ≡ put_last o 0 b → IsWheel (set ds b d) t u (set latest span b) low
+  wheel-armed_last none last =
+      let in_order : get_or u.lists 0 [] ≡ get_or o.lists 0 [] ++ b ∷ [] = ap (λ (x : Lists). get_or x.lists 0 []) last ∙ get_or-set_same o.lists 0 (get_or o.lists 0 [] ++ b ∷ []) [] (omega (arith, k.ordered.one)) in
+      made
+      (record {
+        names = ap (λ (x : Lists). x.names) last ∙ k.ordered.names ∙ sym (length-set ds b d);
+        one = ap (λ (x : Lists). length x.lists) last ∙ length-set o.lists 0 (get_or o.lists 0 [] ++ b ∷ []) ∙ k.ordered.one;
+        entries =
+            ap (map (entry (set ds b d))) in_order ∙ order-last ds b d ld (get_or o.lists 0 []) lone none
+            ∙ ap (put_entry (d, b)) k.ordered.entries ∙ sym in_armed;
+      })
+
+  pub wheel-armed_before : (at : ℕ) → find (is_later ds d) (get_or o.lists 0 []) ≡ Some at → u ≡ put_before o at b → IsWheel (set ds b d) t u (set latest span b) low
+  wheel-armed_before at some before =
+      let in_order : get_or u.lists 0 [] ≡ with_before at b (get_or o.lists 0 []) = ap (λ (x : Lists). get_or x.lists 0 []) before ∙ get_or-before at b 0 o.lists in
+      made
+      (record {
+        names = ap (λ (x : Lists). x.names) before ∙ k.ordered.names ∙ sym (length-set ds b d);
+        one = ap (λ (x : Lists). length x.lists) before ∙ length-map o.lists (with_before at b) ∙ k.ordered.one;
+        entries =
+            ap (map (entry (set ds b d))) in_order ∙ order-before ds b d at ld (get_or o.lists 0 []) lone some
+            ∙ ap (put_entry (d, b)) k.ordered.entries ∙ sym in_armed;
+      })
 
 -- A block is disarmed
 
@@ -201,87 +166,28 @@ none-out s b free =
     ap (λ (ls : List (List ℕ)). let v : Lists = record { names = s.names; lists = ls } in v)
     (without_all_absent b s.lists (λ i j t. absurd (false≢true (sym free ∙ is_in_any-at b i s.lists (is_in-get b (get_or s.lists i []) j t)))))
 
--- The other rings stay, since each block stands in the ring of its deadline's remainder.
-ring-left : (ds : List ℕ) (ls : List (List ℕ)) (b h : ℕ) → ((h k x : ℕ) → slice_get (get_or ls h []) k ≡ Some x → get_or ds x 0 % 64 ≡ h) → h ≢ get_or ds b 0 % 64 → get_or (map (without b) ls) h [] ≡ get_or ls h []
-ring-left ds ls b h placed ne = get_or-without b h ls ∙ without_absent b (get_or ls h []) (λ j t. ne (sym (placed h j b t)))
-
-pub filled-disarmed : (ds : List ℕ) (ls : List (List ℕ)) (bits less b r : ℕ) (some : Bool) → ((h k x : ℕ) → slice_get (get_or ls h []) k ≡ Some x → get_or ds x 0 % 64 ≡ h) → r ≡ get_or ds b 0 % 64 → AreFilled bits ls
-    → some ≡ is_some (slice_get (get_or (map (without b) ls) r []) 0) → ((other : ℕ) → other < 64 → has less other ≡ cond (other == r) some (has bits other)) → AreFilled less (map (without b) ls)
-filled-disarmed ds ls bits less b r some placed er f is sets = record {
-  each = λ h lh.
-      ⊎_elim
-      (λ (e : h ≡ r). sets h lh ∙ cond-true (h == r) some (has bits h) (eq-eqb h r e) ∙ is ∙ ap (λ z. is_some (slice_get (get_or (map (without b) ls) z []) 0)) (sym e))
-      (λ (ne : h ≡ r → ⊥). sets h lh ∙ cond-false (h == r) some (has bits h) (ne_eqb h r ne) ∙ f.each h lh ∙ sym (ap (λ (ys : List ℕ). is_some (slice_get ys 0)) (ring-left ds ls b h placed (λ e. ne (e ∙ sym er)))))
-      (cases_eq h r);
-}
-
-first-left : (xs : List E) (e : E) (b : ℕ) → slice_get xs 0 ≡ Some e → b ≢ e.1 → slice_get (without_block b xs) 0 ≡ Some e
-first-left [] e b h ne = absurd (cc)
-first-left (x ∷ xs) e b h ne =
-    let same : x ≡ e = cc in
-    ap (λ (es : List E). slice_get es 0) (without_there b x xs (λ t. ne (t ∙ ap (λ (z : E). z.1) same))) ∙ h
-
--- The first one stays where it is another one.
-pub found-disarmed : (floor b : ℕ) (first : Option ℕ) (ds : List ℕ) (ls : List (List ℕ)) → IsFound floor first ds ls → IsFound floor (other_than b first) ds (map (without b) ls)
-found-disarmed floor b first ds ls f = record {
-  is = λ block e.
-      let was : (first ≡ Some block) × (b ≢ block) = other first block e in
-      ap (λ (es : List E). slice_get es 0) (armed-without ds b ls) ∙ first-left (armed_in ds ls) (floor, block) b (f.is block was.0) was.1;
-}
-  where
-    other : (o : Option ℕ) (block : ℕ) → other_than b o ≡ Some block → (o ≡ Some block) × (b ≢ block)
-    other None block e = absurd (cc)
-    other (Some x) block e =
-        ⊎_elim
-        (λ (same : x ≡ b). let none : other_than b (Some x) ≡ None = cond-true (x == b) None (Some x) (eq-eqb x b same) in absurd (cc))
-        (λ (ne : x ≡ b → ⊥).
-        let kept : other_than b (Some x) ≡ Some x = cond-false (x == b) None (Some x) (ne_eqb x b ne) in
-        let is : x ≡ block = cc in
-        (ap (λ n. Some n) is, λ (t : b ≡ block). ne (is ∙ sym t)))
-        (cases_eq x b)
-
 -- All that a wheel keeps, after one was disarmed.
-pub wheel-disarmed : (ds : List ℕ) (s t : Lists) (b r bits less : ℕ) (some : Bool) (floors : List ℕ) (floor : ℕ) (first left : Option ℕ) → IsWheel ds s bits floors floor first → r ≡ get_or ds b 0 % 64 → t ≡ taken_out s b
-    → some ≡ is_some (slice_get (get_or t.lists r []) 0) → ((other : ℕ) → other < 64 → has less other ≡ cond (other == r) some (has bits other)) → left ≡ other_than b first → IsWheel ds t less floors floor left
-wheel-disarmed ds s t b r bits less some floors floor first left k er out is sets other =
+pub wheel-disarmed : (ds latest : List ℕ) (s o t u : Lists) (b floor : ℕ) → IsWheel ds s o latest floor → t ≡ taken_out s b → u ≡ taken_out o b → IsWheel ds t u latest floor
+wheel-disarmed ds latest s o t u b floor k out out' =
     let in_lists : t.lists ≡ map (without b) s.lists = ap (λ (x : Lists). x.lists) out in
-    let F : List (List ℕ) → Type 0 = λ (ls : List (List ℕ)). AreFilled less ls in
-    let G : List (List ℕ) → Type 0 = λ (ls : List (List ℕ)). AreFloors floors ds ls in
     let H : List (List ℕ) → Type 0 = λ (ls : List (List ℕ)). IsFloor floor ds ls in
-    let I : List (List ℕ) → Type 0 = λ (ls : List (List ℕ)). IsFound floor left ds ls in
-    let J : Option ℕ → Type 0 = λ (o : Option ℕ). IsFound floor o ds (map (without b) s.lists) in
     record {
       placed = placed-disarmed ds s t b k.placed out;
-      filled = subst F (sym in_lists) (filled-disarmed ds s.lists bits less b r some k.placed.placed er k.filled (is ∙ ap (λ (ls : List (List ℕ)). is_some (slice_get (get_or ls r []) 0)) in_lists) sets);
-      each_floor = subst G (sym in_lists) (floors-disarmed floors ds s.lists b k.each_floor);
+      ordered = record {
+        names = ap (λ (x : Lists). x.names) out' ∙ k.ordered.names;
+        one = ap (λ (x : Lists). length x.lists) out' ∙ length-map o.lists (without b) ∙ k.ordered.one;
+        entries =
+            ap (λ (x : Lists). map (entry ds) (get_or x.lists 0 [])) out' ∙ ap (map (entry ds)) (get_or-without b 0 o.lists)
+            ∙ entries-without ds b (get_or o.lists 0 []) ∙ ap (without_block b) k.ordered.entries ∙ sym (armed-without ds b s.lists)
+            ∙ ap (armed_in ds) (sym in_lists);
+      };
+      spans = k.spans;
       whole_floor = subst H (sym in_lists) (floor-disarmed floor ds s.lists b k.whole_floor);
-      found = subst I (sym in_lists) (subst J (sym other) (found-disarmed floor b first ds s.lists k.found));
     }
 
-pub found-none : (floor : ℕ) (first : Option ℕ) (ds : List ℕ) (ls : List (List ℕ)) → first ≡ None → IsFound floor first ds ls
-found-none floor first ds ls none = record { is = λ block e. absurd (cc) }
-
--- What a look has found
-
-pub wheel-found : (ds : List ℕ) (s : Lists) (bits : ℕ) (floors raised : List ℕ) (floor : ℕ) (first : Option ℕ) (e : E) → IsWheel ds s bits floors floor first → AreFloors raised ds s.lists → IsLeast ds s.lists (Some e)
-    → slice_get (armed_in ds s.lists) 0 ≡ Some e → IsWheel ds s bits raised e.0 (Some e.1)
-wheel-found ds s bits floors raised floor first e k more least is = record {
-  placed = k.placed;
-  filled = k.filled;
-  each_floor = more;
-  whole_floor = floor-found ds s.lists e least;
-  found = record { is = λ block t. let same : e.1 ≡ block = cc in is ∙ ap (λ n. let z : E = (e.0, n) in Some z) same };
-}
-
-pub wheel-unfound : (ds : List ℕ) (s : Lists) (bits : ℕ) (floors raised : List ℕ) (floor high : ℕ) (first : Option ℕ) → IsWheel ds s bits floors floor first → AreFloors raised ds s.lists → IsLeast ds s.lists None → first ≡ None
-    → IsWheel ds s bits raised high first
-wheel-unfound ds s bits floors raised floor high first k more least none = record {
-  placed = k.placed;
-  filled = k.filled;
-  each_floor = more;
-  whole_floor = floor-none high ds s.lists least;
-  found = found-none high first ds s.lists none;
-}
+-- Where the floor is raised to the first deadline, or beyond all where there is none.
+pub wheel-raised : (ds latest : List ℕ) (s o : Lists) (floor low : ℕ) → IsWheel ds s o latest floor → IsFloor low ds s.lists → IsWheel ds s o latest low
+wheel-raised ds latest s o floor low k more = record { placed = k.placed; ordered = k.ordered; spans = k.spans; whole_floor = more }
 
 -- No block is armed
 
@@ -302,16 +208,21 @@ nowhere : (blocks : ℕ) (s : Lists) (h k x : ℕ) → s ≡ no_names blocks 64 
 nowhere blocks s h k x e t =
     let none : slice_get (get_or s.lists h []) k ≡ None = ap (λ (v : Lists). slice_get (get_or v.lists h []) k) e ∙ ap (λ (ys : List ℕ). slice_get ys k) (list-none 64 h) in cc
 
-pub wheel-none : (blocks bits floor : ℕ) (floors ds : List ℕ) (s : Lists) → length ds ≡ blocks → s ≡ no_names blocks 64 → ((ring : ℕ) → has bits ring ≡ false) → IsWheel ds s bits floors floor None
-wheel-none blocks bits floor floors ds s l e none = record {
+pub wheel-none : (blocks floor : ℕ) (ds latest : List ℕ) (s o : Lists) → length ds ≡ blocks → length latest ≡ blocks → s ≡ no_names blocks 64 → o ≡ no_names blocks 1 → IsWheel ds s o latest floor
+wheel-none blocks floor ds latest s o l m e p = record {
   placed = record {
     names = ap (λ (v : Lists). v.names) e ∙ sym l;
-    heads_len = ap (λ (v : Lists). length v.lists) e ∙ (let o : List ℕ = [] in length-replicate 64 o);
+    heads_len = ap (λ (v : Lists). length v.lists) e ∙ (let n : List ℕ = [] in length-replicate 64 n);
     within = λ h k x t. absurd (nowhere blocks s h k x e t);
     placed = λ h k x t. absurd (nowhere blocks s h k x e t);
   };
-  filled = record { each = λ h lh. none h ∙ sym (ap (λ (v : Lists). is_some (slice_get (get_or v.lists h []) 0)) e ∙ ap (λ (ys : List ℕ). is_some (slice_get ys 0)) (list-none 64 h)) };
-  each_floor = record { below = λ h k x t. absurd (nowhere blocks s h k x e t) };
+  ordered = record {
+    names = ap (λ (v : Lists). v.names) p ∙ sym l;
+    one = ap (λ (v : Lists). length v.lists) p;
+    entries =
+        ap (λ (v : Lists). map (entry ds) (get_or v.lists 0 [])) p
+        ∙ sym (ap (λ (v : Lists). armed_in ds v.lists) e ∙ ap (put_rings []) (rings-none ds 64));
+  };
+  spans = m ∙ sym l;
   whole_floor = record { below = λ h k x t. absurd (nowhere blocks s h k x e t) };
-  found = found-none floor None ds s.lists refl;
 }

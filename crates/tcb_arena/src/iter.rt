@@ -171,7 +171,7 @@ impl<'a> Iterator for ArmedBlocks<'a> {
 
     fn next(&mut self) -> Option<(u64, usize)> {
         let (deadline, block) = self.next?;
-        self.next = self.wheel.after(deadline, block);
+        self.next = self.wheel.after(block);
         Some((deadline, block))
     }
 }

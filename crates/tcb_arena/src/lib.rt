@@ -10,13 +10,9 @@
 //! No call but `Arena::new` takes memory. No clause says how long a call takes; it is measured:
 //!
 //! - `first_accepted` looks at the sends before the one that it finds;
-//! - `first_due`, `pop_due` and `least_deadline` search for the first armed block unless an earlier
-//!   call cached it. `first_due` and `pop_due` search only once a deadline may be past. A search
-//!   goes over the rings that have a block, and scans a ring only if it may hold an earlier block
-//!   than the best so far. The scan is short if deadlines spread over the rings, and covers all
-//!   armed blocks if they share one ring;
-//! - a step of `armed_blocks` scans all blocks when the deadline changes; only readers of a state
-//!   use it, no turn does;
+//! - `arm` begins at a block that was armed about as far ahead, and goes over those whose deadlines
+//!   are between. These are few where such blocks are armed again and again, and all in the worst
+//!   case;
 //! - every other call takes the same few steps whatever stands in the lists.
 //!
 //! ```rust
@@ -33,8 +29,7 @@ ghost use Rattle.l4_core_model.specs.Plain.{made_ready, dropped, popped, armed, 
 ghost use Rattle.l4_core_model.specs.Plain.{due_block};
 ghost use Rattle.tcb_arena.specs.Inner.Blocks.{is_ready, is_armed, least_deadline, without_due};
 ghost use Rattle.tcb_arena.specs.Inner.Blocks.{empty_lists};
-ghost use Rattle.tcb_arena.specs.Inner.RingSets.{ring_count};
-ghost use Rattle.tcb_arena.specs.Inner.Due.{armed_of, IsFirstOfRing};
+ghost use Rattle.tcb_arena.specs.Inner.Due.{armed_of, ring_count, IsFirstOfRing};
 
 use l4_types::errors::NoMemory;
 use l4_types::ids::{GlobalId, ThreadId};
@@ -43,7 +38,6 @@ use std::marker::Model;
 
 mod iter;
 mod links;
-mod ring_set;
 mod wheel;
 
 pub use iter::{ArmedBlocks, Blocks, Sends};

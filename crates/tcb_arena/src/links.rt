@@ -5,7 +5,7 @@ ghost use Rattle.std.specs.Prelude.{◌≡◌, ℕ, ◌+◌, ◌-◌, ◌<◌, �
 ghost use Rattle.std.specs.Prelude.{slice_get, slice_index, Some, IfSome};
 ghost use Rattle.l4_model.specs.World.{is_in};
 ghost use Rattle.tcb_arena.specs.Inner.Rings.{Lists, list_at, head_count, is_linked, put_last};
-ghost use Rattle.tcb_arena.specs.Inner.Rings.{taken_out};
+ghost use Rattle.tcb_arena.specs.Inner.Rings.{put_before, taken_out};
 ghost use Rattle.tcb_arena.specs.Inner.Rings.{no_names, without_first, AreSound};
 
 use l4_types::errors::NoMemory;
@@ -120,6 +120,21 @@ impl Rings {
         self.next[name] = node;
         self.prev[name] = last;
         self.prev[node] = name;
+    }
+
+    /// Puts a name that stands in no list before another one, which stands in one.
+    pub fn put_before(&mut self, other: usize, name: usize)
+        requires other { other < self.old.names }
+        requires there { is_linked self.old other ≡ true }
+        requires name_in { name < self.old.names }
+        requires free { is_linked self.old name ≡ false }
+        ensures { self.new ≡ put_before self.old other name }
+    {
+        let last = self.prev[other];
+        self.next[last] = name;
+        self.next[name] = other;
+        self.prev[name] = last;
+        self.prev[other] = name;
     }
 
     /// Removes a name from its list, if it stands in one.

@@ -1,22 +1,16 @@
-//! Armed blocks in 64 linked rings, each with its deadline.
+//! Armed blocks in 64 linked rings, each with its deadline, and all of them by rising deadline.
 
-ghost use Rattle.std.specs.Prelude.{◌≡◌, ℕ, ◌<◌, ◌≤◌, ◌%◌, [], true, false, IfOk, IfSome, Some};
-ghost use Rattle.std.specs.Prelude.{length, slice_get, slice_index, map};
+ghost use Rattle.std.specs.Prelude.{◌≡◌, ℕ, ◌+◌, ◌<◌, ◌%◌, true, false, IfOk, IfSome, Some};
+ghost use Rattle.std.specs.Prelude.{slice_get};
 ghost use Rattle.std.specs.Option.{option_map};
 ghost use Rattle.l4_core_model.specs.Plain.{put_entry, without_block, due_block};
 ghost use Rattle.tcb_arena.specs.Inner.Blocks.{has_entry};
-ghost use Rattle.tcb_arena.specs.Inner.Rings.{list_at, head_count};
-ghost use Rattle.tcb_arena.specs.Inner.RingSets.{ring_count};
-ghost use Rattle.tcb_arena.specs.Inner.Due.{armed_of, armed_in, none_armed, with_entry};
-ghost use Rattle.tcb_arena.specs.Inner.Due.{without_entry};
-ghost use Rattle.tcb_arena.specs.Inner.Due.{without_found, without_first_due, first_of_ring};
-ghost use Rattle.tcb_arena.specs.Inner.Due.{other_than};
-ghost use Rattle.tcb_arena.specs.Inner.Due.{at_most, earlier_of, put_all, entry, IsBest, IsLeast};
-ghost use Rattle.tcb_arena.specs.Inner.Due.{ArePlaced, AreRings, AreFilled, AreFloors, IsFloor};
-ghost use Rattle.tcb_arena.specs.Inner.Due.{AreOnce};
+ghost use Rattle.tcb_arena.specs.Inner.Due.{armed_of, none_armed, ring_count, with_entry};
+ghost use Rattle.tcb_arena.specs.Inner.Due.{without_entry, without_found, without_first_due};
+ghost use Rattle.tcb_arena.specs.Inner.Due.{first_of_ring, AreRings, AreOnce};
 
 use crate::links::Rings;
-use crate::ring_set::RingSet;
+use crate::wheel::order::{first_later, span_of};
 use l4_types::errors::NoMemory;
 use std::alloc::Global;
 use std::marker::Model;
@@ -35,14 +29,13 @@ pub struct Wheel {
     // By block. It means something only while the block is armed.
     deadlines: Vec<u64>,
     rings: Rings,
-    // The rings that have a block.
-    filled: RingSet,
-    // By ring, its floor: no block of the ring is armed for an earlier deadline.
-    floors: [u64; RINGS],
+    // One list of the armed blocks, by rising deadline, equal ones in order of arming.
+    order: Rings,
+    // By span: the block that was last armed so far ahead, where the search for a place begins.
+    // Any other block would do as well, but the search would take longer.
+    latest: Vec<usize>,
     // No block is armed for a deadline before this one.
     floor: u64,
-    // The first block with its deadline, if the last search left it.
-    first: Option<usize>,
 }
 
 impl Model for Wheel {
@@ -55,7 +48,7 @@ impl Model for Wheel {
     ghost view = { λ w. shown_due w.deadlines.items w.rings };
 
     ghost invariant = { λ w.
-        IsWheel w.deadlines.items w.rings w.filled.bits w.floors w.floor w.first };
+        IsWheel w.deadlines.items w.rings w.order w.latest.items w.floor };
 }
 
 impl Wheel {
@@ -65,14 +58,14 @@ impl Wheel {
     {
         let deadlines = vec![in alloc; 0; blocks]?;
         let rings = Rings::new(alloc, blocks, RINGS)?;
-        let filled = RingSet::new();
+        let order = Rings::new(alloc, blocks, 1)?;
+        let latest = vec![in alloc; 0; blocks]?;
         Ok(Wheel {
             deadlines,
             rings,
-            filled,
-            floors: [u64::MAX; RINGS],
+            order,
+            latest,
             floor: u64::MAX,
-            first: None,
         })
     }
 
@@ -83,10 +76,9 @@ impl Wheel {
         Ok(Wheel {
             deadlines: self.deadlines.clone()?,
             rings: self.rings.try_clone()?,
-            filled: self.filled,
-            floors: self.floors,
+            order: self.order.try_clone()?,
+            latest: self.latest.clone()?,
             floor: self.floor,
-            first: self.first,
         })
     }
 
@@ -106,15 +98,16 @@ impl Wheel {
         ensures rings { self.new ≡ with_entry deadline block self.old }
         ensures armed { armed_of self.new ≡ put_entry (deadline, block) (armed_of self.old) }
     {
-        let ring = ring_of(deadline);
+        let span = span_of(deadline.saturating_sub(self.floor)).min(self.latest.len() - 1);
+        let next = first_later(&self.order, &self.deadlines, &self.latest, deadline, span);
         self.deadlines[block] = deadline;
-        self.rings.push_last(ring, block);
-        self.filled.insert(ring);
-        self.floors[ring] = self.floors[ring].min(deadline);
-        if deadline < self.floor {
-            self.floor = deadline;
-            self.first = Some(block);
+        self.rings.push_last(ring_of(deadline), block);
+        match next {
+            Some(next) => self.order.put_before(next, block),
+            None => self.order.push_last(0, block),
         }
+        self.latest[span] = block;
+        self.floor = self.floor.min(deadline);
     }
 
     /// Disarms a block, if it is armed. All others stay as they stand.
@@ -127,10 +120,8 @@ impl Wheel {
         if !self.rings.is_linked(block) {
             return;
         }
-        let ring = ring_of(self.deadlines[block]);
         self.rings.take_out(block);
-        self.filled.set(ring, self.rings.first(ring).is_some());
-        self.first = other_than(block, self.first);
+        self.order.take_out(block);
     }
 
     /// The least deadline that a block is armed for.
@@ -179,25 +170,15 @@ impl Wheel {
         self.rings.first(ring)
     }
 
-    // Finds the first block with its deadline. It searches only if the last search left none.
+    // The first block with its deadline. Raises the floor to that deadline.
     fn look(&mut self) -> Option<(u64, usize)>
         ensures first { result ≡ slice_get (armed_of self.old) 0 }
         ensures same { self.new ≡ self.old }
     {
-        if let Some(block) = self.first {
-            return Some((self.floor, block));
-        }
-        let found = search(
-            &self.rings,
-            &self.deadlines,
-            self.filled,
-            &mut self.floors,
-            self.floor,
-        );
+        let found = self.first_armed();
         match found {
-            Some((deadline, block)) => {
+            Some((deadline, _)) => {
                 self.floor = deadline;
-                self.first = Some(block);
             }
             None => {
                 self.floor = u64::MAX;
@@ -213,128 +194,4 @@ fn ring_of(deadline: u64) -> usize
     ensures within { result < ring_count }
 {
     (deadline % RINGS as u64) as usize
-}
-
-// The known first block, if it is not this one.
-fn other_than(block: usize, first: Option<usize>) -> Option<usize>
-    ensures { result ≡ other_than block first }
-{
-    if first == Some(block) { None } else { first }
-}
-
-// Finds the first armed block with its deadline. The search begins at the ring of the floor, since
-// a block that is due soon stands in one of the next rings. It raises the floors of the rings that
-// it looks at.
-fn search(
-    rings: &Rings,
-    deadlines: &Vec<u64>,
-    filled: RingSet,
-    floors: &mut [u64; RINGS],
-    floor: u64,
-) -> Option<(u64, usize)>
-    requires placed { ArePlaced ring_count deadlines.now.items rings.now }
-    requires filled { AreFilled filled.bits rings.now.lists }
-    requires floors { AreFloors floors.old deadlines.now.items rings.now.lists }
-    requires floor { IsFloor floor deadlines.now.items rings.now.lists }
-    ensures first { result ≡ slice_get (armed_in deadlines.now.items rings.now.lists) 0 }
-    ensures least { IsLeast deadlines.now.items rings.now.lists result }
-    ensures floors { AreFloors floors.new deadlines.now.items rings.now.lists }
-{
-    let start = ring_of(floor);
-    let mut left = filled;
-    let mut best = None;
-    while let Some(ahead) = left.next(start) {
-        if let Some((deadline, _)) = best {
-            // No later ring has a block armed for less than the floor plus its distance.
-            if deadline - floor <= ahead as u64 {
-                return best;
-            }
-        }
-        let ring = (start + ahead) % RINGS;
-        left.remove(ring);
-        best = best_with_ring(rings, deadlines, ring, floors, best);
-    }
-    best
-}
-
-// The better of the best so far and the earliest of this ring. If it looks at the ring, it raises
-// the ring's floor.
-fn best_with_ring(
-    rings: &Rings,
-    deadlines: &Vec<u64>,
-    ring: usize,
-    floors: &mut [u64; RINGS],
-    best: Option<(u64, usize)>,
-) -> Option<(u64, usize)>
-    requires ring { ring < ring_count }
-    requires placed { ArePlaced ring_count deadlines.now.items rings.now }
-    requires floors { AreFloors floors.old deadlines.now.items rings.now.lists }
-    requires best { IsBest deadlines.now.items rings.now.lists best }
-    ensures best { IsBest deadlines.now.items rings.now.lists result }
-    ensures ring { (k block : ℕ) → slice_get (list_at rings.now ring) k ≡ Some block →
-        at_most result (slice_index deadlines.now.items block) ≡ true }
-    ensures others { (deadline : ℕ) → at_most best deadline ≡ true →
-        at_most result deadline ≡ true }
-    ensures floors { AreFloors floors.new deadlines.now.items rings.now.lists }
-{
-    let floor = floors[ring];
-    if is_at_most(best, floor) {
-        return best;
-    }
-    let Some(found) = earliest_of_ring(rings, deadlines, ring, floor) else {
-        return best;
-    };
-    floors[ring] = found.0;
-    Some(earlier(best, found))
-}
-
-// The earliest block of a ring with its deadline, of equal ones the first. No deadline in the ring
-// is before the floor, so one that equals the floor ends the search.
-fn earliest_of_ring(
-    rings: &Rings,
-    deadlines: &Vec<u64>,
-    ring: usize,
-    floor: u64,
-) -> Option<(u64, usize)>
-    requires ring { ring < head_count rings.now }
-    requires deadlines { length deadlines.now.items ≡ rings.now.names }
-    requires floor { (k block : ℕ) → slice_get (list_at rings.now ring) k ≡ Some block →
-        floor ≤ slice_index deadlines.now.items block }
-    ensures { result ≡ slice_get
-        (put_all [] (map (entry deadlines.now.items) (list_at rings.now ring))) 0 }
-{
-    let mut best = None;
-    let mut at = rings.first(ring);
-    for _place in 0..rings.names() {
-        let Some(block) = at else {
-            return best;
-        };
-        let deadline = deadlines[block];
-        if deadline == floor {
-            return Some((deadline, block));
-        }
-        best = Some(earlier(best, (deadline, block)));
-        at = rings.after(block);
-    }
-    best
-}
-
-// Whether there is an entry and its deadline is not after this one.
-fn is_at_most(best: Option<(u64, usize)>, deadline: u64) -> bool
-    ensures { result ≡ at_most best deadline }
-{
-    match best {
-        None => false,
-        Some(entry) => entry.0 <= deadline,
-    }
-}
-
-// The earlier of two entries; of equal ones the first.
-fn earlier(best: Option<(u64, usize)>, next: (u64, usize)) -> (u64, usize)
-    ensures { result ≡ earlier_of best next }
-{
-    match best {
-        None => next,
-        Some(entry) => { if entry.0 <= next.0 { entry } else { next } }
-    }
 }

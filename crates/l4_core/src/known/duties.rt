@@ -192,6 +192,7 @@ impl ProcessorState<'_> {
     }
 
     // The duty of a living thread.
+    #[inline(always)]
     fn living_duty(&self, place: usize, may_have_zero: bool) -> Option<Duty>
         requires within { place < length self.now.machine.threads }
         requires zeros { may_have_zero ≡ false →
@@ -216,6 +217,7 @@ impl ProcessorState<'_> {
 
     /// The duty of a thread of this processor. `may_have_zero` says whether a send of timeout zero
     /// may wait at it.
+    #[inline(always)]
     pub(crate) fn duty_at(&self, place: usize, may_have_zero: bool) -> Option<Duty>
         requires own { IsOwnOf self.now place }
         requires zeros { may_have_zero ≡ false →

@@ -82,6 +82,7 @@ impl ProcessorState<'_> {
 
     /// The message that a thread sends: that of its undecided send. If there is none, that of a
     /// send that it would begin now without propagation.
+    #[inline(always)]
     pub(crate) fn outgoing(&self, sender: usize) -> MessageRef<'_>
         requires { sender < length self.now.machine.threads }
         ensures { result ≡ outgoing (declared self.now.machine sender).id

@@ -39,6 +39,7 @@ impl ProcessorState<'_> {
     }
 
     // Disarms the old deadline of a thread, and arms that of its phase.
+    #[inline(never)]
     fn rearm(&mut self, place: usize)
         requires { IsOwnOf self.old place }
         ensures { self.new ≡ with_local self.old

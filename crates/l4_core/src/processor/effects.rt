@@ -113,6 +113,7 @@ impl Core<'_> {
     }
 
     /// Puts a thread into its next phase, after the send of its Ipc was taken at once.
+    #[inline(always)]
     pub(super) fn pass(&mut self, place: usize, ipc: &Ipc)
         requires hand { IsAtHand self.old place }
         requires room { (thread self.old.local place).context.place + 1 < 2 ^ 64 }

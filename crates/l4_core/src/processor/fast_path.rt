@@ -18,6 +18,7 @@ use l4_types::step_ref::DeliveryRef;
 impl Core<'_> {
     /// Runs an Ipc whose send its receiver takes at once. The send is begun, queued and delivered
     /// in one go: it stands in no list, and nothing of it is kept.
+    #[inline(always)]
     pub(super) fn send_fast<S: Sink>(
         &mut self,
         receiver: usize,

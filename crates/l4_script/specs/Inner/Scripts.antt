@@ -1,6 +1,7 @@
 -- The instructions of a script as the model has them.
 use Rattle.l4_model.specs.Words.{W64, W32, word_of_tag}
 use Rattle.l4_model.specs.Machine as model
+use Rattle.l4_types.specs.Inner.FormatView.{format_of}
 use Rattle.l4_types.specs.Inner.PeriodView.{period_of}
 use Rattle.l4_types.specs.StepView.{order_kind_of}
 use Rattle.l4_script.specs.Inner.Calls.{Call}
@@ -12,8 +13,7 @@ use Rattle.l4_script.specs.declared.instructions.Instr.TheVariants as instrs
 abbrev pub id_from_of : IdFrom → model.IdFrom
 id_from_of (ids.Fixed id) = model.Fixed id
 id_from_of ids.Last = model.Last
-id_from_of (ids.InRegister a) = model.InRegister W64 a
-id_from_of (ids.InShortRegister a) = model.InRegister W32 a
+id_from_of (ids.InRegister format a) = model.InRegister (format_of format) a
 
 abbrev pub ipc_of : Call → model.Instr
 ipc_of call = model.Ipc (id_from_of call.to) (id_from_of call.from) (period_of call.send_period)

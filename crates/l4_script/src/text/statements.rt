@@ -332,7 +332,7 @@ fn on_error(operands: Words<'_>) -> Result<Instr, TextFaultKind>
 }
 
 /// The instruction `end`, which has no operands.
-#[inline(never)]
+#[inline(always)]
 pub(super) fn end(mut operands: Words<'_>) -> Result<Instr, TextFaultKind>
     ensures { Returns instr_of result (end_of operands.entry) }
 {

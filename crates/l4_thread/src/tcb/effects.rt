@@ -140,6 +140,7 @@ impl Tcb {
 
     /// The fast path: counts a send that its receiver takes at once, keeps nothing of it, and goes
     /// on as after its delivery. `now` is the clock of its processor, in ticks.
+    #[inline(always)]
     pub fn pass(&mut self, ipc: &Ipc, now: u64)
         requires room { self.old.thread.context.place + 1 < 2 ^ 64 }
         requires count { self.old.thread.context.begun + 1 < 2 ^ 64 }

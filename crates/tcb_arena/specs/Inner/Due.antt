@@ -1,12 +1,15 @@
 -- What a contract sees of a `Wheel`: the rings of the armed blocks, and the plain list that these
 -- rings make. And the invariant of its fields.
-use Rattle.std.specs.Prelude.{◌≡◌, ℕ, ◌+◌, ◌<◌, ◌≤◌, ◌%◌, ◌==◌, nat_le, min, Bool, true, false, List, [], ◌∷◌, ◌++◌, length, slice_index, slice_index_or, slice_set, slice_get, Some, None, Option, is_some, map, drop, replicate, if◌then◌else◌, refl}
+use Rattle.std.specs.Prelude.{◌≡◌, ℕ, ◌+◌, ◌<◌, ◌≤◌, ◌%◌, ◌==◌, nat_le, Bool, not, List, [], ◌∷◌, ◌++◌, length, slice_index, slice_index_or, slice_set, slice_get, Some, None, Option, is_some, map, drop, replicate, if◌then◌else◌, refl}
 use Rattle.std.specs.Option.{option_map}
 use Rattle.std.specs.List.{list_all}
 use Rattle.std.specs.Coded.{Coded, code_by, coded×, coded_ℕ, coded_list}
 use Rattle.l4_core_model.specs.Plain.{Plain, put_entry, without_block, due_block}
-use Rattle.tcb_arena.specs.Inner.RingSets.{has, ring_count}
 use Rattle.tcb_arena.specs.Inner.Rings.{Lists, list_at}
+
+-- How many rings there are.
+abbrev pub ring_count : ℕ
+ring_count = 64
 
 -- How many blocks there are, and the armed blocks of each ring with their deadlines, in order of
 -- arming.
@@ -118,69 +121,30 @@ pub record ArePlaced (heads : ℕ) (deadlines : List ℕ) (s : Lists) : Type 0 w
   pub placed : (head k x : ℕ) → slice_get (list_at s head) k ≡ Some x →
       slice_index deadlines x % heads ≡ head
 
--- These are the rings that have a block.
-pub record AreFilled (bits : ℕ) (lists : List (List ℕ)) : Type 0 where
-  pub each : (ring : ℕ) → ring < ring_count →
-      has bits ring ≡ is_some (slice_get (slice_index_or lists ring []) 0)
+-- The deadlines of these names rise.
+pub record AreRising (deadlines names : List ℕ) : Type 0 where
+  pub rising : (k j x y : ℕ) → k ≤ j → slice_get names k ≡ Some x →
+      slice_get names j ≡ Some y → slice_index deadlines x ≤ slice_index deadlines y
 
--- No deadline of a ring is before the ring's floor, and none before that of all rings.
-pub record AreFloors (floors deadlines : List ℕ) (lists : List (List ℕ)) : Type 0 where
-  pub below : (ring k block : ℕ) → slice_get (slice_index_or lists ring []) k ≡ Some block →
-      slice_index floors ring ≤ slice_index deadlines block
+-- One list has the armed blocks in the order of the plain list that the rings make.
+pub record AreOrdered (deadlines : List ℕ) (rings order : Lists) : Type 0 where
+  pub names : order.names ≡ length deadlines
+  pub one : length order.lists ≡ 1
+  pub entries : map (entry deadlines) (list_at order 0) ≡ armed_in deadlines rings.lists
 
+-- No deadline is before this one.
 pub record IsFloor (floor : ℕ) (deadlines : List ℕ) (lists : List (List ℕ)) : Type 0 where
   pub below : (ring k block : ℕ) → slice_get (slice_index_or lists ring []) k ≡ Some block →
       floor ≤ slice_index deadlines block
 
--- If there is a block, it is the first armed one, armed for the floor.
-pub record IsFound (floor : ℕ) (first : Option ℕ) (deadlines : List ℕ) (lists : List (List ℕ)) :
-    Type 0 where
-  pub is : (block : ℕ) → first ≡ Some block →
-      slice_get (armed_in deadlines lists) 0 ≡ Some (floor, block)
-
--- The cached first block, unless it is this one.
-abbrev pub other_than : ℕ → Option ℕ → Option ℕ
-other_than block None = None
-other_than block (Some first) = if first == block then None else Some first
-
 -- The invariant of a wheel's fields.
-pub record IsWheel (deadlines : List ℕ) (s : Lists) (bits : ℕ) (floors : List ℕ) (floor : ℕ)
-    (first : Option ℕ) : Type 0 where
-  pub placed : ArePlaced ring_count deadlines s
-  pub filled : AreFilled bits s.lists
-  pub each_floor : AreFloors floors deadlines s.lists
-  pub whole_floor : IsFloor floor deadlines s.lists
-  pub found : IsFound floor first deadlines s.lists
-
--- The search for the first block
-
--- The earlier of the best so far and one more; of equal ones the first.
-abbrev pub earlier_of : Option (ℕ × ℕ) → ℕ × ℕ → ℕ × ℕ
-earlier_of None e = e
-earlier_of (Some x) e = if nat_le x.0 e.0 then x else e
-
--- Whether there is an entry, and its deadline is not after this one.
-abbrev pub at_most : Option (ℕ × ℕ) → (deadline : ℕ) → Bool
-at_most None deadline = false
-at_most (Some e) deadline = nat_le e.0 deadline
-
--- The best so far, if there is one, is the first of its ring.
-abbrev pub IsBest : List ℕ → List (List ℕ) → Option (ℕ × ℕ) → Type 0
-IsBest deadlines lists None = Unit {0}
-IsBest deadlines lists (Some e) = slice_get (put_all []
-    (map (entry deadlines) (slice_index_or lists (e.0 % ring_count) []))) 0 ≡ Some e
-
--- No block is armed for a deadline before the best one's.
-pub record IsLeast (deadlines : List ℕ) (lists : List (List ℕ)) (best : Option (ℕ × ℕ)) :
+pub record IsWheel (deadlines : List ℕ) (rings order : Lists) (latest : List ℕ) (floor : ℕ) :
     Type 0 where
-  pub below : (ring k block : ℕ) → slice_get (slice_index_or lists ring []) k ≡ Some block →
-      at_most best (slice_index deadlines block) ≡ true
+  pub placed : ArePlaced ring_count deadlines rings
+  pub ordered : AreOrdered deadlines rings order
+  pub spans : length latest ≡ length deadlines
+  pub whole_floor : IsFloor floor deadlines rings.lists
 
--- Whether a block has this deadline.
-abbrev pub has_deadline : List ℕ → (deadline block : ℕ) → Bool
-has_deadline deadlines deadline block = slice_index deadlines block == deadline
-
--- The lesser of two deadlines, if there are two.
-abbrev pub lesser_of : Option ℕ → ℕ → ℕ
-lesser_of None deadline = deadline
-lesser_of (Some least) deadline = min least deadline
+-- Whether a block is armed for a later deadline than this one.
+abbrev pub is_later : List ℕ → (deadline block : ℕ) → Bool
+is_later deadlines deadline block = not (nat_le (slice_index deadlines block) deadline)

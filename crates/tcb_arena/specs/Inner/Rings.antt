@@ -33,9 +33,19 @@ is_linked s name = is_in_any name s.lists
 abbrev pub without : ℕ → List ℕ → List ℕ
 without name = filter (λ y. not (name == y))
 
--- The lists after a name was put at the end of one, and after it was taken out.
+-- A list with a name put before another one, if that stands there.
+abbrev pub with_before : (other name : ℕ) → List ℕ → List ℕ
+with_before other name [] = []
+with_before other name (x ∷ xs) =
+    if other == x then name ∷ x ∷ xs else x ∷ with_before other name xs
+
+-- The lists after a name was put at the end of one or before another name, and after it was taken
+-- out.
 abbrev pub put_last : Lists → ℕ → ℕ → Lists
 put_last s head name = record s { lists = slice_set s.lists head (list_at s head ++ name ∷ []) }
+
+abbrev pub put_before : Lists → (other name : ℕ) → Lists
+put_before s other name = record s { lists = map (with_before other name) s.lists }
 
 abbrev pub taken_out : Lists → ℕ → Lists
 taken_out s name = record s { lists = map (without name) s.lists }

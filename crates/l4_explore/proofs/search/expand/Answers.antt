@@ -2,6 +2,7 @@ use Rattle.std.proofs.Common.{map, ap, sym, subst, ◌∙◌}
 use Rattle.l4_explore.specs.Search.{seen_at}
 use Rattle.l4_explore.specs.Inner.Views.{next_from}
 use Rattle.l4_explore.proofs.Trying.{HasMet, one_tried, goes_on, all_tried, going_near, no_items, stopped, stopped_near}
+use Rattle.l4_explore.proofs.Telling.{more_on}
 use Rattle.l4_explore.proofs.search.expand.Goals as goal
 
 pub returns-then-not-branch-clause-near : goal.returns-then-not-branch-clause-near
@@ -60,6 +61,8 @@ loop-choice-preserved g c =
     record {
       going = goes_on f offers coded c.args.next c.args.most seen c.loop-choice.found
           c.meet.new.found n left others going is s;
+      more = more_on c.args.found.now c.loop-choice.found c.meet.new.found c.args.next c.args.most n
+          c.in_ok-meet.field-0 c.loop-choice.invariant.more c.in_ok-meet.ensures;
       few = s.few;
     }
 

@@ -42,10 +42,7 @@ fn register(format: Format, word: &[u8]) -> Result<IdFrom, TextFaultKind>
         return Err(TextFaultKind::BadId);
     }
     let source = Source::new(number as u8).ok_or(TextFaultKind::BadId)?;
-    match format {
-        Format::W64 => Ok(IdFrom::InRegister(source)),
-        Format::W32 => Ok(IdFrom::InShortRegister(source)),
-    }
+    Ok(IdFrom::InRegister(format, source))
 }
 
 /// Where an id is from: a register, an id or a name.

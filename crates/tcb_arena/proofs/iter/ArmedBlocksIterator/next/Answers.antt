@@ -15,7 +15,7 @@ returns-clause-steps c =
     let at = c.self.invariant in
     sym c.self.view_is
     ∙ left-armed_step f.wheel.now f.next c.after-self-inside.result at.place (c.in_ok-deadline.deadline, c.in_ok-deadline.block) at.once at.next_is c.in_ok-deadline.was
-    (c.after-self-inside.ensures at.place (sym at.next_is ∙ c.in_ok-deadline.was))
+    (c.after-self-inside.ensures at.place c.in_ok-deadline.deadline (sym at.next_is ∙ c.in_ok-deadline.was))
 
 pub returns-clause-goes : goal.returns-clause-goes
 returns-clause-goes c =

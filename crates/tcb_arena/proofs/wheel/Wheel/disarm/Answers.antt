@@ -1,7 +1,5 @@
-use Rattle.std.specs.Prelude.{slice_get, is_some, Option}
-use Rattle.std.proofs.Common.{◌≡◌, ◌<◌, ◌%◌, ℕ, [], length, get_or, ap, sym, ◌∙◌, arith}
-use Rattle.std.proofs.lemmas.List.{get_or_read}
-use Rattle.tcb_arena.specs.Inner.Due.{Due, armed_of}
+use Rattle.std.proofs.Common.{sym, ◌∙◌, ap}
+use Rattle.tcb_arena.specs.Inner.Due.{armed_of}
 use Rattle.tcb_arena.proofs.Once.{once-shown}
 use Rattle.tcb_arena.proofs.Wheels.{shown-disarmed, armed-left, none-out, wheel-disarmed}
 use Rattle.tcb_arena.proofs.wheel.Wheel.disarm.Goals as goal
@@ -28,12 +26,7 @@ returns-then-not-is_linked-clause-once c =
 pub invariant_of-self : goal.invariant_of-self
 invariant_of-self c =
     let f = c.self.inside in
-    let lx : c.args.block < length f.deadlines.items = omega (arith, ap (λ (v : Due). v.blocks) c.self.view_is, c.requires) in
-    let read : c.index.result.now ≡ get_or f.deadlines.items c.args.block 0 = get_or_read f.deadlines.items c.args.block c.index.result.now lx c.index.ensures 0 in
-    let ring : c.ring_of-ring.result ≡ get_or f.deadlines.items c.args.block 0 % 64 = c.ring_of-ring.ensures.value ∙ ap (λ n. n % 64) read in
-    let some : c.is_some.result ≡ is_some (slice_get (get_or c.take_out.new.self.lists c.ring_of-ring.result []) 0) = c.is_some.ensures ∙ ap (λ (o : Option ℕ). is_some o) c.first.ensures.first in
-    wheel-disarmed f.deadlines.items f.rings c.take_out.new.self c.args.block c.ring_of-ring.result f.filled.bits c.set.new.self.bits c.is_some.result f.floors f.floor f.first c.other_than-self-inside.result
-    c.self.invariant ring c.take_out.ensures some c.set.ensures c.other_than-self-inside.ensures
+    wheel-disarmed f.deadlines.items f.latest.items f.rings f.order c.take_out.new.self c.take_out-2.new.self c.args.block f.floor c.self.invariant c.take_out.ensures c.take_out-2.ensures
 
 pub returns-clause-rings : goal.returns-clause-rings
 returns-clause-rings c =

@@ -1,11 +1,6 @@
 use Rattle.tcb_arena.proofs.Once.{once-shown}
 use Rattle.tcb_arena.proofs.wheel.Wheel.first_armed.Goals as goal
 
-pub returns-in-Some-clause-once : goal.returns-in-Some-clause-once
-returns-in-Some-clause-once c =
-    let f = c.self.inside in
-    once-shown 64 f.deadlines.items f.rings c.args.self.now c.self.invariant.placed c.names-once.ensures.sound c.self.view_is
-
 pub returns-clause-once : goal.returns-clause-once
 returns-clause-once c =
     let f = c.self.inside in

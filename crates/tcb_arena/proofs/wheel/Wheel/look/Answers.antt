@@ -1,14 +1,20 @@
-use Rattle.std.proofs.Common.{sym}
-use Rattle.tcb_arena.proofs.Wheels.{wheel-found, wheel-unfound}
+use Rattle.std.specs.Prelude.{slice_get}
+use Rattle.std.proofs.Common.{◌∙◌, ap, sym}
+use Rattle.tcb_arena.specs.Inner.Due.{Due, armed_of}
+use Rattle.tcb_arena.proofs.Ordered.{floor-first, floor-none}
+use Rattle.tcb_arena.proofs.Wheels.{wheel-raised}
 use Rattle.tcb_arena.proofs.wheel.Wheel.look.Goals as goal
 
 pub invariant_of-self : goal.invariant_of-self
 invariant_of-self c =
     let f = c.self.inside in
-    wheel-found f.deadlines.items f.rings f.filled.bits f.floors c.search-found.new.floors f.floor f.first (c.in-Some-found.deadline, c.in-Some-found.block) c.self.invariant
-    c.in-Some-found.ensures.floors c.in-Some-found.ensures.least (sym c.in-Some-found.ensures.first)
+    wheel-raised f.deadlines.items f.latest.items f.rings f.order f.floor c.in-Some.deadline c.self.invariant
+    (floor-first f.deadlines.items f.rings f.order (c.in-Some.deadline, c.in-Some.field-0-1) c.self.invariant.ordered
+    (ap (λ (v : Due). slice_get (armed_of v) 0) c.self.view_is ∙ sym c.first_armed-found.ensures.first ∙ c.in-Some.is))
 
 pub invariant_of-self-in-None : goal.invariant_of-self-in-None
 invariant_of-self-in-None c =
     let f = c.self.inside in
-    wheel-unfound f.deadlines.items f.rings f.filled.bits f.floors c.search-found.new.floors f.floor _ f.first c.self.invariant c.in-None.ensures.floors c.in-None.ensures.least c.in_default.is
+    wheel-raised f.deadlines.items f.latest.items f.rings f.order f.floor _ c.self.invariant
+    (floor-none f.deadlines.items f.rings f.order _ c.self.invariant.ordered
+    (ap (λ (v : Due). slice_get (armed_of v) 0) c.self.view_is ∙ sym c.first_armed-found.ensures.first ∙ c.in-None.is))

@@ -14,7 +14,7 @@ const MOST_CARDS = 300;
 const MOST_THREADS = 14; // on a card
 
 // The words of a search: of which kind, and within which limits.
-const limitWords = () => ["--depth", $("depth").value, "--states", $("states").value];
+const limitWords = () => ["--depth", $("depth").value, "--states", $("states").value, "--memory", $("counted").value];
 const searchWords = () => ["endings", "m.l4", ...($("placed").checked ? ["--placed"] : []), ...limitWords()];
 
 // Opens an ending that a search with these words found, at its end; where a thread comes to be stuck for ever; or a moment in which lines hold.
@@ -62,13 +62,14 @@ async function search(isStuckOnly) {
     searchAgain = () => search($("onlystuck").checked);
     $("onlystuck").checked = isStuckOnly;
     const asked = searchWords();
-    if (isStuckOnly) asked.push("--stuck");
+    const rests = $("rests").value.trim();
+    if (isStuckOnly) asked.push("--stuck", ...(rests ? ["--rests", rests] : []));
     if ($("oneisenough").checked) asked.push("--none");
     for (const name of ["with", "never"]) if ($(name).value.trim()) asked.push(`--${name}`, $(name).value.trim());
     const answer = await searchedBy([...asked, "--waits"]);
     if (!answer) return;
     const { made, text } = answer;
-    const found = endingsOf(made.out);
+    const found = endingsOf(made.out, rests.split(","));
     const isPart = asked.includes("--with") || asked.includes("--never");
     if (isPart) $("bylines").open = true;
     sayIn("found", searchText({ ...found, isStuckOnly, isPart, took: made.took }));

@@ -160,8 +160,8 @@ function headOf(line) {
 
 // The endings that a search printed, and its last line. `isEndless`: nothing ends at all. `forever`: the threads that may be stuck for ever,
 // whether or not the others come to rest; their numbers count on behind those of the endings. `isByWalk`: a walk at random came to an ending, and no
-// other was looked for.
-function endingsOf(out) {
+// other was looked for. Threads that may rest are not stuck.
+function endingsOf(out, rests = []) {
     const found = { endings: [], forever: [], isForeverCut: false, last: "", isEndless: false, isByWalk: false };
     for (const line of linesOf(out)) {
         const head = headOf(line);
@@ -174,7 +174,10 @@ function endingsOf(out) {
         else if (line.startsWith("found by a walk")) Object.assign(found, { isByWalk: true, last: line });
         else found.endings.at(-1)?.lines.push(line);
     }
-    for (const ending of found.endings) ending.report = reportOf(ending.lines.join("\n"));
+    for (const ending of found.endings) {
+        ending.report = reportOf(ending.lines.join("\n"));
+        for (const thread of ending.report.threads) thread.isStuck &&= !rests.includes(thread.id);
+    }
     return found;
 }
 

@@ -133,7 +133,7 @@ async function runsExamples(browser, hand) {
         check(`${example}: its chart has its steps`, rows > 0 && last === all && (rows === all || all > 250), [rows, last, all]);
         await hand.verb("stuck");
         const found = await hand.run("return document.getElementById('found').textContent");
-        const words = ["endings", "m.l4", "--depth", "1000", "--states", "100000", "--stuck"];
+        const words = ["endings", "m.l4", "--depth", "1000", "--states", "100000", "--memory", "2048", "--stuck"];
         const said = printedBy(program, { words, files: { "m.l4": await hand.run("return editor.text") } }).out.toString();
         const wanted = / whole(,|$)/m.test(said) ? /All orders .* were searched/ : /Cut off: /;
         check(`${example}: whether its search was whole`, wanted.test(found), found);
@@ -270,6 +270,21 @@ async function findsStuckForEver(browser, hand) {
     check("nor can it behind that", /1.1 can never go on/.test(await hand.text("verdict")), await hand.text("verdict"));
     await hand.click("#first");
     check("and at the beginning it could", !/can never go on/.test(await hand.text("verdict")), await hand.text("verdict"));
+}
+
+// Who may rest where it is does not count as stuck.
+async function letsOneRest(browser, hand) {
+    await hand.go(linkOf({ n: "lost.l4", t: lostReply }));
+    await hand.verb("stuck");
+    check("1.1 is stuck in one ending, and tells it twice", (await hand.count(".ending")) === 2, await hand.count(".ending"));
+    await hand.fill("rests", "1.1");
+    await hand.verb("stuck");
+    check("where it may rest nobody is", (await hand.count(".ending")) === 0, await hand.text("endinglist"));
+    await hand.verb("endings");
+    check("nor is it marked among all endings", (await hand.count(".ending")) === 2 && (await hand.count(".ending.bad")) === 0);
+    await hand.fill("rests", "1.1,7.1");
+    await hand.verb("stuck");
+    check("who rests has to be a thread of the text", /threads item 2/.test(await hand.text("found")), await hand.text("found"));
 }
 
 // One ending is enough: where a search of a large text finds nothing, a walk at random comes to a deadlock at once.
@@ -672,6 +687,7 @@ const PARTS = [
     findsStuckEnding,
     findsLostReply,
     findsStuckForEver,
+    letsOneRest,
     findsOneByWalk,
     asksForMoments,
     stepsByAny,

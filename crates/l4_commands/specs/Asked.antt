@@ -36,7 +36,7 @@ use Rattle.l4_commands.specs.declared.job.Scheduler.TheVariants.{Any, Placed}
 use Rattle.l4_commands.specs.declared.job.TextChart.{TextChart}
 use Rattle.l4_commands.specs.declared.job.Wanted.{Wanted}
 use Rattle.l4_commands.specs.declared.job.Wanted.TheVariants.{Whatever, NoEnding, AnEnding}
-use Rattle.l4_commands.specs.declared.texts.TheConstants.{INPUT_TWICE, SCHEDULE_OF_RUN, RECORD_AND_EXPECT, TURNS_ALONE, NEXT_BESIDE, OVER_ITS_FILE, TWO_FORMS, UNKNOWN_LINE, DELETED_LINE, NUMBER_LINE, NONE_AND_SOME, ALWAYS_BESIDE, TRACE_BESIDE, CHART_AND_JSON, CHART_BESIDE}
+use Rattle.l4_commands.specs.declared.texts.TheConstants.{INPUT_TWICE, SCHEDULE_OF_RUN, RECORD_AND_EXPECT, TURNS_ALONE, NEXT_BESIDE, OVER_ITS_FILE, TWO_FORMS, UNKNOWN_LINE, DELETED_LINE, NUMBER_LINE, NONE_AND_SOME, RESTS_ALONE, ALWAYS_BESIDE, TRACE_BESIDE, CHART_AND_JSON, CHART_BESIDE}
 use Rattle.l4_commands.specs.declared.words.WordsFault.{WordsFault}
 use Rattle.l4_commands.specs.declared.words.WordsFault.TheVariants.{Help, Usage, NoMemory}
 
@@ -187,6 +187,7 @@ pub record IsSearchOf (rows : List Row) (search : EndingsJob) : Type 0 where
   pub states : Some search.states ≡ number_in (codes "states") rows
   pub memory : Some search.memory ≡ number_in (codes "memory") rows
   pub stuck : search.stuck ≡ has_flag (codes "stuck") rows
+  pub rests : option_copied search.rests ≡ first_of (codes "rests") rows
   pub with_line : option_copied search.with_line ≡ first_of (codes "with") rows
   pub never : option_copied search.never ≡ first_of (codes "never") rows
   pub wanted :
@@ -301,8 +302,11 @@ abbrev pub lines_told : List Row → Option Text
 lines_told rows =
     or_else (line_told (first_of (codes "with") rows)) (line_told (first_of (codes "never") rows))
 
--- `--none` and `--some` exclude each other. `--trace` is printed in place of what the others print
--- or judge, and a placed search has no trace.
+-- Threads may rest where `--stuck` would ask for them. `--none` and `--some` exclude each other.
+-- `--trace` is printed in place of what the others print or judge, and a placed search has no trace.
+
+abbrev pub has_rests_alone : List Row → Bool
+has_rests_alone rows = has_value (codes "rests") rows && not (has_flag (codes "stuck") rows)
 
 abbrev pub is_none_and_some : List Row → Bool
 is_none_and_some rows = has_flag (codes "none") rows && has_flag (codes "some") rows
@@ -332,9 +336,10 @@ abbrev pub endings_told : List Row → Option Text
 endings_told rows =
     or_else (lines_told rows)
     (if is_always_beside rows then Some ALWAYS_BESIDE.now
+    else (if has_rests_alone rows then Some RESTS_ALONE.now
     else (if is_none_and_some rows then Some NONE_AND_SOME.now
     else (if is_trace_beside rows then Some TRACE_BESIDE.now
-    else (if is_chart_and_json rows then Some CHART_AND_JSON.now else None))))
+    else (if is_chart_and_json rows then Some CHART_AND_JSON.now else None)))))
 
 -- Whether the standard input, which can be read only once, is named more than once. A job reads a
 -- machine text, a trace or a schedule, and expectations.

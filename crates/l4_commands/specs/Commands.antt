@@ -96,6 +96,7 @@ endings_rules =
     ∷ value (codes "with")
     ∷ value (codes "never")
     ∷ flag (codes "stuck")
+    ∷ value (codes "rests")
     ∷ flag (codes "none")
     ∷ flag (codes "some")
     ∷ value (codes "always")

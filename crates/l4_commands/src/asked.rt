@@ -6,7 +6,8 @@ ghost use Rattle.clap.specs.Words.{first_of, subcommand_rows_of};
 ghost use Rattle.l4_commands.specs.Asked.{IsAuditOf, IsChartOf, IsJobIn, IsLintOf, IsNextOf};
 ghost use Rattle.l4_commands.specs.Asked.{IsReplayOf, IsRunOf, IsSearchOf, are_two, chart_told};
 ghost use Rattle.l4_commands.specs.Asked.{endings_told, extras_in, flags_in, form_of, has_flag};
-ghost use Rattle.l4_commands.specs.Asked.{has_turns_alone, has_value, is_input_of, is_next_beside};
+ghost use Rattle.l4_commands.specs.Asked.{has_rests_alone, has_turns_alone, has_value, is_input_of};
+ghost use Rattle.l4_commands.specs.Asked.{is_next_beside};
 ghost use Rattle.l4_commands.specs.Asked.{drawn_told, is_always_beside, is_chart_beside};
 ghost use Rattle.l4_commands.specs.Asked.{is_chart_and_json, is_none_and_some, is_over_file, is_same};
 ghost use Rattle.l4_commands.specs.Asked.{is_trace_beside, judged_in, line_told, lines_told};
@@ -21,7 +22,8 @@ use crate::job::{
 };
 use crate::texts::{
     ALWAYS_BESIDE, CHART_AND_JSON, CHART_BESIDE, INPUT_TWICE, NEXT_BESIDE, NONE_AND_SOME,
-    OVER_ITS_FILE, RECORD_AND_EXPECT, SCHEDULE_OF_RUN, TRACE_BESIDE, TURNS_ALONE, TWO_FORMS,
+    OVER_ITS_FILE, RECORD_AND_EXPECT, RESTS_ALONE, SCHEDULE_OF_RUN, TRACE_BESIDE, TURNS_ALONE,
+    TWO_FORMS,
 };
 use clap::ArgMatches;
 use l4_lines::lines::{LineFault, line_fault};
@@ -259,6 +261,7 @@ fn endings_job<'a>(matches: &ArgMatches<'a>) -> Option<EndingsJob<'a>>
         states: number(matches, "states")?,
         memory: number(matches, "memory")?,
         stuck: has_flag(matches, "stuck"),
+        rests: text(matches, "rests"),
         with_line: text(matches, "with"),
         never: text(matches, "never"),
         wanted: wanted_by(has_flag(matches, "none"), has_flag(matches, "some"))?,
@@ -430,6 +433,13 @@ fn wrong_line<'a>(matches: &ArgMatches<'a>) -> Option<Conflict<'a>>
     }
 }
 
+// Whether `--rests` is given without the `--stuck` that it is about.
+fn has_rests_alone(matches: &ArgMatches<'_>) -> bool
+    ensures { result ≡ has_rests_alone (rows_in matches.now) }
+{
+    has_value(matches, "rests") && !has_flag(matches, "stuck")
+}
+
 // Whether `--none` and `--some` are both given.
 fn is_none_and_some(matches: &ArgMatches<'_>) -> bool
     ensures { result ≡ is_none_and_some (rows_in matches.now) }
@@ -481,6 +491,9 @@ fn endings_conflict<'a>(matches: &ArgMatches<'a>) -> Option<Conflict<'a>>
     }
     if is_always_beside(matches) {
         return Some(Conflict::Arguments(ALWAYS_BESIDE));
+    }
+    if has_rests_alone(matches) {
+        return Some(Conflict::Arguments(RESTS_ALONE));
     }
     if is_none_and_some(matches) {
         return Some(Conflict::Arguments(NONE_AND_SOME));

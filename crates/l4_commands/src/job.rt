@@ -88,6 +88,8 @@ pub struct EndingsJob<'a> {
     pub memory: u64,
     /// Whether to search only for endings in which a thread waits for ever.
     pub stuck: bool,
+    /// The ids of the threads that may rest so, with commas between them. Without a list, none may.
+    pub rests: Option<&'a str>,
     /// A line that the report of an ending must have, where there is one.
     pub with_line: Option<&'a str>,
     /// A line that the report of an ending must not have, where there is one.

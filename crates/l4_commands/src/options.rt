@@ -332,6 +332,11 @@ const ENDINGS_ARGUMENTS: &[Argument] = &[
 come",
     },
     Argument {
+        name: "rests",
+        takes: Takes::Text("LIST"),
+        help: "Lets `--stuck` pass over these threads, joined by commas: each may rest as it is",
+    },
+    Argument {
         name: "none",
         takes: Takes::Nothing,
         help: "Ends with status 4 where such an ending was found",

@@ -160,6 +160,10 @@ all clocks to the least deadline of all, and may end as none of these. `in turn`
 has two threads, which
 take their turns in one order, not in every order.
 
+With `--stuck`, `--rests 2.1,3.1` names threads that may rest where they are, as one that waits for \
+an interrupt: only
+others count.
+
 With `--always 'never thread 1.1 ready .. & thread 2.1 ready ..'` it asks in place of endings \
 whether any world on the way
 tells all of these lines of a report. It prints `never met`, or `not met: cut`, or `met, steps K` \
@@ -172,7 +176,8 @@ not meet `--expect`. 0: nothing of these, and the search was whole, or `--some` 
 usage. 1: a fault as
 of `run`, or `l4run: depth out of range`, `l4run: states out of range`, `l4run: memory out of \
 range`, `l4run: ending out
-of range`, `l4run: condition line N`. docs/FORMATS.md (Endings) tells each line.";
+of range`, `l4run: condition line N`, `l4run: threads item N`. docs/FORMATS.md (Endings) tells each \
+line.";
 
 pub const LINT_EXAMPLE: &str =
     "Example: `l4run lint ping.l4`, with the machine text that `l4run help run` shows but the line \
@@ -259,6 +264,11 @@ For more information, try '--help'.
 ";
 
 pub const NONE_AND_SOME: &str = "error: only one of '--none' and '--some' can be given
+
+For more information, try '--help'.
+";
+
+pub const RESTS_ALONE: &str = "error: '--rests' goes with '--stuck'
 
 For more information, try '--help'.
 ";

@@ -18,7 +18,8 @@ use Rattle.l4_model.proofs.Places.{same_id_is, known_send, eqb_same}
 use Rattle.l4_model.proofs.Requests.{message_short}
 use Rattle.l4_script.specs.Canonical.{is_register}
 use Rattle.l4_lint.specs.Always.{delivers_register, delivers_propagated}
-use Rattle.l4_lint.specs.Doubts.{uses, may_receive, is_taken_from, names_originator, asks_to_propagate}
+use Rattle.l4_lint.specs.Doubts.{names_originator, asks_to_propagate}
+use Rattle.l4_lint.specs.Scripts.{uses, may_receive, is_taken_from}
 use Rattle.l4_lint.proofs.Changes.{Each, step_each, sender_fact}
 use Rattle.l4_lint.proofs.Silent.{Allows, IsClosed, Silent, is_kept, opening_silent}
 

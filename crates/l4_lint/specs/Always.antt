@@ -58,8 +58,8 @@ cancels caller target (Order c t what) =
 cancels caller target _ = false
 
 -- Of an id: no step names the thread. Of a register that is written: no delivered message of the
--- script's thread has it. Of a tag: none is propagated. Of a thread of another space: no order of the
--- script's thread cancels what it does. Of the others nothing is certain.
+-- script's thread has it. Of a tag: none is propagated. Of a thread of another space: no order of
+-- the script's thread cancels what it does. Of the others nothing is certain.
 abbrev pub Says : Doubt → (word : List ℕ) → Option Declaration → List Step → Type 0
 Says NoThread word thread h = IsSomeAnd (thread_of word) (λ t. NoStep (names_thread t) h)
 Says NotSent word thread h =

@@ -19,8 +19,8 @@ pub record Reader : Type 0 where
 abbrev pub reader : Stage → (lost faulty : Bool) → Reader
 reader stage lost faulty = record { stage = stage; lost = lost; faulty = faulty }
 
-abbrev pub begins_script : (line : List ℕ) → Bool
-begins_script line = bytes_eq (word_of line) (codes "thread")
+abbrev pub begins_script : (words : List ℕ) → Bool
+begins_script words = bytes_eq (word_of words) (codes "thread")
 
 -- A line of a script of no thread is judged as an instruction, and changes nothing.
 abbrev pub words_form : Format → List (List ℕ) → Judged (Unit {0})

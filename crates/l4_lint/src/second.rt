@@ -18,11 +18,13 @@ mod judging;
 mod names;
 mod parts;
 mod reading;
+mod unused;
 
 use crate::faults::{Fault, keep, next_line, unended};
 use crate::hints::{Hint, Lines};
 use crate::missed;
 use crate::places::Place;
+pub(crate) use commands::is_instruction;
 use forms::{line_place, missed_place};
 use l4_script::text::second::Stage;
 use l4_script::text::{TextFault, TextFaultKind};
@@ -30,6 +32,7 @@ use l4_types::errors::NoMemory;
 pub(crate) use parts::{Parts, parts_of};
 use reading::Reader;
 use std::alloc::Global;
+pub(crate) use unused::{is_name_looked_for, is_unused_name};
 
 /// The fault of a text that ends in front of its second line.
 fn text_ends<'a>(number: usize) -> Fault<'a>

@@ -5,6 +5,7 @@ mod Drawn
 mod Lists
 mod OfAll
 mod Quiet
+mod SameStuck
 pub mod Sharing
 mod Statuses
 mod StuckThreads

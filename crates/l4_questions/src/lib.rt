@@ -30,6 +30,7 @@ pub mod met;
 mod placed_answering;
 mod printed;
 pub mod question;
+mod resting;
 mod stuck;
 mod traces;
 mod walked;

@@ -14,9 +14,10 @@ const MOST_BYTES: usize = 148;
 // What wipes the line.
 const WIPED: &[u8] = b"\r\x1b[K";
 
-/// A line on a terminal that says how far a search has come: `looked at 120000 states, 30000
-/// wait, depth 31, 4 s, 30000 a second`. From the first second on it is written once in each, over what was there,
-/// and it is wiped where the search ends. It takes no memory. A write that fails is no fault.
+/// A line on a terminal that says how far a search has come: `looked at 120000 states, 30000 wait,
+/// depth 31, 4 s, 30000 a second`. From the first second on it is written once in each, over what
+/// was there, and it is wiped where the search ends. It takes no memory. A write that fails is no
+/// fault.
 #[derive(Drop)]
 pub struct ProgressLine<'a, R, W> {
     clock: &'a R,

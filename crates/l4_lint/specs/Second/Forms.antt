@@ -47,7 +47,8 @@ reading_in stage = None
 abbrev pub passes : Test → Context → Option Reading → (words : List ℕ) → Operand →
     (word : List ℕ) → Bool
 passes test.Present c r words operand word = not (length word == 0)
-passes test.Keyword c r words operand word = not (is_keyword operand) || is_right c r words operand word
+passes test.Keyword c r words operand word =
+    not (is_keyword operand) || is_right c r words operand word
 passes test.Right c r words operand word = is_right c r words operand word
 
 abbrev pub walk : Test → Context → Option Reading → (words : List ℕ) → List Operand →
@@ -87,7 +88,8 @@ abbrev pub count_place : Context → Option Reading → Parts → List Operand �
     (failed : Option Operand) → Place
 count_place c r p operands rest (Some wanted) = place_at p.front rest (hints.Wanted wanted)
 count_place c r p operands rest None =
-    if length rest == 0 then keywords_place c r p (walk_all test.Keyword c r operands (behind p.words))
+    if length rest == 0
+    then keywords_place c r p (walk_all test.Keyword c r operands (behind p.words))
     else place_at p.front rest hints.Surplus
 
 abbrev pub counted_place : Context → Option Reading → Parts → List Operand → Walked → Place
@@ -119,7 +121,8 @@ spaced_place c r p None = if has_empty_word p.words
 
 abbrev pub wrong_byte : (line : List ℕ) → Option ℕ
 wrong_byte line =
-    position (λ byte. not (byte == 9 || (nat_le 0x20 byte && nat_le byte 0x7e))) (without_return line)
+    position (λ byte. not (byte == 9 || (nat_le 0x20 byte && nat_le byte 0x7e)))
+    (without_return line)
 
 abbrev pub form_place : Context → Option Reading → (number : ℕ) → (line : List ℕ) →
     (wrong : Option ℕ) → Place

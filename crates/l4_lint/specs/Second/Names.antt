@@ -21,8 +21,8 @@ label_or (Some label) otherwise = Some label
 abbrev pub declared_by : (line : List ℕ) → Option (List ℕ)
 declared_by line = label_or (parts_of line).label (named_by (parts_of line).words)
 
--- Names are near that differ in upper and lower case alone, or besides in one byte, which is another
--- one or missing, or in two neighbours that are exchanged.
+-- Names are near that differ in upper and lower case alone, or besides in one byte, which is
+-- another one or missing, or in two neighbours that are exchanged.
 
 abbrev pub same_letter : (a b : ℕ) → Bool
 same_letter a b = to_ascii_lowercase a == to_ascii_lowercase b
@@ -45,8 +45,8 @@ are_near (a ∷ one) (b ∷ other) =
     if same_letter a b then are_near one other else differ_once (a ∷ one) (b ∷ other)
 are_near one other = differ_once one other
 
--- What is said of a name that no instruction may have, or that is none: the number of the first line
--- that declares it, or else of the first that declares one that is near.
+-- What is said of a name that no instruction may have, or that is none: the number of the first
+-- line that declares it, or else of the first that declares one that is near.
 
 abbrev pub near_or : (near : Option ℕ) → Hint
 near_or None = hints.Unknown

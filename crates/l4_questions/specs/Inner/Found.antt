@@ -1,6 +1,7 @@
 -- What is known of an ending while it is told.
-use Rattle.std.specs.Prelude.{Bool, true, ℕ, List, Vec, filter_map}
+use Rattle.std.specs.Prelude.{Bool, true, ℕ, if◌then◌else◌, List, [], ◌∷◌, Vec, filter_map, flat_map}
 use Rattle.std.proofs.Common.{Global}
+use Rattle.l4_model.specs.Words.{GlobalId}
 use Rattle.l4_model.specs.Machine.{Machine}
 use Rattle.l4_model.specs.History.{view}
 use Rattle.l4_all_endings.specs.Tried.{LeadsToWorld}
@@ -17,11 +18,19 @@ use Rattle.l4_questions.specs.Answers.{ending_after}
 use Rattle.l4_questions.specs.Endings.{Ending}
 use Rattle.l4_questions.specs.Placed.{placed_ending}
 
--- A thread waits that may wait for ever.
+-- A thread with this wait may wait for ever.
 abbrev pub is_stuck_wait : Wait → Bool
 is_stuck_wait (Send to) = true
 is_stuck_wait (Arrival to) = true
 is_stuck_wait (Receive from) = names_one from
+
+-- Those that do, of threads that wait.
+
+abbrev pub stuck_by : GlobalId × Wait → List GlobalId
+stuck_by waiting = if is_stuck_wait waiting.1 then waiting.0 ∷ [] else []
+
+abbrev pub stuck_among : List (GlobalId × Wait) → List GlobalId
+stuck_among waits = flat_map stuck_by waits
 
 -- The report of the world that an audit has come to.
 abbrev pub report_by : Auditing → List ℕ

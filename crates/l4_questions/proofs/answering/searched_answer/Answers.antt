@@ -22,7 +22,7 @@ pub lines_behind-requires : goal.lines_behind-requires
 lines_behind-requires g c =
     let stuck = c.in_ok-stuck.stuck in
     all_stuck (asks_who_is_stuck c.args.question.now) stuck.is_whole c.args.machine.now
-    stuck.threads.items c.in_ok-stuck.ensures
+    c.args.question.now stuck.threads.items c.in_ok-stuck.ensures
 
 pub returns : goal.returns
 returns g c =

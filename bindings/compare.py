@@ -126,6 +126,11 @@ def printed_by(program, words, files, given):
         return done.returncode, done.stdout, done.stderr
 
 
+def unpainted(words):
+    """The same without colours, since the library paints nothing."""
+    return ["never" if (before, word) == ("--color", "always") else word for before, word in zip(["", *words], words)]
+
+
 def answered(words, files, given):
     """What the library answers. The standard input is a file with the names that it has."""
     asked = {name for word in words for name in names_of(word)}
@@ -154,7 +159,7 @@ def main(program, every=1):
         got = answered(words, files, given)
         between = time.perf_counter()
         asked, record = in_rounds(words) if got.status != 2 and is_run(words, files) else (words, None)
-        wanted = printed_by(program, asked, files, given)
+        wanted = printed_by(program, unpainted(asked), files, given)
         took["library"] += between - began
         took["program"] += time.perf_counter() - between
         is_same = (got.status, got.out, got.faults) == wanted

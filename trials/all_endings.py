@@ -28,9 +28,10 @@ def limited(*words):
     return [*words, f"--depth={DEPTH}", f"--states={MOST_WORLDS}"]
 
 
-def question(dice, expected):
-    """What is asked of the endings of a machine: a trace now and then."""
+def question(dice, expected, threads):
+    """What is asked of the endings of a machine with these threads: a trace now and then."""
     words = ["--stuck"] if dice.random() < 0.3 else []
+    words += [f"--rests={endings.some_of(dice, threads)}"] if words and dice.random() < 0.5 else []
     words += [f"{name}={dice.choice(LINES)}" for name in ("--with", "--never") if dice.random() < 0.3]
     if dice.random() < 0.4:
         return limited(*words, f"--trace={dice.choice(NUMBERS)}")
@@ -79,7 +80,7 @@ def compared(program, file, text, dice, counts, expected):
     found = endings.found_in(text, endings.question([file, *limited()]))
     said = same_lines(program, file, text, limited(), found, counts)
     same_ends(text, said, counts)
-    same_lines(program, file, text, question(dice, expected), found, counts)
+    same_lines(program, file, text, question(dice, expected, list(machines.read(text).threads)), found, counts)
     last = said.splitlines()[-1].split(" ")
     counts[f"machines whose search is {last[-1]}"] += 1
     counts["machines that go on for ever"] += "\nno ending: " in "\n" + said

@@ -1,6 +1,6 @@
 """Prints what `l4run endings` says of a machine, as a second emulator finds it, and ends with the same status.
 
-    python3 -B trials/endings.py FILE [--placed] [--depth N] [--states N] [--memory N] [--stuck] [--with LINE] [--never LINE] [--none or --some] [--waits] [--expect NAME]
+    python3 -B trials/endings.py FILE [--placed] [--depth N] [--states N] [--memory N] [--stuck [--rests LIST]] [--with LINE] [--never LINE] [--none or --some] [--waits] [--expect NAME]
     python3 -B trials/endings.py FILE --always 'never LINE & LINE' [--depth N] [--states N] [--memory N]
     python3 -B trials/endings.py FILE --trace N [..]
 
@@ -51,8 +51,10 @@ class Ending:
         told = expectations.unmet_text(expected, self.report)
         return told and self.head(number) + told
 
-    def is_stuck(self):
-        return bool(self.world.sends) or any(map(is_closed, self.world.members.values()))
+    def stuck(self):
+        """The threads that are stuck there: a send of theirs is undecided, or they receive from one thread alone."""
+        closed = {thread for thread, member in self.world.members.items() if is_closed(member)}
+        return closed | {name.thread for name in self.world.sends}
 
     def has_line(self, asked):
         return any(fits(asked.split(" "), words) for words in split_lines(self.report))
@@ -76,7 +78,7 @@ def may_be_asked(line):
 
 def is_asked(asked, ending):
     return (
-        (not asked.stuck or ending.is_stuck())
+        (not asked.stuck or bool(ending.stuck() - asked.rests))
         and (asked.with_line is None or ending.has_line(asked.with_line))
         and (asked.never is None or not ending.has_line(asked.never))
     )
@@ -99,8 +101,10 @@ class Found:
         return self.look_for_stuck()
 
     def stuck_by(self, asked):
-        """No thread is told where an ending is asked for by a line."""
-        return self.stuck if asked.stuck and asked.with_line is None and asked.never is None else NO_STUCK
+        """None of the threads that may rest, and none at all where an ending is asked for by a line."""
+        if not asked.stuck or asked.with_line is not None or asked.never is not None:
+            return NO_STUCK
+        return worlds.Stuck([(thread, found) for thread, found in self.stuck.threads if thread not in asked.rests], self.stuck.is_whole)
 
 
 def stuck_text(stuck):
@@ -208,6 +212,16 @@ def line(word):
     return word
 
 
+def rests(word):
+    """The threads of a list, by their ids."""
+    return frozenset(words.global_id(*map(int, item.split("."))) for item in word.split(","))
+
+
+def some_of(dice, threads):
+    """A list of some of these threads."""
+    return ",".join(map(words.spelled, dice.sample(threads, dice.randint(1, len(threads)))))
+
+
 def condition(word):
     """The lines of a condition."""
     if not word.startswith(NEVER):
@@ -222,6 +236,7 @@ def question(arguments):
     reader.add_argument("--states", type=number_to(MOST_STATES), default=STATES)
     reader.add_argument("--memory", type=number_to(MOST_MEMORY), default=MEMORY)
     reader.add_argument("--stuck", action="store_true")
+    reader.add_argument("--rests", type=rests, default=frozenset())
     reader.add_argument("--with", type=line, dest="with_line")
     reader.add_argument("--never", type=line)
     reader.add_argument("--none", action="store_true")

@@ -127,6 +127,8 @@ def question(dice):
             line = dice.choice(["thread 1.1 *", "thread * ended ..", "waiting ..", "thread 1.1 deleted 0", "ending quiet", "thread 2.1 sending 0 nil nil 0", "..", ""])
             words.append(f"{name}=" + spoilt(dice, line.encode()).replace(b"\0", b"").decode("utf-8", "ignore"))
     words += [name for name in ("--stuck", "--placed") if dice.random() < 0.3]
+    if dice.random() < 0.2:
+        words.append(f"--rests={dice.choice(['1.1', '2.1,1.1', '1.1,', '9.9', '1.1,1.1', ''])}")
     return words + dice.choice([[], [], ["--none"], ["--some"], ["--none", "--some"]])
 
 
@@ -212,6 +214,8 @@ def chart(dice):
         words.append("--threads=" + spoilt(dice, threads.encode()).replace(b"\0", b"").decode("utf-8", "ignore"))
     if dice.random() < 0.6:
         words.append(dice.choice(["--ascii", "--svg", "--html", "--mermaid"]))
+    if dice.random() < 0.4:
+        words.append("--registers")
     return words
 
 

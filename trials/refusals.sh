@@ -2,7 +2,7 @@
 # Runs the tests of refused memory with each growth refused in turn: the first one, then the second one, until a run ends in which none was refused.
 # Each test must pass each time: it makes the call again, and tests what the refused one has left as it was, and what the second one gives. Prints how many
 # growths were refused at each call. Then it does so with commands of the cases, in which each option of each verb is: the program, l4run where none
-# is named, must do what it does with all its memory, or say that it has none, and print and record nothing.
+# is named, must do what it does with all its memory, or say that it has none, and print and record nothing: of a search whole endings, from the first on.
 #
 # What refuses is a library of its own (refuse.c) that is loaded before the C library. A program takes all its memory by malloc and realloc of the C library,
 # whose places that library takes; so it sees every growth, those of other threads and of std too, and refusals.py makes sure that a program knows no

@@ -9,6 +9,7 @@ import collections
 import concurrent.futures
 import os
 import pathlib
+import re
 import shlex
 import shutil
 import subprocess
@@ -21,6 +22,9 @@ NO_MEMORY = b"l4run: no memory\n"
 # A run of one processor and a replay that are recorded, which no case has, and the name that the commands write to.
 RECORDED = "call_gets_its_answer.l4"
 RECORD = "record"
+# What begins an ending, or what stands behind all of them; and by which options all is written at the end.
+PART = re.compile(rb"^(ending \d|stuck |no ending|worlds |states )", re.MULTILINE)
+WHOLE = {"--json", "--trace", "--always"}
 
 
 def blocks(case):
@@ -64,9 +68,16 @@ def outcome(program, command, folder, env):
     return done.returncode, done.stdout, done.stderr, record.read_bytes() if record.exists() else None
 
 
-def is_right(found, wanted):
-    """Whether a refused growth was borne, or reported with nothing else done."""
-    return found in (wanted, (1, b"", NO_MEMORY, None))
+def are_first(written, wanted):
+    """Whether these are whole endings of a search, from the first on, and nothing else."""
+    return wanted.startswith(written) and any(start.start() == len(written) for start in PART.finditer(wanted))
+
+
+def is_right(words, found, wanted):
+    """Whether a refused growth was borne, or reported with nothing else done. A search writes endings as it finds them."""
+    status, output, faults, record = found
+    reported = status == 1 and faults == NO_MEMORY and record is None
+    return found == wanted or reported and (output == b"" or words[0] == "endings" and not WHOLE & set(words) and are_first(output, wanted[1]))
 
 
 def refusals(library, program, cases, command):
@@ -82,7 +93,7 @@ def refusals(library, program, cases, command):
             note.unlink(missing_ok=True)
             words = {"LD_PRELOAD": library, "REFUSE_ALL": "1", "REFUSE_AT": str(number), "REFUSE_TO": str(note)}
             found = outcome(program, command, home, words)
-            if not is_right(found, wanted):
+            if not is_right(command[0], found, wanted):
                 sys.exit(f"l4run {shlex.join(command[0])}: growth {number} refused: {found}")
             if not note.exists():
                 return runs

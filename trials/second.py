@@ -139,7 +139,7 @@ def charted(case, dice, machine, trace, counts):
     write(case.trace_file, trace)
     steps, threads = trace.count("\n"), list(machine.threads)
     chosen = tuple(dice.sample(threads, dice.randint(1, len(threads)))) if threads and dice.random() < 0.5 else None
-    part = charts.Part(dice.choice([1, dice.randint(1, steps + 2)]), dice.choice([steps, dice.randint(0, steps + 2)]), chosen)
+    part = charts.Part(dice.choice([1, dice.randint(1, steps + 2)]), dice.choice([steps, dice.randint(0, steps + 2)]), chosen, dice.random() < 0.5)
     width = dice.choice(WIDTHS)
     try:
         said, refused = charts.of_trace(case.text, trace, part, width)
@@ -149,9 +149,11 @@ def charted(case, dice, machine, trace, counts):
     words = ["chart", case.machine_file, case.trace_file, "--from", str(part.first), "--to", str(part.last), "--width", str(width), "--ascii"]
     if chosen is not None:
         words += ["--threads", ",".join(map(words_of_ids.spelled, chosen))]
+    words += ["--registers"] if part.registers else []
     case.compare("a chart", words, said, fault, FAULT if fault else QUIET, trace=trace)
     counts["charts"] += 1
     counts["charts with sends that have not arrived"] += ".)" in said or "(." in said
+    counts["charts with registers that change"] += "\n      " in said
 
 
 def rested(case, dice, machine, entries, counts):
@@ -206,6 +208,8 @@ def tried(case, dice, kind, counts):
     charted(case, dice, machine, trace, counts)
     whole = charts.text(text, machine, replay.history, charts.Part(1, len(replay.history), None), 80)
     case.replay("chart", whole, at_rest, "--chart")
+    changes = charts.text(text, machine, replay.history, charts.Part(1, len(replay.history), None, True), 80)
+    case.replay("chart with registers", changes, at_rest, "--chart", "--registers")
     for what, other in [("spoilt traces", trace and randoms.spoilt(dice, machine, trace)), ("late retargets", randoms.retargeted_late(dice, trace))]:
         if other:
             charted(case, dice, machine, other, counts)

@@ -66,12 +66,16 @@ def judge_history(machine, thread, found, counts):
     counts["histories of stuck threads"] += 1
 
 
-def questions(dice):
-    """Of each machine all is asked that is stuck, and two more things."""
+def questions(dice, threads):
+    """Of each machine all is asked that is stuck, and two more things: some of its threads may rest."""
     yield ["--stuck", f"--depth={DEPTH}", f"--states={MOST_WORLDS}"]
-    yield ["--stuck", f"--trace={dice.choice(NUMBERS)}", f"--depth={DEPTH}", f"--states={MOST_WORLDS}"]
+    yield ["--stuck", *rests(dice, threads), f"--trace={dice.choice(NUMBERS)}", f"--depth={DEPTH}", f"--states={MOST_WORLDS}"]
     limit = dice.choice(LIMITS)
-    yield ["--stuck", *dice.choice(QUESTIONS), *(limit or [f"--states={MOST_WORLDS}"])]
+    yield ["--stuck", *rests(dice, threads), *dice.choice(QUESTIONS), *(limit or [f"--states={MOST_WORLDS}"])]
+
+
+def rests(dice, threads):
+    return dice.choice([[], [f"--rests={endings.some_of(dice, threads)}"]])
 
 
 def same_lines(program, file, text, words, counts):
@@ -82,6 +86,7 @@ def same_lines(program, file, text, words, counts):
     counts[f"answers with status {told.returncode}"] += 1
     counts["lines of stuck threads"] += told.stdout.count("for ever, steps")
     counts["answers that are cut"] += "stuck for ever: cut" in told.stdout
+    counts["answers where some may rest"] += any(word.startswith("--rests") for word in words)
     counts["traces"] += not told.returncode and any(word.startswith("--trace") for word in words)
 
 
@@ -98,7 +103,7 @@ def main(program, folder, count, part):
             if program != NO_PROGRAM:
                 with open(file, "w") as machine_file:
                     machine_file.write(text)
-                for words in questions(dice):
+                for words in questions(dice, list(machine.threads)):
                     same_lines(program, file, text, words, counts)
         except Differs as differs:
             sys.exit(f"{differs}, the machine:\n{text}")

@@ -88,12 +88,18 @@ class Chart {
         return made;
     }
 
-    // What a thread is in behind the last row, or who waits for each other there.
+    // What a thread is in behind the last row, who waits for each other there, or which send is held.
     static state(row) {
-        const title = row.querySelector("title").textContent;
+        const said = row.querySelector("title").textContent;
+        const meaning = Chart.BELOW[said.split(" ")[0]];
         const className = `state${row.classList.contains("circle") ? " failure" : ""}`;
-        return el("div", { title, className, textContent: title.replace(/ \(line .*\)$/, "") });
+        return el("div", { title: meaning ? `${said}: ${meaning}` : said, className, textContent: said.replace(/ \(line .*\)$/, "") });
     }
+    static BELOW = {
+        circle: "each waits for the next, and the last for the first",
+        deadlock: "each waits for the next, and the last for the first; no step of theirs is possible, now or after ticks",
+        held: "a send of time zero that is not refused yet: its receiver is in a call to another processor, and would accept it once that call is decided",
+    };
 
     // Marks the rows of the steps from `since` to `row`; those behind are yet to come, and so is what is behind the last.
     choose(row, since = row) {

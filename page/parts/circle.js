@@ -3,9 +3,9 @@
 const MOST_IN_CIRCLE = 8; // threads; of more there is no picture
 const LONGEST_IN_CIRCLE = 8; // letters of an id
 
-// The picture of a circle of ids, each of which waits for the next, and the last for the first. Sentences say the same, so it is hidden from
-// who hears the page.
-function circlePicture(ids) {
+// The picture of a circle of ids, each of which waits for the next, and the last for the first. The arrow of one whose send is held is dashed.
+// Sentences say the same, so it is hidden from who hears the page.
+function circlePicture(ids, isHeld) {
     if (ids.length > MOST_IN_CIRCLE || ids.some((id) => id.length > LONGEST_IN_CIRCLE)) return null;
     const tall = 11; // half of what a thread takes up, in pixels
     const wide = 9 + 3.9 * Math.max(...ids.map((id) => id.length));
@@ -18,10 +18,10 @@ function circlePicture(ids) {
         const [a, b] = at(place / ids.length);
         return Math.abs(left - a) < wide + around && Math.abs(top - b) < tall + around;
     };
-    const arrows = ids.map((_, place) => {
+    const arrows = ids.map((id, place) => {
         const all = Array.from({ length: 121 }, (__, part) => at((place + part / 120) / ids.length));
         const shown = all.filter((point) => !isIn(point, place, 2) && !isIn(point, place + 1, 4));
-        return shown.length > 8 ? arrow(shown) : "";
+        return shown.length > 8 ? arrow(shown, isHeld(id) ? "line held" : "line") : "";
     });
     const nodes = ids.map((id, place) => {
         const [a, b] = at(place / ids.length);
@@ -36,12 +36,12 @@ function circlePicture(ids) {
     return made;
 }
 
-// A line through these points, with a head at its end.
-function arrow(points) {
+// A line of a class through these points, with a head at its end.
+function arrow(points, kind) {
     const [[x, y], [a, b]] = [points.at(-1), points.at(-7)];
     const long = Math.hypot(x - a, y - b);
     const [dx, dy] = [(x - a) / long, (y - b) / long];
     const back = (side) => `${(x - 6 * dx - 3.5 * side * dy).toFixed(1)} ${(y - 6 * dy + 3.5 * side * dx).toFixed(1)}`;
     const line = points.slice(0, -2).map((point) => point.map((it) => it.toFixed(1)).join(" ")).join("L");
-    return `<path class="line" d="M${line}"/><path class="point" d="M${x.toFixed(1)} ${y.toFixed(1)}L${back(1)}L${back(-1)}Z"/>`;
+    return `<path class="${kind}" d="M${line}"/><path class="point" d="M${x.toFixed(1)} ${y.toFixed(1)}L${back(1)}L${back(-1)}Z"/>`;
 }

@@ -2,7 +2,7 @@
 
 const MOST_COLOURED = 6000; // lines
 const TONES = { deliver: "go", tick: "tick", local: "soft", counts: "soft", "l4run:": "bad", "error:": "bad" };
-for (const word of ["deadlock", "circle", "stuck", "stimeout", "snobody", "scancel", "rtimeout", "rnobody", "rcancel", "drop"]) TONES[word] = "bad";
+for (const word of ["deadlock", "circle", "held", "stuck", "stimeout", "snobody", "scancel", "rtimeout", "rnobody", "rcancel", "drop"]) TONES[word] = "bad";
 
 let printed = "";
 
@@ -40,6 +40,7 @@ async function command(line) {
     $("words").value = words.map(quoted).join(" ");
     print(made);
     tab("output");
+    comeToRight();
     const begun = isFault(made) || fileOf(words[1]) !== editor.text ? null : sessionOf(words, made);
     if (begun) await begin(begun);
     tellCommand(made, []);

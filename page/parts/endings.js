@@ -14,7 +14,7 @@ const MOST_CARDS = 300;
 const MOST_THREADS = 14; // on a card
 
 // The words of a search: of which kind, and within which limits.
-const limitWords = () => ["--depth", $("depth").value, "--states", $("states").value];
+const limitWords = () => ["--depth", $("depth").value, "--states", $("states").value, "--memory", $("counted").value];
 const searchWords = () => ["endings", "m.l4", ...($("placed").checked ? ["--placed"] : []), ...limitWords()];
 
 // Opens an ending that a search with these words found, at its end; where a thread comes to be stuck for ever; or a moment in which lines hold.
@@ -62,16 +62,17 @@ async function search(isStuckOnly) {
     searchAgain = () => search($("onlystuck").checked);
     $("onlystuck").checked = isStuckOnly;
     const asked = searchWords();
-    if (isStuckOnly) asked.push("--stuck");
+    const rests = resting();
+    if (isStuckOnly) asked.push("--stuck", ...(rests.length ? ["--rests", rests.join(",")] : []));
     if ($("oneisenough").checked) asked.push("--none");
     for (const name of ["with", "never"]) if ($(name).value.trim()) asked.push(`--${name}`, $(name).value.trim());
     const answer = await searchedBy([...asked, "--waits"]);
     if (!answer) return;
     const { made, text } = answer;
-    const found = endingsOf(made.out);
+    const found = endingsOf(made.out, rests);
     const isPart = asked.includes("--with") || asked.includes("--never");
     if (isPart) $("bylines").open = true;
-    sayIn("found", searchText({ ...found, isStuckOnly, isPart, took: made.took }));
+    sayIn("found", searchText({ ...found, isStuckOnly, isPart, rests, took: made.took }));
     const count = found.endings.length + found.forever.length;
     if (!count && / cut$/.test(found.last) && !$("placed").checked && !$("oneisenough").checked) offerWalks(isStuckOnly);
     $("count").textContent = count;
@@ -149,7 +150,12 @@ function showEndings({ endings, forever }, open) {
     $("endinglist").replaceChildren(...cards, ...rest, ...head, ...threads);
 }
 
-const opens = (open) => () => guarded(() => open().then(() => $("slider").focus()));
+const opens = (open) => () =>
+    guarded(async () => {
+        await open();
+        $("slider").focus();
+        comeToRight();
+    });
 
 // A thread that may be stuck for ever, of which a search tells how many steps make it so.
 function foreverCard({ id, steps }, open) {
@@ -184,11 +190,13 @@ function rowsOf(threads, differs) {
 function endingCard({ number, list, steps, report }, differs, open) {
     const isBad = report.threads.some((thread) => thread.isStuck);
     const deadlocks = report.deadlocks.map((ids) => el("span", { className: "circle", textContent: `deadlock of ${ids.join(", ")}` }));
+    const held = report.threads.filter((thread) => thread.held).map(heldNote);
     const length = el("small", { textContent: list ? counted(list.length, "item") : counted(steps, "step") });
     const by = list && el("span", { className: "by", title: list.join(","), textContent: list.join(",") || "nothing happens" });
     const name = el("span", { className: "name" }, el("b", { textContent: `Ending ${number}` }), isBad ? "somebody is stuck" : "", length);
-    return el("button", { className: `ending ${isBad ? "bad" : "good"}`, onclick: opens(open) }, name, ...deadlocks, ...rowsOf(report.threads, differs), by);
+    return el("button", { className: `ending ${isBad ? "bad" : "good"}`, onclick: opens(open) }, name, ...deadlocks, ...rowsOf(report.threads, differs), ...held, by);
 }
+const heldNote = (thread) => el("span", { className: "held", title: heldText(thread), textContent: `${thread.held} is held: ${heldBecause(thread)}` });
 
 // A moment in which lines of a report hold.
 function momentCard({ steps, report }, open) {
@@ -201,12 +209,14 @@ function momentCard({ steps, report }, open) {
 function endingRow(thread, differs) {
     const isShown = ([name, value]) => differs(thread.id, name) && value !== "nil" && value !== "0";
     const own = fieldsOf(thread).filter(isShown).map(([name, value]) => el("span", { className: "differs", textContent: `${name} ${value}` }));
+    const waits = thread.wait ? [el("span", { textContent: shortWait(thread.wait) })] : [];
+    if (thread.isResting) waits.push(el("span", { className: "rests", textContent: "may rest" }));
     const row = el(
         "span",
         { className: `row${thread.isStuck ? " bad" : ""}` },
         el("b", { textContent: thread.id }),
         el("span", { textContent: thread.state }),
-        el("span", {}, thread.wait ? el("span", { textContent: shortWait(thread.wait) }) : "", ...own),
+        el("span", {}, ...waits, ...own),
     );
-    return { row, matters: thread.isStuck || own.length > 0 || differs(thread.id, "state") };
+    return { row, matters: thread.isCaught || own.length > 0 || differs(thread.id, "state") };
 }

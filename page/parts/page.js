@@ -181,6 +181,7 @@ async function addressOf() {
         Object.assign(way, { [session instanceof Trace ? "h" : "s"]: session.written(session.list), i: session.at });
     }
     if ($("wanted").value) way.e = $("wanted").value;
+    if (resting().length) way.r = $("rests").value;
     return `#z=${await packed(way)}`;
 }
 async function address() {
@@ -210,7 +211,9 @@ async function follow() {
     const way = await wayOf(asked);
     const lesson = lessonOf(way.n) ?? lessons[0];
     const text = way.t ?? lesson.text;
+    forgetLines();
     $("wanted").value = way.e ?? "";
+    $("rests").value = way.r ?? "";
     tab(TABS.includes(way.v) ? way.v : "steps");
     await opened(way.t === undefined ? lesson.name : way.n ?? "linked.l4", text, sessionBy(way.h ?? way.s ?? "", text, way.i));
     if (way.isDamaged) tell("This link is damaged: its text could not be read.");
@@ -250,11 +253,17 @@ async function opened(name, text, begun) {
     await Promise.all([lint(), begin(begun?.in(editor.text) ?? new Schedule(program, editor.text))]);
 }
 
+// What was asked of another text names its threads.
+function forgetLines() {
+    for (const id of ["rests", "with", "never", "together"]) $(id).value = "";
+}
+
 async function openedLesson(name) {
     const lesson = lessonOf(name) ?? lastOwn();
     showLesson();
     if (!lesson) return;
     tab("steps");
+    forgetLines();
     await opened(lesson.name, lesson.text);
 }
 
@@ -262,6 +271,7 @@ async function openedLesson(name) {
 async function openedFile(file) {
     if (!file) return;
     if (!/\.(list|trace)$/.test(file.name)) {
+        forgetLines();
         await opened(file.name, await file.text());
         return;
     }
@@ -318,10 +328,14 @@ const VERBS = {
     endings: () => searchAll(false),
     report,
 };
+// In one column what happens stands below the text.
+function comeToRight() {
+    if (matchMedia("(max-width:840px)").matches) document.querySelector(".right").scrollIntoView();
+}
 const verb = (name) =>
     guarded(async () => {
         await VERBS[name]();
-        if (matchMedia("(max-width:840px)").matches) document.querySelector(".right").scrollIntoView();
+        comeToRight();
         document.body.dataset.did = name;
     });
 
@@ -445,6 +459,7 @@ function wireTabs() {
         if (by) tab(TABS[(TABS.indexOf(doc.tab) + by + TABS.length) % TABS.length], true);
     });
     onSubmit("only", () => search($("onlystuck").checked));
+    on("rests", "change", () => view(session.at));
     on("searchagain", "click", () => searchAgain());
     onSubmit("moments", askForMoment);
     for (const name of ["focus", "pointerdown"]) on("lineof", name, offerLines);

@@ -47,20 +47,21 @@ function placesOf(machine, told) {
 // Processors, and threads with their scripts by lines. A text with a fault is read as far as it goes. Names of version 2 are left out: ids stand for
 // those of ids, places of the script for those of its instructions.
 function machineOf(text) {
-    const machine = { cpus: 0, bits: 64, threads: [], byId: new Map() };
+    const machine = { cpus: 0, bits: 64, isOfTwo: false, threads: [], byId: new Map() };
     const names = new Map();
     text.split("\n").forEach((line, place) => {
         const { label, words } = saidOf(line);
         const script = machine.threads.at(-1)?.script;
         if (label && script) script.labels.set(label, script.length);
         const [word] = words;
-        if (word === "l4") machine.bits = Number(words[2]) || 64;
+        if (word === "l4") Object.assign(machine, { bits: Number(words[2]) || 64, isOfTwo: words[3] === "2" });
         else if (word === "cpus") machine.cpus = Number(words[1]) || 0;
         else if (word === "name") names.set(words[1], names.get(words[2]) ?? words[2]);
         else if (word === "thread") addThreads(machine, words.map((it) => names.get(it) ?? it), place + 1);
         else if (word && script) script.push({ line: place + 1, words: words.map((it, at) => (at && names.get(it)) || it) });
     });
     for (const { script } of machine.threads) for (const { words } of script) words.push(...placed(script.labels, words.pop()));
+    for (const [name, id] of names) if (machine.byId.has(id)) machine.byId.get(id).name = name;
     return machine;
 }
 const placed = (labels, word) => [labels.has(word) ? `${labels.get(word)}` : word];
@@ -70,6 +71,13 @@ function saidOf(line) {
     const said = line.split(";")[0].trim();
     const [, label, rest] = /^(\S*):(?:\s+(.*))?$/.exec(said) ?? [undefined, undefined, said];
     return { label, words: rest ? rest.split(" ") : [] };
+}
+
+// The thread whose id a register has as its word. In scripts of version 2 alone a word can be one.
+function idOfWord({ bits, isOfTwo, byId }, word) {
+    const [number, version] = [BigInt(`0x${word}`), bits === 32 ? 14n : 32n];
+    const id = `${number >> version}.${number & ((1n << version) - 1n)}`;
+    return isOfTwo && byId.has(id) ? id : "";
 }
 
 // The threads of a line: one, or those of many numbers.
@@ -96,10 +104,11 @@ function periodOf(time) {
     return word === 1024 ? 0 : (word & 1023) * 2 ** ((word >> 10) & 31);
 }
 
-// Threads, who waits for whom, circles and deadlocks, and how it ended.
+// Threads, who waits for whom, circles and deadlocks, sends that are held, and how it ended.
 function reportOf(out) {
     const report = { threads: [], byId: new Map(), circles: [], deadlocks: [], ending: "" };
     const waits = new Map();
+    const held = new Map();
     for (const line of out.split("\n")) {
         const [word, ...rest] = line.split(" ");
         if (word === "thread") {
@@ -113,16 +122,28 @@ function reportOf(out) {
             report.circles.push(rest);
         } else if (word === "deadlock") {
             report.deadlocks.push(rest);
+        } else if (word === "held") {
+            held.set(rest[0].split("#")[0], rest[0]);
         } else if (word === "ending") {
             report.ending = rest[0];
         }
     }
     for (const thread of report.threads) {
         thread.wait = waits.get(thread.id);
+        thread.held = held.get(thread.id);
         thread.isDead = report.deadlocks.some((ids) => ids.includes(thread.id));
-        thread.isStuck = thread.isDead || (report.ending === "quiet" && isClosed(thread.wait));
+        thread.isCaught = thread.isDead || (report.ending === "quiet" && isClosed(thread.wait));
     }
+    letRest(report, []);
     return report;
+}
+
+// Who is caught is stuck, but for those that may rest where they are.
+function letRest(report, ids) {
+    for (const thread of report.threads) {
+        thread.isResting = thread.isCaught && ids.includes(thread.id);
+        thread.isStuck = thread.isForever || (thread.isCaught && !thread.isResting);
+    }
 }
 
 // A wait for one thread alone. Who waits for any message is a server that waits for its next client.
@@ -160,8 +181,8 @@ function headOf(line) {
 
 // The endings that a search printed, and its last line. `isEndless`: nothing ends at all. `forever`: the threads that may be stuck for ever,
 // whether or not the others come to rest; their numbers count on behind those of the endings. `isByWalk`: a walk at random came to an ending, and no
-// other was looked for.
-function endingsOf(out) {
+// other was looked for. Threads that may rest are not stuck.
+function endingsOf(out, rests = []) {
     const found = { endings: [], forever: [], isForeverCut: false, last: "", isEndless: false, isByWalk: false };
     for (const line of linesOf(out)) {
         const head = headOf(line);
@@ -174,7 +195,10 @@ function endingsOf(out) {
         else if (line.startsWith("found by a walk")) Object.assign(found, { isByWalk: true, last: line });
         else found.endings.at(-1)?.lines.push(line);
     }
-    for (const ending of found.endings) ending.report = reportOf(ending.lines.join("\n"));
+    for (const ending of found.endings) {
+        ending.report = reportOf(ending.lines.join("\n"));
+        letRest(ending.report, rests);
+    }
     return found;
 }
 

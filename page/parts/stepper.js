@@ -57,6 +57,7 @@ async function show(shown, at) {
         tellCommand(now.made, shown.list);
         return;
     }
+    for (const state of [now, before]) if (state) letRest(state.report, resting());
     const told = before ? now.told.slice(before.told.length) : [];
     showWhere(shown, now, told);
     $("rest").disabled = now.report.ending === "quiet";
@@ -70,6 +71,9 @@ async function show(shown, at) {
     await draw(shown, now.told.length, told.length, isOld);
 }
 
+// Who may rest where it is, as the tab Endings asks it.
+const resting = () => listOf($("rests").value);
+
 // Whether the steps are those of the text at the left. What is said of another is pale.
 function showStale(isOfText) {
     $("stale").hidden = isOfText;
@@ -82,7 +86,7 @@ function showVerdict(shown, now, lines) {
     const said = verdictOf(now, at === 0, shown.isCut && at === list.length ? at : 0);
     const withPlaces = said.lines.map((line) => (typeof line === "string" ? line : [line.text, ...placeIn(machine, line.id, lines.get(line.id))]));
     sayIn("verdict", { ...said, lines: withPlaces });
-    const picture = said.circle && circlePicture(said.circle);
+    const picture = said.circle && circlePicture(said.circle, (id) => now.report.byId.get(id).held);
     if (picture) {
         $("verdict").append(picture);
         $("verdict").classList.add("drawn");
@@ -190,10 +194,12 @@ const IN_ONE = ["sending", "receiving", "ordering"]; // states of a thread that 
 // Cards of threads, and what changed by the last item.
 function showCards(report, before, lines) {
     const only = $("filter").value;
+    const drawn = listOf($("columns").value);
     const cards = report.threads
         .map((thread) => ({ thread, was: before?.byId.get(thread.id) }))
         .filter(({ thread, was }) => {
             if (only === "changed") return hasChanged(thread, was);
+            if (only === "chart") return !drawn.length || drawn.includes(thread.id);
             return only === "waiting" ? thread.wait : only === "stuck" ? thread.isStuck : true;
         })
         .map(({ thread, was }) => card(thread, was, lines.get(thread.id)));
@@ -206,8 +212,8 @@ const waitKey = ({ wait }) => (wait ? `${wait.to} ${wait.phase}` : "");
 
 function card(thread, was, line) {
     const tone = thread.isStuck ? "stuck" : isOver(thread) ? "ended" : thread.wait ? "wait" : "ready";
-    const { cpu = "?", space = "?" } = session.machine.byId.get(thread.id) ?? {};
-    const place = el("small", { textContent: `cpu ${cpu}, space ${space}` });
+    const { cpu = "?", space = "?", name: called } = session.machine.byId.get(thread.id) ?? {};
+    const place = el("small", { textContent: `${called ? `${called}, ` : ""}cpu ${cpu}, space ${space}` });
     const name = line ? button(thread.id, () => editor.goTo(line)) : thread.id;
     if (line) name.title = `${IN_ONE.includes(thread.state) ? "in" : "it did"} line ${line} of the text`;
     const from = thread.from !== "nil" && el(was && was.from !== thread.from ? "mark" : "span", { textContent: `heard from ${thread.from}` });
@@ -215,7 +221,8 @@ function card(thread, was, line) {
         "article",
         { className: `card ${tone}${hasChanged(thread, was) ? " changed" : ""}` },
         el("header", {}, el("b", {}, name), place, el("span", { className: "pill", textContent: thread.state })),
-        thread.wait && el("p", { textContent: shortWait(thread.wait) }),
+        thread.wait && el("p", { textContent: `${shortWait(thread.wait)}${thread.isResting ? ", and may rest" : ""}` }),
+        thread.held && el("p", { className: "held", title: heldText(thread), textContent: `${thread.held} is held` }),
         thread.code !== "0" && el("p", { className: "error", textContent: `error ${thread.code}: ${CODES[thread.code] ?? ""}` }),
         from && el("p", {}, from, thread.actual !== thread.from ? `, by ${thread.actual}` : ""),
         registers(thread, was),
@@ -230,7 +237,8 @@ function registers(thread, was) {
     if (!shown.length) return null;
     const tag = BigInt(`0x${thread.registers[0] || "0"}`);
     const title = `MR0: label ${tag >> 16n}, ${counted(Number(tag & 63n), "untyped word")}`;
-    return el("div", { className: "registers", title }, ...shown.map(({ word, place, isNew }) => el(isNew ? "mark" : "span", { textContent: `MR${place} ${word}` })));
+    const said = ({ word, place }) => [`MR${place} ${word}`, ...(place ? [idOfWord(session.machine, word)] : [])].filter(Boolean).join(" = ");
+    return el("div", { className: "registers", title }, ...shown.map((register) => el(register.isNew ? "mark" : "span", { textContent: said(register) })));
 }
 
 // What one may do first, in the place of a chart.

@@ -133,7 +133,7 @@ async function runsExamples(browser, hand) {
         check(`${example}: its chart has its steps`, rows > 0 && last === all && (rows === all || all > 250), [rows, last, all]);
         await hand.verb("stuck");
         const found = await hand.run("return document.getElementById('found').textContent");
-        const words = ["endings", "m.l4", "--depth", "1000", "--states", "100000", "--stuck"];
+        const words = ["endings", "m.l4", "--depth", "1000", "--states", "100000", "--memory", "2048", "--stuck"];
         const said = printedBy(program, { words, files: { "m.l4": await hand.run("return editor.text") } }).out.toString();
         const wanted = / whole(,|$)/m.test(said) ? /All orders .* were searched/ : /Cut off: /;
         check(`${example}: whether its search was whole`, wanted.test(found), found);
@@ -202,6 +202,7 @@ async function findsStuckEnding(browser, hand) {
     await hand.click(".ending.bad");
     check("an ending opens step by step", /item 14 of 14/.test(await hand.text("where")), await hand.text("where"));
     check("who is stuck is told", /4 threads wait for ever/.test(await hand.text("verdict")), await hand.text("verdict"));
+    check("and who has the lock", /11\.1 waits for a message from 12\.1; it heard from 1\.1 last/.test(await hand.text("verdict")), await hand.text("verdict"));
     await hand.picture("locks-1200");
     const list = await hand.run("return session.list");
 
@@ -270,6 +271,91 @@ async function findsStuckForEver(browser, hand) {
     check("nor can it behind that", /1.1 can never go on/.test(await hand.text("verdict")), await hand.text("verdict"));
     await hand.click("#first");
     check("and at the beginning it could", !/can never go on/.test(await hand.text("verdict")), await hand.text("verdict"));
+}
+
+// Who may rest where it is does not count as stuck.
+async function letsOneRest(browser, hand) {
+    await hand.go(linkOf({ n: "lost.l4", t: lostReply }));
+    await hand.verb("stuck");
+    check("1.1 is stuck in one ending, and tells it twice", (await hand.count(".ending")) === 2, await hand.count(".ending"));
+    await hand.fill("rests", "1.1");
+    await hand.verb("stuck");
+    check("where it may rest nobody is", (await hand.count(".ending")) === 0, await hand.text("endinglist"));
+    check("and that it is not counted is told", /Not counted as stuck: 1\.1/.test(await hand.text("found")), await hand.text("found"));
+    await hand.verb("endings");
+    check("nor is it marked among all endings", (await hand.count(".ending")) === 2 && (await hand.count(".ending.bad")) === 0);
+    check("that it may rest is told there", /1\.1\s+receiving\s+waits for 9\.1\s+may rest/.test(await hand.text("endinglist")), await hand.text("endinglist"));
+    await hand.picture("rests-1200");
+    await hand.click(".ending:nth-of-type(2)");
+    const verdict = await hand.text("verdict");
+    check("and where it is opened", /nobody is stuck.*1\.1 waits for a message from 9\.1, and may rest there/s.test(verdict) && (await hand.count(".card.stuck")) === 0, verdict);
+    await hand.click("#link");
+    await browser.until("document.getElementById('status').textContent.startsWith('link copied')");
+    await hand.go(await hand.run("return location.hash"));
+    check("a link has who may rest", /1\.1 waits .* and may rest there/.test(await hand.text("verdict")), await hand.text("verdict"));
+    await hand.fill("rests", "", "change");
+    await hand.idle();
+    check("who may not rest is stuck", /1 thread waits for ever/.test(await hand.text("verdict")) && (await hand.count(".card.stuck")) === 1, await hand.text("verdict"));
+    await hand.fill("rests", "1.1,7.1");
+    await hand.verb("stuck");
+    check("who rests has to be a thread of the text", /threads item 2/.test(await hand.text("found")), await hand.text("found"));
+    await hand.fill("examples", "first.l4", "change");
+    await hand.idle();
+    check("another text has other threads", (await hand.run("return document.getElementById('rests').value")) === "");
+}
+
+// An answer of time zero that is held across processors, as its receiver is in a call: in sentences, on cards, in the picture, and in the chart.
+async function tellsWhatIsHeld(browser, hand) {
+    const isHeld = /9\.1#1 is held: a send of time zero that is not refused yet\. 1\.1 is in a call to another processor/;
+    await hand.go("#example=hostage.l4&schedule=1,1,0,0,1,0,0,0,0,1,1,1,1,0");
+    check("a send that is held is told", isHeld.test(await hand.text("verdict")), await hand.text("verdict"));
+    check("beside the deadlock that it is in", /Deadlock.*9\.1 waits for 1\.1 to take its message/s.test(await hand.text("verdict")), await hand.text("verdict"));
+    const arrows = await hand.run("return [...document.querySelectorAll('#verdict .circle .line')].map((it) => it.classList.contains('held'))");
+    check("its arrow is dashed, that of a send without limit is not", quoted(arrows) === "[false,true]", arrows);
+    const cards = await hand.run("return [...document.querySelectorAll('.card .held')].map((it) => it.closest('.card').querySelector('b').innerText + ': ' + it.innerText)");
+    check("its thread says so", quoted(cards) === quoted(["9.1: 9.1#1 is held"]), cards);
+    const below = await hand.run("return [...document.querySelectorAll('#chart .lines .state')].map((it) => it.textContent)");
+    check("and so does the chart, behind the deadlock", below.slice(-2).join("; ") === "deadlock 1.1 9.1; held 9.1#1", below);
+    await hand.picture("held-1200");
+    for (const isDark of [true, false]) {
+        await browser.dark(isDark);
+        await sleep(100);
+        const found = await pale(hand);
+        check(`each word of it stands out, ${isDark ? "dark" : "light"}`, found.length === 0, found);
+    }
+    await hand.slide(13);
+    check("it is told too where it may still be decided", isHeld.test(await hand.text("verdict")) && !/Deadlock/.test(await hand.text("verdict")), await hand.text("verdict"));
+    await hand.click("#first");
+    check("nothing is held at the beginning", !/is held/.test(await hand.text("verdict")) && (await hand.count(".card .held")) === 0);
+    await hand.verb("stuck");
+    const notes = await hand.run("return [...document.querySelectorAll('.ending .held')].map((it) => it.innerText)");
+    const wanted = /^9\.1#[12] is held: 1\.1 is in a call to another processor, and would accept it once that call is decided$/;
+    check("the card of an ending tells it", notes.length === 3 && notes.every((it) => wanted.test(it)), notes);
+    await hand.picture("held-endings-1200");
+    await hand.click(".ending.bad");
+    check("and so does its trace", isHeld.test(await hand.text("verdict")), await hand.text("verdict"));
+}
+
+// A text of version 2: what its lines say, the names of its threads, and ids in registers.
+async function readsVersionTwo(browser, hand) {
+    await hand.go("#example=lock-server.l4");
+    const lines = {
+        4: "lock stands for 9.1",
+        8: "waits for a message from anybody",
+        9: "goes on at line 11, if the label of MR0 is 1",
+        13: "MR32 becomes the id of whom it heard from last",
+        15: "sends to the thread whose id MR32 has, only if that can be at once, then waits for a message from anybody",
+        16: "goes on at line 12",
+        25: "thread 2.1, on processor 0, in address space 1, with the script of ann",
+    };
+    for (const [line, said] of Object.entries(lines)) {
+        await hand.run(`editor.goTo(${line});`);
+        check(`what line ${line} says`, (await hand.text("atline")) === `line ${line}: ${said}`, await hand.text("atline"));
+    }
+    await hand.verb("run");
+    const [small, registers] = await hand.run("const at = document.querySelector('.card'); return [at.querySelector('small').innerText, at.querySelector('.registers').innerText]");
+    check("a thread has its name", small === "lock, cpu 0, space 3", small);
+    check("a register that has an id says whose", /MR32 200000001 = 2\.1/.test(registers), registers);
 }
 
 // One ending is enough: where a search of a large text finds nothing, a walk at random comes to a deadlock at once.
@@ -552,6 +638,10 @@ async function showsManyThreads(browser, hand) {
     await hand.picture("threads64-1200");
     await hand.click("#concerned");
     check("only the threads of the step", (await hand.count("#chart .above .id")) <= 2, await hand.count("#chart .above .id"));
+    await hand.fill("filter", "chart", "change");
+    await hand.idle();
+    check("and their cards alone", (await hand.count(".card")) === (await hand.count("#chart .above .id")), await hand.count(".card"));
+    await hand.fill("filter", "all", "change");
     await hand.click("#concerned");
     check("all threads again", (await hand.count("#chart .above .id")) === 64);
     await hand.fill("columns", "9.9", "change");
@@ -652,6 +742,15 @@ async function looks(browser, hand) {
         await liesUnderItsText(hand, `${file}, narrow`);
         await hand.picture(`${file}-400`);
     }
+    await hand.click(".ending.bad");
+    const isInSight = await hand.run("const { top, bottom } = document.getElementById('verdict').getBoundingClientRect(); return top >= 0 && bottom <= innerHeight");
+    check("what is said of an ending that is opened is in sight", isInSight);
+    const cut = await hand.run("return [...document.querySelectorAll('#verdict ul')].filter((it) => it.scrollHeight > it.clientHeight + 1).length");
+    check("and whole", cut === 0, cut);
+    await hand.run("document.querySelector('.drawing details').open = true;");
+    const wide = await hand.run("return document.documentElement.scrollWidth");
+    check("the marks are no wider than a phone", wide <= 400, wide);
+    await hand.picture("locks-open-400");
     await browser.dark(true);
     await hand.go("#example=deadlock.l4&do=run");
     await hand.picture("dark-400");
@@ -672,6 +771,9 @@ const PARTS = [
     findsStuckEnding,
     findsLostReply,
     findsStuckForEver,
+    letsOneRest,
+    tellsWhatIsHeld,
+    readsVersionTwo,
     findsOneByWalk,
     asksForMoments,
     stepsByAny,

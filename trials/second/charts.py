@@ -31,15 +31,18 @@ class Row:
     arrow: tuple | None
     concerned: set
     said: str
+    # Lines of what it changes in threads.
+    changes: tuple = ()
 
 
 @dataclasses.dataclass(frozen=True)
 class Part:
-    """From one step to another, and the threads that are shown."""
+    """From one step to another, the threads that are shown, and whether it is told what changes in their registers."""
 
     first: int
     last: int
     chosen: tuple | None
+    registers: bool = False
 
     def shows(self, thread):
         return self.chosen is None or thread in self.chosen
@@ -65,6 +68,25 @@ def numbered_lines(text, machine):
     return scripts
 
 
+def parts(member):
+    """The registers of a thread, in the order of a report, and the threads whose sends wait at it."""
+    context = member.context
+    senders = " ".join(words.spelled(each.thread) for each in member.waiting)
+    return {
+        "ErrorCode": str(int(context.error)),
+        "from": words.spelled(context.last),
+        "ActualSender": words.spelled(context.actual),
+        **{f"MR{number}": f"0x{word:x}" for number, word in enumerate(context.registers)},
+        "senders": senders or "none",
+    }
+
+
+def changed(thread, before, behind):
+    """The line of a thread in which some part is not what it was."""
+    said = [f"{name} {word}" for name, word in behind.items() if before[name] != word]
+    return [f"      {words.spelled(thread)}: {', '.join(said)}"] if said else []
+
+
 class Charted:
     """A history, step by step."""
 
@@ -72,7 +94,7 @@ class Charted:
         self.machine, self.part = machine, part
         self.scripts = numbered_lines(text, machine)
         self.world = World(machine)
-        self.rows = [self.row(number, step) for number, step in enumerate(history[: part.last], 1)]
+        self.rows = [self.told(number, step) for number, step in enumerate(history[: part.last], 1)]
 
     def at(self, thread, place, whole):
         """The line of an instruction, and its text where that is told."""
@@ -80,6 +102,16 @@ class Charted:
             return ""
         number, line = self.scripts[thread][place]
         return f" (line {number}: {line})" if whole else f" (line {number})"
+
+    def watched(self):
+        """The parts of each thread of whose registers it is told what changes."""
+        return {each: parts(self.world.members[each]) for each in self.columns()} if self.part.registers else {}
+
+    def told(self, number, step):
+        before = self.watched()
+        row, behind = self.row(number, step), self.watched()
+        changes = tuple(line for each in behind for line in changed(each, before[each], behind[each]))
+        return dataclasses.replace(row, changes=changes)
 
     def row(self, number, step):
         verb, field, *others = step
@@ -164,6 +196,7 @@ def text(said, machine, history, part, width):
     for row in rows:
         said = row.said if len(row.said) <= line else row.said[: max(line - 1, 0)] + "~"
         out += row.number.rjust(number) + "".join(cell(columns, at, row, DELIVERY, wide) for at in range(len(columns))) + (f"  {said}" if line else "") + "\n"
+        out += "".join(each + "\n" for each in row.changes)
     for row in map(charted.standing, columns):
         cells = " " * number + "".join(cell(columns, at, row, OPEN, wide) for at in range(len(columns)))
         out += f"{cells if line else ''}  {row.said}\n"

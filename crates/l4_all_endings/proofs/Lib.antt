@@ -1,3 +1,4 @@
 pub mod Leading
 mod Stopping
 pub mod Telling
+mod Told

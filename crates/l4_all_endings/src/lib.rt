@@ -19,7 +19,7 @@ mod traces;
 mod tried;
 mod way;
 
-pub use search::{FoundEndings, all_endings};
+pub use search::{FoundEndings, Looked, all_endings, all_endings_telling};
 pub use traces::trace_of;
 pub use tried::{choice_by, reached_state};
 pub use way::Way;

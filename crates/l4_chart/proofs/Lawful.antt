@@ -1,5 +1,5 @@
 -- The rows of a whole history are its steps, and arrows are deliveries.
-use Rattle.std.proofs.Common.{◌≡◌, ℕ, ◌+◌, ◌≤◌, true, None, List, [], ◌∷◌, length, map, refl, ap, ◌∙◌, arith}
+use Rattle.std.proofs.Common.{◌≡◌, ℕ, ◌+◌, ◌≤◌, Bool, true, None, List, [], ◌∷◌, length, map, refl, ap, ◌∙◌, arith}
 use Rattle.std.specs.Prelude.{filter, nat_le}
 use Rattle.std.specs.List.{enumerate_from}
 use Rattle.std.proofs.lemmas.Bool.Decides.{nat_tests}
@@ -9,10 +9,10 @@ use Rattle.l4_model.specs.Machine.{Machine}
 use Rattle.l4_model.specs.World.{World, opening}
 use Rattle.l4_audit.proofs.Replaying.{take_whole}
 use Rattle.l4_json.specs.Steps.{behind}
-use Rattle.l4_chart.specs.Charts.{columns_of, concerns, is_in, until_last}
+use Rattle.l4_chart.specs.Charts.{columns_of, concerns, is_in, rows_with, until_last, watched}
 use Rattle.l4_chart.specs.Laws.{ArrowsAreDeliveries, IsDelivery, RowsAreSteps, StandingsAreReached, numbered_step}
 use Rattle.l4_chart.specs.Listings.{Listing}
-use Rattle.l4_chart.specs.Told.{Told, told_at, told_from, told_of}
+use Rattle.l4_chart.specs.Told.{Told, told_at, told_from}
 use Rattle.l4_chart.specs.Whole.{whole}
 use Rattle.l4_chart.proofs.Walking.{led_there}
 use Rattle.l4_chart.specs.Marks.{mark_of}
@@ -27,26 +27,28 @@ all_shown columns (Point t kind) = refl
 all_shown columns (Arrow sender receiver) = refl
 all_shown columns (Clock cpu clock) = refl
 
-abbrev all : (last : ℕ) → Part
-all last = record { first = 1; last = last; threads = None }
+abbrev all : (registers : Bool) → (last : ℕ) → Part
+all registers last = record { first = 1; last = last; threads = None; registers = registers }
 
 le_test : (a b : ℕ) → a ≤ b → nat_le a b ≡ true
 le_test a b h = grind (arith, nat_tests)
 
-shown : (columns : List Column) (last : ℕ) (row : Told) → 1 ≤ row.number → is_in (all last) columns row ≡ true
-shown columns last row from = rw (le_test 1 row.number from, all_shown columns (mark_of row.step)) refl
+shown : (registers : Bool) (columns : List Column) (last : ℕ) (row : Told) → 1 ≤ row.number → is_in (all registers last) columns row ≡ true
+shown registers columns last row from = rw (le_test 1 row.number from, all_shown columns (mark_of row.step)) refl
 
-whole_from : (m : Machine) (listing : Listing) (columns : List Column) (last k : ℕ) (w : World) (h : List Step) → 1 ≤ k →
-    map numbered_step (filter (is_in (all last) columns) (told_from m listing w k h)) ≡ enumerate_from k h
-whole_from m listing columns last k w [] from = refl
-whole_from m listing columns last k w (step ∷ h) from =
-    rw (shown columns last (told_at m listing w k step) from)
-    (ap (λ rows. (k, step) ∷ rows) (whole_from m listing columns last (k + 1) (behind m w step) h (omega arith)))
+whole_from : (m : Machine) (listing : Listing) (registers : Bool) (columns watched : List Column) (last k : ℕ) (w : World) (h : List Step) → 1 ≤ k →
+    map numbered_step (filter (is_in (all registers last) columns) (told_from m listing watched w k h)) ≡ enumerate_from k h
+whole_from m listing registers columns watched last k w [] from = refl
+whole_from m listing registers columns watched last k w (step ∷ h) from =
+    rw (shown registers columns last (told_at m listing watched w k step) from)
+    (ap (λ rows. (k, step) ∷ rows) (whole_from m listing registers columns watched last (k + 1) (behind m w step) h (omega arith)))
 
 pub rows_are_steps : RowsAreSteps
-rows_are_steps m listing h =
-    ap (λ (xs : List Step). map numbered_step (filter (is_in (whole h) (columns_of m None)) (told_of m listing xs))) (take_whole h (length h) refl)
-    ∙ whole_from m listing (columns_of m None) (length h) 1 (opening m) h (omega arith)
+rows_are_steps m listing registers h =
+    let columns = columns_of m None in
+    let part = whole registers h in
+    ap (λ (xs : List Step). map numbered_step (rows_with m listing part columns xs)) (take_whole h (length h) refl)
+    ∙ whole_from m listing registers columns (watched part columns) (length h) 1 (opening m) h (omega arith)
 
 pub standings_are_reached : StandingsAreReached
 standings_are_reached m part h w is = led_there m (opening m) (until_last part h) w is

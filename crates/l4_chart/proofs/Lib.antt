@@ -1,4 +1,5 @@
 pub mod Ended
+pub mod Joined
 pub mod Lawful
 pub mod Listed
 pub mod Repeated

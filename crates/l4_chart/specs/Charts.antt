@@ -1,6 +1,6 @@
 -- What a chart of a history is: threads under their processors, a row for each step, and behind the
 -- last of them what each thread is in.
-use Rattle.std.specs.Prelude.{ℕ, ◌==◌, Bool, true, false, ◌&&◌, ◌||◌, nat_le, if◌then◌else◌, Option, Some, None, is_none, List, filter, filter_map, flat_map, map, take}
+use Rattle.std.specs.Prelude.{ℕ, ◌==◌, Bool, true, false, ◌&&◌, ◌||◌, nat_le, if◌then◌else◌, Option, Some, None, is_none, List, [], filter, filter_map, flat_map, map, take}
 use Rattle.std.specs.List.{list_any, range_with_len}
 use Rattle.l4_model.specs.Words.{GlobalId, same_id}
 use Rattle.l4_model.specs.Machine.{Machine, Declaration}
@@ -64,13 +64,28 @@ until_last part h = take part.last h
 abbrev pub last_world : Machine → Part → List Step → World
 last_world m part h = world_behind m (opening m) (until_last part h)
 
--- The rows of a part of a history.
+-- The threads of whose registers it is told what changes.
+abbrev pub watched : Part → List Column → List Column
+watched part columns = if part.registers then columns else []
+
+-- The rows of a part of a history, with these columns and with those of its threads.
+
+abbrev pub rows_with : Machine → Listing → Part → List Column → List Step → List Told
+rows_with m listing part columns h =
+    filter (is_in part columns) (told_of m listing (watched part columns) h)
+
 abbrev pub rows_of : Machine → Listing → Part → List Step → List Told
 rows_of m listing part h =
-    filter (is_in part (columns_of m part.threads)) (told_of m listing (until_last part h))
+    rows_with m listing part (columns_of m part.threads) (until_last part h)
 
 abbrev pub row_of : Row → Told
-row_of r = record { number = r.number; step = seen r.step; to = r.to; at = r.at }
+row_of r = record {
+  number = r.number;
+  step = seen r.step;
+  to = r.to;
+  at = r.at;
+  changes = r.changes.items;
+}
 
 -- What stands in a chart: threads, rows, and what each thread is in behind the last of the steps, with
 -- the circles of threads that wait for each other there.

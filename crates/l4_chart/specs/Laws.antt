@@ -1,5 +1,5 @@
 -- What holds of every chart.
-use Rattle.std.specs.Prelude.{ℕ, ◌≡◌, ◌==◌, ◌&&◌, ◌↔◌, Option, Some, List, filter, map}
+use Rattle.std.specs.Prelude.{ℕ, ◌≡◌, Bool, ◌==◌, ◌&&◌, ◌↔◌, Option, Some, List, filter, map}
 use Rattle.std.specs.List.{enumerate_from}
 use Rattle.l4_core_model.specs.Runs.{IsMachine}
 use Rattle.l4_model.specs.Words.{GlobalId}
@@ -38,8 +38,8 @@ numbered_step row = (row.number, row.step)
 
 abbrev pub RowsAreSteps : Type 0
 RowsAreSteps =
-    (m : Machine) (listing : Listing) (h : List Step) →
-    map numbered_step (rows_of m listing (whole h) h) ≡ enumerate_from 1 h
+    (m : Machine) (listing : Listing) (registers : Bool) (h : List Step) →
+    map numbered_step (rows_of m listing (whole registers h) h) ≡ enumerate_from 1 h
 
 -- What threads are in is told of the world that the steps up to the last one lead to.
 abbrev pub StandingsAreReached : Type 0

@@ -1,4 +1,5 @@
 pub mod Cells
+pub mod Changes
 pub mod Charts
 pub mod Drawings
 pub mod Inner

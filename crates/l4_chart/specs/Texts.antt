@@ -38,11 +38,12 @@ cut g room line = if nat_le (length line) room then line
 abbrev pub line_text : Glyphs → (room : ℕ) → Told → List ℕ
 line_text g room row = if room == 0 then [] else codes "  " ++ cut g room (row_words row)
 
+-- Below a row stands what changes in registers. Its words are never cut off or left out.
 abbrev pub row_text : Glyphs → Layout → List Column → Told → List ℕ
 row_text g l columns row =
     right l.number (decimal row.number)
     ++ cells_text g l.cell (stroke_of columns (mark_of row.step)) (enumerate_from 0 columns)
-    ++ line_text g l.line row ++ codes "\n"
+    ++ line_text g l.line row ++ row.changes ++ codes "\n"
 
 -- What a thread is in has no number. Its words are never cut off or left out. They stand alone where
 -- those of rows are left out.

@@ -1,5 +1,5 @@
 -- The chart of a whole history as text.
-use Rattle.std.specs.Prelude.{ℕ, if◌then◌else◌, None, List, length}
+use Rattle.std.specs.Prelude.{ℕ, Bool, if◌then◌else◌, None, List, length}
 use Rattle.l4_model.specs.Machine.{Machine}
 use Rattle.l4_model.specs.Steps.{Step}
 use Rattle.l4_chart.specs.Charts.{chart_of}
@@ -14,9 +14,15 @@ abbrev pub glyphs_of : TextForm → Glyphs
 glyphs_of form = if form.is_ascii then ASCII else LINES
 
 -- All of a history, with all threads.
-abbrev pub whole : List Step → Part
-whole h = record { first = 1; last = length h; threads = None }
+abbrev pub whole : (registers : Bool) → List Step → Part
+whole registers h = record {
+  first = 1;
+  last = length h;
+  threads = None;
+  registers = registers;
+}
 
 abbrev pub whole_text : Machine → Listing → List Step → TextForm → List ℕ
 whole_text m listing h form =
-    text_of (glyphs_of form) form.width (chart_of m listing (whole h) h)
+    text_of (glyphs_of form) form.width
+    (chart_of m listing (whole form.has_registers h) h)

@@ -1,12 +1,13 @@
--- A part of a history: the steps from one number to another, counted from 1, and the threads that
--- are chosen, or all.
-use Rattle.std.specs.Prelude.{ℕ, ◌-◌, min, Option, Some, None, List}
+-- A part of a history: the steps from one number to another, counted from 1, the threads that are
+-- chosen, or all, and whether it is told what changes in their registers.
+use Rattle.std.specs.Prelude.{ℕ, ◌-◌, min, Bool, Option, Some, None, List}
 use Rattle.l4_model.specs.Words.{GlobalId}
 
 pub record Part : Type 0 where
   pub first : ℕ
   pub last : ℕ
   pub threads : Option (List GlobalId)
+  pub registers : Bool
 
 -- The steps of a part that stand before the first step that is not possible.
 abbrev pub until_refused : (refused : Option ℕ) → Part → Part

@@ -1,15 +1,15 @@
 //! A chart: what stands in it, and in which order.
-ghost use Rattle.std.specs.Prelude.{◌≡◌, ◌==◌, ◌≤◌, IfOk, OnOk, filter, length, map, take};
+ghost use Rattle.std.specs.Prelude.{◌≡◌, ◌==◌, ◌≤◌, IfOk, OnOk, length, map, take};
 ghost use Rattle.std.specs.List.{list_any};
 ghost use Rattle.l4_model.specs.History.{IsHistory};
 ghost use Rattle.l4_model.specs.World.{opening};
 ghost use Rattle.l4_types.specs.StepView.{seen};
 ghost use Rattle.l4_chart.specs.Charts.{chart_of, concerns, drawn_of, is_in, is_of_target, row_of};
-ghost use Rattle.l4_chart.specs.Charts.{until_last};
+ghost use Rattle.l4_chart.specs.Charts.{rows_with, until_last, watched};
 ghost use Rattle.l4_chart.specs.Laws.{ArrowsAreDeliveries, ColumnsAreThreads, RowsAreSteps};
 ghost use Rattle.l4_chart.specs.Laws.{StandingsAreReached};
 ghost use Rattle.l4_chart.specs.Marks.{mark_of};
-ghost use Rattle.l4_chart.specs.Told.{told_of, world_behind};
+ghost use Rattle.l4_chart.specs.Told.{world_behind};
 
 use crate::columns::{Column, columns_of};
 use crate::listing::{Instruction, Listing};
@@ -38,6 +38,9 @@ pub struct Row<'h, 't> {
     pub to: Option<ThreadId>,
     /// The instruction that a thread runs by it, if one does.
     pub at: Option<Instruction<'t>>,
+    /// What it changes in registers, where that is told: for each thread a line, which begins with
+    /// the end of the line above it.
+    pub changes: Vec<u8>,
 }
 
 impl Row<'_, '_> {
@@ -101,6 +104,13 @@ fn is_in(window: &Window<'_>, columns: &[Column], row: &Row<'_, '_>) -> bool
         && (concerns(window, columns, &row.mark()) || is_of_target(window, &row.step))
 }
 
+// The threads of whose registers it is told what changes.
+fn watched<'v>(window: &Window<'_>, columns: &'v [Column]) -> &'v [Column]
+    ensures { result.now ≡ watched window.now columns.now }
+{
+    if window.has_registers() { columns } else { &[] }
+}
+
 // The rows of the first `count` steps of a history, which the world takes.
 fn rows_of<'h, 't>(
     alloc: Global,
@@ -115,16 +125,18 @@ fn rows_of<'h, 't>(
     requires opening { world.old.world ≡ opening world.old.machine }
     requires possible { IsHistory world.old.machine (take count history.now.steps) }
     ensures rows { IfOk result (λ rows. map row_of rows.items ≡
-        filter (is_in window.now columns.now)
-        (told_of world.old.machine listing.now (take count history.now.steps))) }
+        rows_with world.old.machine listing.now window.now columns.now
+        (take count history.now.steps)) }
     ensures world { OnOk result (world.new ≡ record world.old {
       world = world_behind world.old.machine (opening world.old.machine)
           (take count history.now.steps);
     }) }
 {
+    let watched = watched(window, columns);
     let mut rows = Vec::new(alloc);
     for place in 0..count {
-        let row = told_at(listing, world, place + 1, history.step(place))?;
+        let step = history.step(place);
+        let row = told_at(alloc, listing, watched, world, place + 1, step)?;
         if is_in(window, columns, &row) {
             rows.push(row)?;
         }

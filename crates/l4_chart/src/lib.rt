@@ -8,6 +8,7 @@
 #![tactic(auto)]
 
 pub mod cells;
+mod changes;
 pub mod chart;
 pub mod columns;
 pub mod drawing;

@@ -45,15 +45,21 @@ fn push_participants(out: &mut String, columns: &[Column]) -> Result<(), AllocEr
     Ok(())
 }
 
-// Appends a line. A `#` in it is escaped, since it would begin a comment.
-fn push_line(out: &mut String, line: &str) -> Result<(), AllocError> {
-    for character in line.chars() {
-        if character == '#' {
-            out.push_str("#35;")?;
-        } else {
-            out.push(character)?;
+// Appends a text without the end of its last line. A `#` in it is escaped, since it would begin a
+// comment, and so are the ends of other lines.
+fn push_text(out: &mut String, text: &str) -> Result<(), AllocError> {
+    for character in text.chars() {
+        match character {
+            '#' => out.push_str("#35;")?,
+            '\n' => out.push_str("<br/>")?,
+            _ => out.push(character)?,
         }
     }
+    Ok(())
+}
+
+fn push_line(out: &mut String, line: &str) -> Result<(), AllocError> {
+    push_text(out, line)?;
     out.push('\n')
 }
 
@@ -79,6 +85,7 @@ fn push_row(out: &mut String, columns: &[Column], row: &Row<'_, '_>) -> Result<(
     let alloc = *out.allocator();
     let words = words_of(alloc, row)?;
     let line = String::from_utf8_lossy(alloc, words.as_slice())?;
+    let changes = String::from_utf8_lossy(alloc, row.changes.as_slice())?;
     match row.mark() {
         Mark::Point { thread, .. } => {
             out.push_str("  Note over ")?;
@@ -93,7 +100,8 @@ fn push_row(out: &mut String, columns: &[Column], row: &Row<'_, '_>) -> Result<(
         Mark::Clock { cpu, .. } => push_clock(out, columns, cpu)?,
     }
     out.push_str(": ")?;
-    push_line(out, line.as_str())?;
+    push_text(out, line.as_str())?;
+    push_line(out, changes.as_str())?;
     Ok(())
 }
 

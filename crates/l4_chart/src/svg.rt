@@ -231,8 +231,9 @@ fn shown(line: &[u8]) -> &[u8] {
     line.get(..SHOWN_CHARACTERS).unwrap_or(line)
 }
 
-// Appends a row: its mark, and its words, which are the title too. They have no character that needs
-// escaping: an instruction of a machine is words of letters, digits, `.` and `#`.
+// Appends a row: its mark, and its words, which are the title too, with what changes in registers.
+// They have no character that needs escaping: an instruction of a machine is words of letters,
+// digits, `.` and `#`.
 fn push_row(
     svg: &mut String,
     scene: &Scene,
@@ -243,6 +244,7 @@ fn push_row(
     let alloc = *svg.allocator();
     let words = words_of(alloc, row)?;
     let line = String::from_utf8_lossy(alloc, words.as_slice())?;
+    let changes = String::from_utf8_lossy(alloc, row.changes.as_slice())?;
     let short = String::from_utf8_lossy(alloc, shown(words.as_slice()))?;
     let stroke = stroke_of(columns, &row.mark());
     let class = class_of_row(&stroke);
@@ -254,7 +256,7 @@ fn push_row(
     let edge = LEFT - 16;
     write!(
         svg,
-        "<g class=\"{class}\"><title>{line}</title><rect class=\"hit\" y=\"{top}\" \
+        "<g class=\"{class}\"><title>{line}{changes}</title><rect class=\"hit\" y=\"{top}\" \
          width=\"{width}\" height=\"{ROW}\"/>\
          <text class=\"number\" x=\"{edge}\" y=\"{base}\">{number}</text>"
     )?;
@@ -357,8 +359,8 @@ pub(crate) fn push_rows(
     )
 }
 
-/// A chart as a picture, an SVG file that stands alone. Each mark has the words of its row as title.
-/// The picture is light or dark as the screen is.
+/// A chart as a picture, an SVG file that stands alone. Each mark has the words of its row as title,
+/// and what changes in registers. The picture is light or dark as the screen is.
 pub fn svg_of(alloc: Global, chart: &Chart<'_, '_>) -> Result<String, NoMemory> {
     let scene = Scene::of(chart);
     let width = scene.width();

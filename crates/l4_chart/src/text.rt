@@ -90,6 +90,7 @@ fn push_row(
     push_right_number(out, layout.number, row.number as u64)?;
     push_cells(out, glyphs, layout.cell, &stroke, columns)?;
     push_line(out, glyphs, layout.line, row)?;
+    out.extend_from_slice(row.changes.as_slice())?;
     push_text(out, "\n")
 }
 
@@ -226,7 +227,8 @@ fn push_heading(
 /// Draws a chart as text on a terminal of `width` columns: two lines of heading, a line for each
 /// row and for what each thread is in, and the lines of circles. If the threads take more columns
 /// than there are, lines are longer, and the words of rows are left out; those of what threads are
-/// in stand alone. Words of rows that do not fit are cut off.
+/// in stand alone. Words of rows that do not fit are cut off. What changes in registers stands
+/// below its row.
 pub fn text_of(
     alloc: Global,
     chart: &Chart<'_, '_>,

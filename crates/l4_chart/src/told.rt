@@ -1,4 +1,5 @@
-//! What is told of a step beside its line: where its send goes to, and the instruction that it runs.
+//! What is told of a step beside its line: where its send goes to, the instruction that it runs,
+//! and what it changes in registers.
 ghost use Rattle.std.specs.Prelude.{◌≡◌, OnOk, IfOk, is_some, true};
 ghost use Rattle.l4_model.specs.Steps.{next};
 ghost use Rattle.l4_model.specs.World.{World as ModelWorld};
@@ -8,13 +9,16 @@ ghost use Rattle.l4_json.specs.Steps.{behind, destination, runner};
 ghost use Rattle.l4_chart.specs.Charts.{row_of};
 ghost use Rattle.l4_chart.specs.Told.{known_before, step_destination, step_instruction, told_at};
 
+use crate::changes::{all_held, changes_since};
 use crate::chart::Row;
+use crate::columns::Column;
 use crate::listing::{Instruction, Listing};
 use l4_audit::world::World;
 use l4_types::errors::NoMemory;
 use l4_types::ids::{GlobalId, ThreadId};
 use l4_types::step_ref::StepRef;
 use l4_types::steps::Name;
+use std::alloc::Global;
 
 // Where an undecided send goes to.
 fn destination(world: &World<'_>, name: Name) -> Option<ThreadId>
@@ -92,29 +96,35 @@ fn take(world: &mut World<'_>, step: &StepRef<'_>) -> Result<(), NoMemory>
     }
 }
 
-/// The row of a step that is possible, which is taken.
+/// The row of a step that is possible, which is taken. What changes is told of the threads that are
+/// watched.
 pub(crate) fn told_at<'h, 't>(
+    alloc: Global,
     listing: &Listing<'t>,
+    watched: &[Column],
     world: &mut World<'_>,
     number: usize,
     step: StepRef<'h>,
 ) -> Result<Row<'h, 't>, NoMemory>
     requires placed { IsPlaced world.old }
     requires possible { is_some (next world.old.machine world.old.world (seen step)) ≡ true }
-    ensures told { IfOk result (λ row. row_of row ≡
-        told_at world.old.machine listing.now world.old.world number (seen step.entry)) }
+    ensures told { IfOk result (λ row. row_of row ≡ told_at world.old.machine listing.now
+        watched.now world.old.world number (seen step.entry)) }
     ensures taken { OnOk result (world.new ≡ record world.old {
       world = behind world.old.machine world.old.world (seen step.entry);
     }) }
 {
     let at = step_instruction(listing, world, &step);
     let known = known_before(world, &step);
+    let held = all_held(alloc, world, watched)?;
     take(world, &step)?;
     let to = step_destination(world, known, &step);
+    let changes = changes_since(alloc, world, held.as_slice())?;
     Ok(Row {
         number,
         step,
         to,
         at,
+        changes,
     })
 }

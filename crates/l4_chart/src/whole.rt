@@ -20,6 +20,8 @@ pub struct TextForm {
     pub is_ascii: bool,
     /// The width of the terminal in columns.
     pub width: usize,
+    /// Whether it is told what each step changes in registers.
+    pub has_registers: bool,
 }
 
 fn glyphs_of(form: TextForm) -> &'static Glyphs
@@ -43,7 +45,7 @@ pub fn whole_text(
     ensures { IfOk result (λ text.
         text.items ≡ whole_text machine.now listing.now history.now.steps form) }
 {
-    let window = Window::new(1, history.len(), None);
+    let window = Window::new(1, history.len(), None, form.has_registers);
     let chart = Chart::new(alloc, machine, listing, history, &window)?;
     text_of(alloc, &chart, glyphs_of(form), form.width)
 }

@@ -16,12 +16,14 @@ fn has_thread(threads: &[GlobalId], thread: GlobalId) -> bool
     threads.iter().any(|chosen| *chosen == thread)
 }
 
-/// The steps from one number to another, both of them shown, and the threads that are chosen.
+/// The steps from one number to another, both of them shown, the threads that are chosen, and
+/// whether what changes in their registers is told.
 #[derive(Debug, Drop)]
 pub struct Window<'a> {
     first: usize,
     last: usize,
     threads: Option<&'a [GlobalId]>,
+    registers: bool,
 }
 
 impl<'a> Model for Window<'a> {
@@ -34,22 +36,31 @@ impl<'a> Model for Window<'a> {
       first = w.first;
       last = w.last;
       threads = option_copied w.threads;
+      registers = w.registers;
     } };
 }
 
 impl<'a> Window<'a> {
     /// The steps from one number to another, counted from 1, of these threads, or of all.
-    pub fn new(first: usize, last: usize, threads: Option<&'a [GlobalId]>) -> Window<'a>
+    /// `registers`: whether it is told what they change in registers.
+    pub fn new(
+        first: usize,
+        last: usize,
+        threads: Option<&'a [GlobalId]>,
+        registers: bool,
+    ) -> Window<'a>
         ensures { result ≡ record {
           first = first;
           last = last;
           threads = option_copied threads.entry;
+          registers = registers;
         } }
     {
         Window {
             first,
             last,
             threads,
+            registers,
         }
     }
 
@@ -65,6 +76,7 @@ impl<'a> Window<'a> {
             first: self.first,
             last,
             threads: self.threads,
+            registers: self.registers,
         }
     }
 
@@ -97,5 +109,11 @@ impl<'a> Window<'a> {
         ensures { result ≡ is_none self.now.threads }
     {
         self.threads.is_none()
+    }
+    /// Whether it is told what the steps change in registers.
+    pub fn has_registers(&self) -> bool
+        ensures { result ≡ self.now.registers }
+    {
+        self.registers
     }
 }

@@ -21,6 +21,8 @@ use Rattle.l4_commands.specs.declared.job.AuditJob.{AuditJob}
 use Rattle.l4_commands.specs.declared.job.ChartForm.{ChartForm}
 use Rattle.l4_commands.specs.declared.job.ChartForm.TheVariants.{Lines, Ascii, Svg, Html, Mermaid}
 use Rattle.l4_commands.specs.declared.job.ChartJob.{ChartJob}
+use Rattle.l4_commands.specs.declared.job.Colours.{Colours}
+use Rattle.l4_commands.specs.declared.job.Colours.TheVariants.{Auto, Always, Never}
 use Rattle.l4_commands.specs.declared.job.EndingsJob.{EndingsJob}
 use Rattle.l4_commands.specs.declared.job.Extras.{Extras}
 use Rattle.l4_commands.specs.declared.job.Job.{Job}
@@ -36,7 +38,7 @@ use Rattle.l4_commands.specs.declared.job.Scheduler.TheVariants.{Any, Placed}
 use Rattle.l4_commands.specs.declared.job.TextChart.{TextChart}
 use Rattle.l4_commands.specs.declared.job.Wanted.{Wanted}
 use Rattle.l4_commands.specs.declared.job.Wanted.TheVariants.{Whatever, NoEnding, AnEnding}
-use Rattle.l4_commands.specs.declared.texts.TheConstants.{INPUT_TWICE, SCHEDULE_OF_RUN, RECORD_AND_EXPECT, TURNS_ALONE, NEXT_BESIDE, OVER_ITS_FILE, TWO_FORMS, UNKNOWN_LINE, DELETED_LINE, NUMBER_LINE, NONE_AND_SOME, ALWAYS_BESIDE, TRACE_BESIDE, CHART_AND_JSON, CHART_BESIDE}
+use Rattle.l4_commands.specs.declared.texts.TheConstants.{INPUT_TWICE, SCHEDULE_OF_RUN, RECORD_AND_EXPECT, TURNS_ALONE, NEXT_BESIDE, OVER_ITS_FILE, TWO_FORMS, UNKNOWN_LINE, DELETED_LINE, NUMBER_LINE, NONE_AND_SOME, RESTS_ALONE, ALWAYS_BESIDE, TRACE_BESIDE, CHART_AND_JSON, CHART_BESIDE, COLOUR_WORDS, REGISTERS_ALONE}
 use Rattle.l4_commands.specs.declared.words.WordsFault.{WordsFault}
 use Rattle.l4_commands.specs.declared.words.WordsFault.TheVariants.{Help, Usage, NoMemory}
 
@@ -71,14 +73,17 @@ extras_in rows = record {
 
 -- The chart that is drawn of a run, a replay or an ending is for a terminal that shows lines, until the
 -- output is known.
-abbrev pub text_chart : (asked : Bool) → Option TextChart
-text_chart true = Some (record { shows_lines = true; width = 0 })
-text_chart false = None
+abbrev pub text_chart : (asked registers : Bool) → Option TextChart
+text_chart true registers = Some (record { shows_lines = true; width = 0; registers = registers })
+text_chart false registers = None
+
+abbrev pub chart_in : List Row → Option TextChart
+chart_in rows = text_chart (has_flag (codes "chart") rows) (has_flag (codes "registers") rows)
 
 abbrev pub printed_in : List Row → Printed
 printed_in rows = record {
   report = has_flag (codes "report") rows;
-  chart = text_chart (has_flag (codes "chart") rows);
+  chart = chart_in rows;
   extras = extras_in rows;
   json = has_flag (codes "json") rows;
 }
@@ -159,6 +164,7 @@ pub record IsChartOf (rows : List Row) (chart : ChartJob) : Type 0 where
   pub threads : option_copied chart.threads ≡ first_of (codes "threads") rows
   pub form : Some chart.form ≡ form_of (flags_in rows)
   pub width : Some chart.width ≡ number_in (codes "width") rows
+  pub registers : chart.registers ≡ has_flag (codes "registers") rows
 
 -- Under whom threads run, how many endings should exist, and the ending whose trace is asked for.
 
@@ -187,12 +193,13 @@ pub record IsSearchOf (rows : List Row) (search : EndingsJob) : Type 0 where
   pub states : Some search.states ≡ number_in (codes "states") rows
   pub memory : Some search.memory ≡ number_in (codes "memory") rows
   pub stuck : search.stuck ≡ has_flag (codes "stuck") rows
+  pub rests : option_copied search.rests ≡ first_of (codes "rests") rows
   pub with_line : option_copied search.with_line ≡ first_of (codes "with") rows
   pub never : option_copied search.never ≡ first_of (codes "never") rows
   pub wanted :
       Some search.wanted ≡ wanted_by (has_flag (codes "none") rows) (has_flag (codes "some") rows)
   pub always : option_copied search.always ≡ first_of (codes "always") rows
-  pub chart : search.chart ≡ text_chart (has_flag (codes "chart") rows)
+  pub chart : search.chart ≡ chart_in rows
   pub waits : search.waits ≡ has_flag (codes "waits") rows
   pub expected : option_copied search.expected ≡ first_of (codes "expect") rows
   pub trace : Some search.trace ≡ traced_in rows
@@ -222,6 +229,27 @@ IsJobIn found job = IsSomeAnd found (λ p. IsJobOf p.0 p.1 job)
 -- The job that the words ask for, as clap reads them.
 abbrev pub IsAsked : (words : List Text) → Job → Type 0
 IsAsked words job = IsJobIn (subcommand_of l4run_app words) job
+
+-- Where lines are painted, by the word of `--color`. None by any other word.
+
+abbrev pub colours_of : (word : Text) → Option Colours
+colours_of word =
+    if bytes_eq word (codes "auto") then Some Auto
+    else (if bytes_eq word (codes "always") then Some Always
+    else (if bytes_eq word (codes "never") then Some Never else None))
+
+abbrev pub colours_by : (word : Option Text) → Option Colours
+colours_by None = Some Auto
+colours_by (Some word) = colours_of word
+
+abbrev pub colours_in : List Row → Option Colours
+colours_in rows = colours_by (first_of (codes "color") rows)
+
+abbrev pub colours_found : Option (Text × List Row) → Option Colours
+colours_found found = option_and_then (λ p. colours_in p.1) found
+
+abbrev pub colours_asked : (words : List Text) → Option Colours
+colours_asked words = colours_found (subcommand_of l4run_app words)
 
 -- What is told of words that clap accepts, though they ask for no job.
 
@@ -253,14 +281,21 @@ record_told rows =
     else (if has_value (codes "record") rows && has_value (codes "expect") rows
     then Some RECORD_AND_EXPECT.now else None)
 
--- A chart is drawn in place of a report, and its lines are no objects.
+-- A chart is drawn in place of a report, and its lines are no objects. What changes in registers is
+-- told in a chart.
 abbrev pub is_chart_beside : List Row → Bool
 is_chart_beside rows =
     has_flag (codes "chart") rows
     && (has_flag (codes "report") rows || has_flag (codes "json") rows)
 
+abbrev pub has_registers_alone : List Row → Bool
+has_registers_alone rows =
+    has_flag (codes "registers") rows && not (has_flag (codes "chart") rows)
+
 abbrev pub drawn_told : List Row → Option Text
-drawn_told rows = if is_chart_beside rows then Some CHART_BESIDE.now else record_told rows
+drawn_told rows =
+    if is_chart_beside rows then Some CHART_BESIDE.now
+    else (if has_registers_alone rows then Some REGISTERS_ALONE.now else record_told rows)
 
 -- Of a run whose arguments exclude each other, or that has a schedule, which it does not take.
 abbrev pub run_told : List Row → Option Text
@@ -301,8 +336,11 @@ abbrev pub lines_told : List Row → Option Text
 lines_told rows =
     or_else (line_told (first_of (codes "with") rows)) (line_told (first_of (codes "never") rows))
 
--- `--none` and `--some` exclude each other. `--trace` is printed in place of what the others print
--- or judge, and a placed search has no trace.
+-- Threads may rest where `--stuck` would ask for them. `--none` and `--some` exclude each other.
+-- `--trace` is printed in place of what the others print or judge, and a placed search has no trace.
+
+abbrev pub has_rests_alone : List Row → Bool
+has_rests_alone rows = has_value (codes "rests") rows && not (has_flag (codes "stuck") rows)
 
 abbrev pub is_none_and_some : List Row → Bool
 is_none_and_some rows = has_flag (codes "none") rows && has_flag (codes "some") rows
@@ -332,9 +370,11 @@ abbrev pub endings_told : List Row → Option Text
 endings_told rows =
     or_else (lines_told rows)
     (if is_always_beside rows then Some ALWAYS_BESIDE.now
+    else (if has_rests_alone rows then Some RESTS_ALONE.now
     else (if is_none_and_some rows then Some NONE_AND_SOME.now
     else (if is_trace_beside rows then Some TRACE_BESIDE.now
-    else (if is_chart_and_json rows then Some CHART_AND_JSON.now else None))))
+    else (if is_chart_and_json rows then Some CHART_AND_JSON.now
+    else (if has_registers_alone rows then Some REGISTERS_ALONE.now else None))))))
 
 -- Whether the standard input, which can be read only once, is named more than once. A job reads a
 -- machine text, a trace or a schedule, and expectations.
@@ -360,11 +400,12 @@ names_input_twice rows =
 abbrev pub told_in : Text × List Row → Option Text
 told_in p =
     if names_input_twice p.1 then Some INPUT_TWICE.now
+    else (if is_none (colours_in p.1) then Some COLOUR_WORDS.now
     else (if bytes_eq p.0 (codes "run") then run_told p.1
     else (if bytes_eq p.0 (codes "replay") then replay_told p.1
     else (if bytes_eq p.0 (codes "chart") then chart_told p.1
     else (if bytes_eq p.0 (codes "endings") then endings_told p.1
-    else None))))
+    else None)))))
 
 abbrev pub excluded_by : Option Text → Kinds
 excluded_by None = []

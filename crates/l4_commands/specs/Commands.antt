@@ -38,9 +38,11 @@ run_rules =
     ∷ number (codes "turns") (codes "100000" ∷ [])
     ∷ flag (codes "report")
     ∷ flag (codes "chart")
+    ∷ flag (codes "registers")
     ∷ flag (codes "waits")
     ∷ flag (codes "counts")
     ∷ flag (codes "json")
+    ∷ value (codes "color")
     ∷ value (codes "record")
     ∷ value (codes "expect")
     ∷ value (codes "schedule")
@@ -55,9 +57,11 @@ replay_rules =
     ∷ flag (codes "next")
     ∷ flag (codes "report")
     ∷ flag (codes "chart")
+    ∷ flag (codes "registers")
     ∷ flag (codes "waits")
     ∷ flag (codes "counts")
     ∷ flag (codes "json")
+    ∷ value (codes "color")
     ∷ value (codes "record")
     ∷ value (codes "expect")
     ∷ []
@@ -71,6 +75,7 @@ audit_rules =
     ∷ flag (codes "waits")
     ∷ flag (codes "counts")
     ∷ flag (codes "json")
+    ∷ value (codes "color")
     ∷ []
 
 abbrev pub chart_rules : List Rule
@@ -80,11 +85,13 @@ chart_rules =
     ∷ number (codes "from") (codes "1" ∷ [])
     ∷ number (codes "to") (codes "18446744073709551615" ∷ [])
     ∷ value (codes "threads")
+    ∷ flag (codes "registers")
     ∷ number (codes "width") (codes "0" ∷ [])
     ∷ flag (codes "ascii")
     ∷ flag (codes "svg")
     ∷ flag (codes "html")
     ∷ flag (codes "mermaid")
+    ∷ value (codes "color")
     ∷ []
 
 abbrev pub endings_rules : List Rule
@@ -96,20 +103,23 @@ endings_rules =
     ∷ value (codes "with")
     ∷ value (codes "never")
     ∷ flag (codes "stuck")
+    ∷ value (codes "rests")
     ∷ flag (codes "none")
     ∷ flag (codes "some")
     ∷ value (codes "always")
     ∷ flag (codes "chart")
+    ∷ flag (codes "registers")
     ∷ flag (codes "waits")
     ∷ value (codes "expect")
     ∷ number (codes "trace") []
     ∷ flag (codes "placed")
     ∷ flag (codes "json")
+    ∷ value (codes "color")
     ∷ []
 
 abbrev pub lint_rules : List Rule
 lint_rules =
-    place (codes "file") ∷ value (codes "schedule") ∷ flag (codes "json") ∷ []
+    place (codes "file") ∷ value (codes "schedule") ∷ flag (codes "json") ∷ value (codes "color") ∷ []
 
 abbrev pub command : (name : Text) → List Rule → App
 command name rules = fold with_rule (new_app name) rules

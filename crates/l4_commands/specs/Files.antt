@@ -55,6 +55,23 @@ expected_of _ = None
 abbrev pub shown_name : LintJob → Option (List ℕ)
 shown_name lint = if lint.is_named then Some lint.file.now else None
 
+-- Whether the lines of a job may be painted. Objects, pictures, pages and diagrams are for programs,
+-- and the words of a lint are those of its machine text.
+
+abbrev pub is_text : ChartForm → Bool
+is_text Lines = true
+is_text Ascii = true
+is_text _ = false
+
+abbrev pub may_be_painted : Job → Bool
+may_be_painted (Run run) = not run.printed.json
+may_be_painted (Replay replay) = not replay.printed.json
+may_be_painted (Next next) = not next.json
+may_be_painted (Audit audit) = not audit.json
+may_be_painted (Chart chart) = is_text chart.form
+may_be_painted (Endings search) = not search.json
+may_be_painted (Lint lint) = false
+
 -- The job without a record, and of which nothing is expected.
 abbrev pub alone : Job → Job
 alone (Run run) = Run (record run { record_to = None; expected = None })
@@ -74,7 +91,7 @@ width_on columns width = if width == 0 then columns else width
 abbrev pub chart_on : (shows_lines : Bool) → (columns : ℕ) → Option TextChart → Option TextChart
 chart_on shows_lines columns None = None
 chart_on shows_lines columns (Some chart) =
-    Some (record { shows_lines = shows_lines; width = columns })
+    Some (record chart { shows_lines = shows_lines; width = columns })
 
 abbrev pub printed_on : (shows_lines : Bool) → (columns : ℕ) → Printed → Printed
 printed_on shows_lines columns p =

@@ -5,9 +5,12 @@ ghost use Rattle.std.specs.Option.{option_copied};
 ghost use Rattle.clap.specs.Words.{first_of, subcommand_rows_of};
 ghost use Rattle.l4_commands.specs.Asked.{IsAuditOf, IsChartOf, IsJobIn, IsLintOf, IsNextOf};
 ghost use Rattle.l4_commands.specs.Asked.{IsReplayOf, IsRunOf, IsSearchOf, are_two, chart_told};
+ghost use Rattle.l4_commands.specs.Asked.{colours_found, colours_in, colours_of};
 ghost use Rattle.l4_commands.specs.Asked.{endings_told, extras_in, flags_in, form_of, has_flag};
-ghost use Rattle.l4_commands.specs.Asked.{has_turns_alone, has_value, is_input_of, is_next_beside};
-ghost use Rattle.l4_commands.specs.Asked.{drawn_told, is_always_beside, is_chart_beside};
+ghost use Rattle.l4_commands.specs.Asked.{has_rests_alone, has_turns_alone, has_value, is_input_of};
+ghost use Rattle.l4_commands.specs.Asked.{is_next_beside};
+ghost use Rattle.l4_commands.specs.Asked.{chart_in, drawn_told, has_registers_alone};
+ghost use Rattle.l4_commands.specs.Asked.{is_always_beside, is_chart_beside};
 ghost use Rattle.l4_commands.specs.Asked.{is_chart_and_json, is_none_and_some, is_over_file, is_same};
 ghost use Rattle.l4_commands.specs.Asked.{is_trace_beside, judged_in, line_told, lines_told};
 ghost use Rattle.l4_commands.specs.Asked.{lists_input, names_input, names_input_twice, number_in};
@@ -16,12 +19,13 @@ ghost use Rattle.l4_commands.specs.Asked.{run_told, scheduler_by, text_chart, to
 ghost use Rattle.l4_commands.specs.Asked.{wanted_by};
 
 use crate::job::{
-    AuditJob, ChartForm, ChartJob, EndingsJob, Extras, INPUT, Job, Judged, LintJob, NextJob,
-    Printed, ReplayJob, RunJob, Scheduler, TextChart, Wanted, list_name,
+    AuditJob, ChartForm, ChartJob, Colours, EndingsJob, Extras, INPUT, Job, Judged, LintJob,
+    NextJob, Printed, ReplayJob, RunJob, Scheduler, TextChart, Wanted, list_name,
 };
 use crate::texts::{
-    ALWAYS_BESIDE, CHART_AND_JSON, CHART_BESIDE, INPUT_TWICE, NEXT_BESIDE, NONE_AND_SOME,
-    OVER_ITS_FILE, RECORD_AND_EXPECT, SCHEDULE_OF_RUN, TRACE_BESIDE, TURNS_ALONE, TWO_FORMS,
+    ALWAYS_BESIDE, CHART_AND_JSON, CHART_BESIDE, COLOUR_WORDS, INPUT_TWICE, NEXT_BESIDE,
+    NONE_AND_SOME, OVER_ITS_FILE, RECORD_AND_EXPECT, REGISTERS_ALONE, RESTS_ALONE, SCHEDULE_OF_RUN,
+    TRACE_BESIDE, TURNS_ALONE, TWO_FORMS,
 };
 use clap::ArgMatches;
 use l4_lines::lines::{LineFault, line_fault};
@@ -69,23 +73,31 @@ fn extras(matches: &ArgMatches<'_>) -> Extras
 }
 
 // The chart that is drawn, for a terminal that shows lines.
-fn text_chart(asked: bool) -> Option<TextChart>
-    ensures { result ≡ text_chart asked }
+fn text_chart(asked: bool, registers: bool) -> Option<TextChart>
+    ensures { result ≡ text_chart asked registers }
 {
     asked.then_some(TextChart {
         shows_lines: true,
         width: 0,
+        registers,
     })
+}
+
+// The chart that these words ask for.
+fn asked_chart(matches: &ArgMatches<'_>) -> Option<TextChart>
+    ensures { result ≡ chart_in (rows_in matches.now) }
+{
+    text_chart(has_flag(matches, "chart"), has_flag(matches, "registers"))
 }
 
 // What `run` and `replay` print.
 fn printed(matches: &ArgMatches<'_>) -> Printed
     ensures { result ≡ printed_in (rows_in matches.now) }
 {
-    let is_drawn = has_flag(matches, "chart");
+    let chart = asked_chart(matches);
     Printed {
         report: has_flag(matches, "report"),
-        chart: text_chart(is_drawn),
+        chart,
         extras: extras(matches),
         json: has_flag(matches, "json"),
     }
@@ -213,6 +225,7 @@ fn chart_job<'a>(matches: &ArgMatches<'a>) -> Option<ChartJob<'a>>
         threads: text(matches, "threads"),
         form: form_of(&given_flags(matches))?,
         width: number(matches, "width")?,
+        registers: has_flag(matches, "registers"),
     })
 }
 
@@ -259,11 +272,12 @@ fn endings_job<'a>(matches: &ArgMatches<'a>) -> Option<EndingsJob<'a>>
         states: number(matches, "states")?,
         memory: number(matches, "memory")?,
         stuck: has_flag(matches, "stuck"),
+        rests: text(matches, "rests"),
         with_line: text(matches, "with"),
         never: text(matches, "never"),
         wanted: wanted_by(has_flag(matches, "none"), has_flag(matches, "some"))?,
         always: text(matches, "always"),
-        chart: text_chart(has_flag(matches, "chart")),
+        chart: asked_chart(matches),
         waits: has_flag(matches, "waits"),
         expected: text(matches, "expect"),
         trace: trace_number(matches)?,
@@ -297,6 +311,36 @@ pub fn job_of_matches<'a>(matches: &ArgMatches<'a>) -> Option<Job<'a>>
         "lint" => Some(Job::Lint(lint_job(matches)?)),
         _ => None,
     }
+}
+
+// Where lines are painted, by the word of `--color`. None by any other word.
+fn colours_of(word: &str) -> Option<Colours>
+    ensures { result ≡ colours_of word.now }
+{
+    match word {
+        "auto" => Some(Colours::Auto),
+        "always" => Some(Colours::Always),
+        "never" => Some(Colours::Never),
+        _ => None,
+    }
+}
+
+// Where lines are painted. None where `--color` has a word that does not say so.
+fn colours(matches: &ArgMatches<'_>) -> Option<Colours>
+    ensures { result ≡ colours_in (rows_in matches.now) }
+{
+    match text(matches, "color") {
+        Some(word) => colours_of(word),
+        None => Some(Colours::Auto),
+    }
+}
+
+// Where the lines of the command that was named are painted.
+pub fn colours_of_matches(matches: &ArgMatches<'_>) -> Option<Colours>
+    ensures { result ≡ colours_found (subcommand_rows_of matches.now) }
+{
+    let (_, command) = matches.subcommand()?;
+    colours(command)
 }
 
 /// Why words that `clap` accepts ask for no job.
@@ -346,12 +390,22 @@ fn is_chart_beside(matches: &ArgMatches<'_>) -> bool
     has_flag(matches, "chart") && (has_flag(matches, "report") || has_flag(matches, "json"))
 }
 
+// Whether `--registers` is given without the `--chart` that it is about.
+fn has_registers_alone(matches: &ArgMatches<'_>) -> bool
+    ensures { result ≡ has_registers_alone (rows_in matches.now) }
+{
+    has_flag(matches, "registers") && !has_flag(matches, "chart")
+}
+
 // Why there can be no such chart, or no such record.
 fn drawn_conflict<'a>(matches: &ArgMatches<'a>) -> Option<Conflict<'a>>
     ensures { option_map usage_text result ≡ drawn_told (rows_in matches.now) }
 {
     if is_chart_beside(matches) {
         return Some(Conflict::Arguments(CHART_BESIDE));
+    }
+    if has_registers_alone(matches) {
+        return Some(Conflict::Arguments(REGISTERS_ALONE));
     }
     record_conflict(matches)
 }
@@ -430,6 +484,13 @@ fn wrong_line<'a>(matches: &ArgMatches<'a>) -> Option<Conflict<'a>>
     }
 }
 
+// Whether `--rests` is given without the `--stuck` that it is about.
+fn has_rests_alone(matches: &ArgMatches<'_>) -> bool
+    ensures { result ≡ has_rests_alone (rows_in matches.now) }
+{
+    has_value(matches, "rests") && !has_flag(matches, "stuck")
+}
+
 // Whether `--none` and `--some` are both given.
 fn is_none_and_some(matches: &ArgMatches<'_>) -> bool
     ensures { result ≡ is_none_and_some (rows_in matches.now) }
@@ -482,6 +543,9 @@ fn endings_conflict<'a>(matches: &ArgMatches<'a>) -> Option<Conflict<'a>>
     if is_always_beside(matches) {
         return Some(Conflict::Arguments(ALWAYS_BESIDE));
     }
+    if has_rests_alone(matches) {
+        return Some(Conflict::Arguments(RESTS_ALONE));
+    }
     if is_none_and_some(matches) {
         return Some(Conflict::Arguments(NONE_AND_SOME));
     }
@@ -490,6 +554,9 @@ fn endings_conflict<'a>(matches: &ArgMatches<'a>) -> Option<Conflict<'a>>
     }
     if is_chart_and_json(matches) {
         return Some(Conflict::Arguments(CHART_AND_JSON));
+    }
+    if has_registers_alone(matches) {
+        return Some(Conflict::Arguments(REGISTERS_ALONE));
     }
     None
 }
@@ -545,6 +612,9 @@ fn conflict_of<'a>(name: &str, matches: &ArgMatches<'a>) -> Option<Conflict<'a>>
 {
     if names_input_twice(matches) {
         return Some(Conflict::Arguments(INPUT_TWICE));
+    }
+    if colours(matches).is_none() {
+        return Some(Conflict::Arguments(COLOUR_WORDS));
     }
     match name {
         "run" => run_conflict(matches),

@@ -1,8 +1,9 @@
 //! The jobs that the words of a command line can ask for.
 ghost use Rattle.std.specs.Prelude.{◌≡◌, ◌||◌};
 ghost use Rattle.std.specs.Option.{option_copied};
-ghost use Rattle.l4_commands.specs.Files.{alone, chart_on, expected_of, file_of, list_name};
-ghost use Rattle.l4_commands.specs.Files.{on_output, printed_on, second_file_of, shown_name};
+ghost use Rattle.l4_commands.specs.Files.{alone, chart_on, expected_of, file_of, is_text, list_name};
+ghost use Rattle.l4_commands.specs.Files.{may_be_painted, on_output, printed_on, second_file_of};
+ghost use Rattle.l4_commands.specs.Files.{shown_name};
 
 /// The name that stands for the standard input. A file of that name is `./-`.
 pub const INPUT: &str = "-";
@@ -22,6 +23,18 @@ pub enum ChartForm {
     Mermaid,
 }
 
+impl ChartForm {
+    /// Whether it is a text for a terminal.
+    pub fn is_text(self) -> bool
+        ensures { result ≡ is_text self }
+    {
+        match self {
+            ChartForm::Lines | ChartForm::Ascii => true,
+            ChartForm::Svg | ChartForm::Html | ChartForm::Mermaid => false,
+        }
+    }
+}
+
 /// A drawing of the steps of a trace, up to the first that is not possible.
 #[derive(Clone, Copy, Debug, PartialEq, Eq)]
 pub struct ChartJob<'a> {
@@ -39,6 +52,8 @@ pub struct ChartJob<'a> {
     pub form: ChartForm,
     /// The width of a text in columns of a terminal, or 0 for 80 columns.
     pub width: u64,
+    /// Whether it is told what each step changes in registers.
+    pub registers: bool,
 }
 
 /// Under whom a search lets the threads of a machine run.
@@ -69,6 +84,8 @@ pub struct TextChart {
     pub shows_lines: bool,
     /// The width of the terminal in columns, or 0 for 80 columns.
     pub width: u64,
+    /// Whether it is told what each step changes in registers.
+    pub registers: bool,
 }
 
 /// A search for all endings of the machine text in a file.
@@ -88,6 +105,8 @@ pub struct EndingsJob<'a> {
     pub memory: u64,
     /// Whether to search only for endings in which a thread waits for ever.
     pub stuck: bool,
+    /// The ids of the threads that may rest so, with commas between them. Without a list, none may.
+    pub rests: Option<&'a str>,
     /// A line that the report of an ending must have, where there is one.
     pub with_line: Option<&'a str>,
     /// A line that the report of an ending must not have, where there is one.
@@ -251,6 +270,17 @@ impl<'a> LintJob<'a> {
     }
 }
 
+/// Where lines are painted, of a job whose lines may be painted.
+#[derive(Clone, Copy, Debug, PartialEq, Eq)]
+pub enum Colours {
+    /// On a terminal, unless `NO_COLOR` is set.
+    Auto,
+    /// Wherever they go.
+    Always,
+    /// Nowhere.
+    Never,
+}
+
 /// What the words of a command line ask for.
 #[derive(Clone, Copy, Debug, PartialEq, Eq)]
 pub enum Job<'a> {
@@ -310,6 +340,22 @@ impl<'a> Job<'a> {
             Job::Replay(replay) => replay.expected,
             Job::Endings(search) => search.expected,
             _ => None,
+        }
+    }
+
+    /// Whether its lines may be painted: they are no objects of JSON, no picture, page or diagram,
+    /// and no faults and doubts of a machine text.
+    pub fn may_be_painted(&self) -> bool
+        ensures { result ≡ may_be_painted self.now }
+    {
+        match *self {
+            Job::Run(run) => !run.printed.json,
+            Job::Replay(replay) => !replay.printed.json,
+            Job::Next(next) => !next.json,
+            Job::Audit(audit) => !audit.json,
+            Job::Chart(chart) => chart.form.is_text(),
+            Job::Endings(search) => !search.json,
+            Job::Lint(_) => false,
         }
     }
 
@@ -381,10 +427,11 @@ impl<'a> Job<'a> {
 fn chart_on(shows_lines: bool, columns: u64, chart: Option<TextChart>) -> Option<TextChart>
     ensures { result ≡ chart_on shows_lines columns chart }
 {
-    chart?;
+    let asked = chart?;
     Some(TextChart {
         shows_lines,
         width: columns,
+        ..asked
     })
 }
 

@@ -80,6 +80,12 @@ const CHART: Argument = Argument {
     help: "Draws the steps, as `chart` does, in place of their lines",
 };
 
+const REGISTERS: Argument = Argument {
+    name: "registers",
+    takes: Takes::Nothing,
+    help: "Tells in a chart below each step what it changes: registers, and who waits to send",
+};
+
 const WAITS: Argument = Argument {
     name: "waits",
     takes: Takes::Nothing,
@@ -104,6 +110,12 @@ const JSON: Argument = Argument {
     help: "Prints an object of JSON for each line",
 };
 
+const COLOURS: Argument = Argument {
+    name: "color",
+    takes: Takes::Text("WHEN"),
+    help: "Paints lines by their words: `auto`, on a terminal, `always` or `never` [default: auto]",
+};
+
 const RECORD: Argument = Argument {
     name: "record",
     takes: Takes::File("NAME"),
@@ -126,9 +138,11 @@ processor",
     },
     REPORT,
     CHART,
+    REGISTERS,
     WAITS,
     COUNTS,
     JSON,
+    COLOURS,
     RECORD,
     EXPECT,
     Argument {
@@ -177,9 +191,11 @@ them",
     },
     REPORT,
     CHART,
+    REGISTERS,
     WAITS,
     COUNTS,
     JSON,
+    COLOURS,
     RECORD,
     EXPECT,
 ];
@@ -211,6 +227,7 @@ const AUDIT_ARGUMENTS: &[Argument] = &[
     WAITS,
     COUNTS,
     JSON,
+    COLOURS,
 ];
 
 pub fn audit() -> Verb
@@ -248,6 +265,7 @@ const CHART_ARGUMENTS: &[Argument] = &[
         takes: Takes::Text("LIST"),
         help: "Shows these threads alone, joined by commas",
     },
+    REGISTERS,
     Argument {
         name: "width",
         takes: Takes::Number {
@@ -276,6 +294,7 @@ const CHART_ARGUMENTS: &[Argument] = &[
         takes: Takes::Nothing,
         help: "Prints a sequence diagram of Mermaid",
     },
+    COLOURS,
 ];
 
 pub fn chart() -> Verb
@@ -332,6 +351,11 @@ const ENDINGS_ARGUMENTS: &[Argument] = &[
 come",
     },
     Argument {
+        name: "rests",
+        takes: Takes::Text("LIST"),
+        help: "Lets `--stuck` pass over these threads, joined by commas: each may rest as it is",
+    },
+    Argument {
         name: "none",
         takes: Takes::Nothing,
         help: "Ends with status 4 where such an ending was found",
@@ -351,6 +375,7 @@ come",
         takes: Takes::Nothing,
         help: "Prints above each report a chart of how it comes to that",
     },
+    REGISTERS,
     Argument {
         name: "waits",
         takes: Takes::Nothing,
@@ -372,6 +397,7 @@ come",
 does",
     },
     JSON,
+    COLOURS,
 ];
 
 pub fn endings() -> Verb
@@ -393,6 +419,7 @@ const LINT_ARGUMENTS: &[Argument] = &[
         help: "Tells what is wrong in this list, or in the file of `@NAME`, for the machine",
     },
     JSON,
+    COLOURS,
 ];
 
 pub fn lint() -> Verb

@@ -2,7 +2,7 @@
 
 /// The version of the program and of the kit that proves it, and the profiles and formats that it
 /// reads.
-pub const VERSION: &str = "0.44
+pub const VERSION: &str = "0.45
 rattle-kit-13f logic dac8208d650f15bf
 profiles 1 and 2, words of 64 and 32 bits";
 
@@ -128,6 +128,13 @@ Below the last step stands what each thread is in behind it, and what it waits f
 behind step 3.
 There a send that has not arrived is an arrow `+...)`.
 
+With `--registers` there is a line below a step for each thread in which it changes a register, or \
+who waits to send
+there. Below step 6 these stand:
+
+        1.1: MR0 0x0
+        2.1: from 1.1, ActualSender 1.1, MR0 0x70001, MR1 0xa, senders none
+
 On a terminal that shows them there are lines in place of these characters, unless `TERM` is dumb. \
 Without
 `--width` a text is as wide as `COLUMNS` says, else 80. Where a step is not possible, the steps \
@@ -160,6 +167,10 @@ all clocks to the least deadline of all, and may end as none of these. `in turn`
 has two threads, which
 take their turns in one order, not in every order.
 
+With `--stuck`, `--rests 2.1,3.1` names threads that may rest where they are, as one that waits for \
+an interrupt: only
+others count.
+
 With `--always 'never thread 1.1 ready .. & thread 2.1 ready ..'` it asks in place of endings \
 whether any world on the way
 tells all of these lines of a report. It prints `never met`, or `not met: cut`, or `met, steps K` \
@@ -172,7 +183,8 @@ not meet `--expect`. 0: nothing of these, and the search was whole, or `--some` 
 usage. 1: a fault as
 of `run`, or `l4run: depth out of range`, `l4run: states out of range`, `l4run: memory out of \
 range`, `l4run: ending out
-of range`, `l4run: condition line N`. docs/FORMATS.md (Endings) tells each line.";
+of range`, `l4run: condition line N`, `l4run: threads item N`. docs/FORMATS.md (Endings) tells each \
+line.";
 
 pub const LINT_EXAMPLE: &str =
     "Example: `l4run lint ping.l4`, with the machine text that `l4run help run` shows but the line \
@@ -193,6 +205,11 @@ BadTarget, TooLong. docs/FORMATS.md tells what each of them is.";
 
 pub const TWO_FORMS: &str =
     "error: only one of '--ascii', '--svg', '--html' and '--mermaid' can be given
+
+For more information, try '--help'.
+";
+
+pub const COLOUR_WORDS: &str = "error: '--color' takes 'auto', 'always' or 'never'
 
 For more information, try '--help'.
 ";
@@ -223,6 +240,11 @@ For more information, try '--help'.
 ";
 
 pub const CHART_BESIDE: &str = "error: '--chart' goes with none of '--report' and '--json'
+
+For more information, try '--help'.
+";
+
+pub const REGISTERS_ALONE: &str = "error: '--registers' goes with '--chart'
 
 For more information, try '--help'.
 ";
@@ -259,6 +281,11 @@ For more information, try '--help'.
 ";
 
 pub const NONE_AND_SOME: &str = "error: only one of '--none' and '--some' can be given
+
+For more information, try '--help'.
+";
+
+pub const RESTS_ALONE: &str = "error: '--rests' goes with '--stuck'
 
 For more information, try '--help'.
 ";

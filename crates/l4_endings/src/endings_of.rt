@@ -1,18 +1,19 @@
 //! The endings of a machine.
-ghost use Rattle.std.specs.Prelude.{ℕ, ◌≡◌, ◌<◌, ◌≤◌, ◌++◌, ◌∷◌, [], min, IfOk, OnOk, length, map};
-ghost use Rattle.std.specs.Prelude.{true};
-ghost use Rattle.l4_explore.specs.Search.{seen_at};
+ghost use Rattle.std.specs.Prelude.{ℕ, ◌≡◌, ◌<◌, ◌≤◌, ◌++◌, ◌∷◌, [], min, Bool, IfNone, IfOk, IfSome};
+ghost use Rattle.std.specs.Prelude.{OnErr, OnOk, false, length, map, true};
+ghost use Rattle.l4_explore.specs.Search.{seen_at, Seen};
 ghost use Rattle.l4_explore.specs.Tries.{deepest};
 ghost use Rattle.l4_states.specs.Endings.{ends_of, entries_of};
 ghost use Rattle.l4_persistent.specs.Endings.{AreAllEndings, AreEndings};
+ghost use Rattle.l4_endings.specs.Told.{AreChoices, AreTold, HaveBegun};
 ghost use Rattle.l4_endings.specs.Inner.Tried.{entries_from, told};
-ghost use Rattle.l4_endings.specs.Inner.Walked.{AreChoices};
 
 use crate::memory::Memory;
 use crate::tried::Choices;
 use l4_explore::found::Found;
+use l4_explore::listener::Listener;
 use l4_explore::progress::Progress;
-use l4_explore::search::explore;
+use l4_explore::search::{explore, explore_telling};
 use l4_machine::Entry;
 use l4_rounds::choices::choice;
 use l4_script::machine::Machine;
@@ -73,6 +74,74 @@ pub fn endings<P: Progress>(
     })
 }
 
+/// What a search for endings says of itself.
+#[derive(Clone, Copy, Debug, PartialEq, Eq)]
+pub struct Looked {
+    /// The number of states that the search has looked at, no two of them similar.
+    pub states: usize,
+    /// As of `FoundEndings`.
+    pub depth: usize,
+    /// Whether the listener was told of all endings.
+    pub is_whole: bool,
+}
+
+/// The same search, which keeps no ending, but tells `listener` of each as soon as it is found, in
+/// the order of `endings`. `entries_at` gives the entries that lead there, for the state that the
+/// listener is told of. None if the listener wanted to hear of no more.
+///
+/// `NoMemory`: memory was refused, to the listener perhaps. It has been told of the first endings.
+pub fn endings_telling<P: Progress, L: Listener>(
+    alloc: Global,
+    machine: &Machine,
+    depth: u32,
+    most: u32,
+    progress: &mut P,
+    listener: &mut L,
+) -> Result<Option<Looked>, NoMemory>
+    requires some { 0 < most }
+    requires may { (s : Seen) → AreChoices machine.now s.schedule → L.may_hear listener.old s }
+    ensures all { IfOk result (λ looked. IfSome looked (λ r.
+        AreTold machine.now (L.hears listener.old listener.new) r.states (min depth deepest) most
+        r.depth r.is_whole)) }
+    ensures few { IfOk result (λ looked. IfSome looked (λ r. r.states ≤ most)) }
+    ensures whole { IfOk result (λ looked. IfSome looked (λ r.
+        r.is_whole ≡ true → r.depth < depth)) }
+    ensures stopped { IfOk result (λ looked. IfNone looked (
+        HaveBegun machine.now (L.hears listener.old listener.new) false)) }
+    ensures refused { OnErr result ((more : Bool) ×
+        HaveBegun machine.now (L.hears listener.old listener.new) more) }
+{
+    machine.facts();
+    let memory = Memory::new(alloc, machine)?;
+    let mut choices = Choices { machine, memory };
+    let Some(search) = explore_telling(alloc, &mut choices, depth, most, progress, listener)? else {
+        return Ok(None);
+    };
+    Ok(Some(Looked {
+        states: search.found.len(),
+        depth: search.depth,
+        is_whole: search.is_whole,
+    }))
+}
+
+/// The entries of the schedule of a found state.
+///
+/// `NoMemory`: memory was refused.
+pub fn entries_at(
+    alloc: Global,
+    machine: &Machine,
+    found: &Found,
+    place: usize,
+) -> Result<Vec<Entry>, NoMemory>
+    requires place { place < length found.now }
+    requires choices { AreChoices machine.now (seen_at found.now place).schedule }
+    ensures { IfOk result (λ entries. entries_from entries.items
+        ≡ entries_of machine.now (seen_at found.now place).schedule) }
+{
+    let schedule = found.schedule(alloc, place)?;
+    entries_of(alloc, machine, &schedule)
+}
+
 // The schedules of the states that are at rest.
 fn ends(alloc: Global, machine: &Machine, found: &Found) -> Result<Vec<Vec<Entry>>, NoMemory>
     requires { (i : ℕ) → i < length found.now →
@@ -103,8 +172,7 @@ fn list_end(
     if !found.is_end(place) {
         return Ok(());
     }
-    let schedule = found.schedule(alloc, place)?;
-    ends.push(entries_of(alloc, machine, &schedule)?)?;
+    ends.push(entries_at(alloc, machine, found, place)?)?;
     Ok(())
 }
 

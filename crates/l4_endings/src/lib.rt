@@ -21,4 +21,4 @@ mod states;
 mod tried;
 mod walks;
 
-pub use endings_of::{FoundEndings, endings};
+pub use endings_of::{FoundEndings, Looked, endings, endings_telling, entries_at};

@@ -34,3 +34,5 @@ mod runs;
 mod searches;
 #[cfg(test)]
 mod server;
+#[cfg(test)]
+mod telling;

@@ -34,7 +34,7 @@ use Rattle.l4_jobs.specs.Jobs.{IsAskedFault, IsDoneFor, IsDoneOn, IsFaultBehind,
 use Rattle.l4_jobs.specs.Nexts.{IsNextDone, IsNextFault}
 use Rattle.l4_jobs.specs.Outputs.{Output}
 use Rattle.l4_jobs.specs.Schedules.{IsReplayFault, asked_schedule, fault_of_result, fault_of_run, named_schedule, run_by_list, run_of_schedule}
-use Rattle.l4_jobs.specs.Searches.{IsAnswerBy, IsDoneBy, IsSearchDoneBy, IsVerdictOut, fault_before, fault_by, fault_of_limits, fault_of_question, question_of, shown_of}
+use Rattle.l4_jobs.specs.Searches.{IsAnswerBy, IsDoneBy, IsSearchDoneBy, IsVerdictOut, fault_before, fault_by, fault_of_limits, fault_of_question, first_fault, question_of, shown_of}
 use Rattle.l4_questions.specs.Beside.{Shown}
 use Rattle.l4_jobs.specs.declared.fault.Fault.{Fault}
 use Rattle.l4_jobs.proofs.Spelled.{trace_right}
@@ -91,8 +91,10 @@ condition_right None m q asked o is = is.lawful
 condition_right (Some number) m q asked o (trace, told, out) = told.lawful
 
 search_right : (always : Option (Bor (List ℕ))) (search : EndingsJob) (text : List ℕ) (m : Machine) (expected : Option (List Expected)) (o : Output) →
-    IsSearchDoneBy always search text m expected o → fault_by always (fault_of_limits search) ≡ None
-search_right None search text m expected o is = ap (option_map fault_of_question) (searched_right search.trace search text m expected o is)
+    IsSearchDoneBy always search text m expected o → fault_by always m search ≡ None
+search_right None search text m expected o is =
+    ap (λ f. first_fault f (fault_of_limits search)) is.known
+    ∙ ap (option_map fault_of_question) (searched_right search.trace search text m expected o is.done)
 search_right (Some condition) search text m expected o is =
     ap (λ r. fault_before r (fault_of_limits search)) is.is
     ∙ ap (option_map fault_of_question) (condition_right search.trace m (question_of search) is.asked o is.out)

@@ -1,5 +1,6 @@
 pub mod Appending
 pub mod Audited
+pub mod Begun
 pub mod Behind
 pub mod Charted
 pub mod Drawing

@@ -148,7 +148,7 @@ verdict_arm (Some number) search m q lines o some (trace, told, out) = trace_sta
 
 done_for : (always : Option (Bor (List ℕ))) (search : EndingsJob) (text : List ℕ) (m : Machine) (expected : Option (List Expected)) (o : Output) → search.always ≡ always →
     is_some expected ≡ is_some (expected_of (Endings search)) → IsSearchDoneBy always search text m expected o → IsStatusOf (Endings search) o.status
-done_for None search text m expected o by same is = done_by search.trace search text m expected o same is
+done_for None search text m expected o by same is = done_by search.trace search text m expected o same is.done
 done_for (Some condition) search text m expected o by same is = verdict_arm search.trace search m (question_of search) is.asked o (ap is_some by) is.out
 
 -- Of what a trace or a lint tells

@@ -37,7 +37,12 @@ abbrev pub chosen_by : Machine → ChartJob → Result (Option (List GlobalId)) 
 chosen_by m chart = chosen_threads m (option_copied chart.threads)
 
 abbrev pub part_of : ChartJob → Option (List GlobalId) → Part
-part_of chart threads = record { first = chart.first; last = chart.last; threads = threads }
+part_of chart threads = record {
+  first = chart.first;
+  last = chart.last;
+  threads = threads;
+  registers = chart.registers;
+}
 
 -- The width of a text in columns. 0 stands for 80.
 abbrev pub text_width : (width : ℕ) → ℕ

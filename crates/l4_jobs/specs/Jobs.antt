@@ -94,7 +94,7 @@ IsFaultOn (Next next) m second f = IsNextFault m next.schedule.now second f
 IsFaultOn (Audit audit) m second f =
     IsTraceFault (tells_refusals audit.judged) m audit.trace.now second f
 IsFaultOn (Chart chart) m second f = IsChartFault chart m second f
-IsFaultOn (Endings search) m second f = fault_of_search search ≡ Some f
+IsFaultOn (Endings search) m second f = fault_of_search m search ≡ Some f
 IsFaultOn (Lint lint) m second f =
     IsSomeAnd (list_name_in lint.schedule) (λ name. FailsWith name second f)
 

@@ -18,5 +18,6 @@ pub mod Rounds
 pub mod Runs
 pub mod Schedules
 pub mod Searches
+pub mod Streaming
 pub mod Streams
 pub mod Traces

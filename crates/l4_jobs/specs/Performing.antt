@@ -1,14 +1,16 @@
 -- What is written of a job.
-use Rattle.std.specs.Prelude.{◌≡◌, ◌⊎◌, ℕ, Bool, true, false, Option, Some, None, Result, Ok, Err, List, [], ◌∷◌}
+use Rattle.std.specs.Prelude.{◌≡◌, ◌⊎◌, ℕ, Bool, true, false, Option, Some, None, IsSomeAnd, Result, Ok, Err, List, [], ◌∷◌}
 use Rattle.std.specs.declared.io.ErrorKind.{ErrorKind}
 use Rattle.l4_script.specs.Versions.{machine_of_text}
 use Rattle.l4_commands.specs.Files.{expected_of, file_of, second_file_of}
+use Rattle.l4_commands.specs.declared.job.EndingsJob.{EndingsJob}
 use Rattle.l4_commands.specs.declared.job.Job.{Job}
 use Rattle.l4_jobs.specs.FaultLines.{IsReported}
 use Rattle.l4_jobs.specs.Explanations.{IsExplained}
 use Rattle.l4_jobs.specs.Inputs.{FailsWith, Gives, IsUnread}
 use Rattle.l4_jobs.specs.Jobs.{IsDone, IsFaultFor, IsTrueFor}
 use Rattle.l4_jobs.specs.Outputs.{Output}
+use Rattle.l4_jobs.specs.Streaming.{IsCutOff, fault_of_stop, streamed_of}
 use Rattle.l4_jobs.specs.Streams.{GivenGives}
 use Rattle.l4_jobs.specs.declared.fault.Fault.{Fault}
 use Rattle.l4_jobs.specs.declared.fault.Fault.TheVariants as fault
@@ -42,6 +44,10 @@ sinks list keeps_list out keeps_out faults keeps_faults = record {
 -- No record is kept.
 abbrev pub keeps_none : List ℕ → Takes
 keeps_none name bytes all = all ≡ false
+
+-- None is asked for.
+abbrev pub asks_none : List ℕ → Takes
+asks_none name bytes all = ⊥
 
 -- A fault of a job on the text in this file was told with status 1, and nothing else was written.
 abbrev pub IsFaultTold : (explains : Bool) → (file text : List ℕ) → Fault → Sinks →
@@ -96,6 +102,26 @@ IsPerformed explains job machine second expects s status =
     × IsFaultTold explains (file_of job) text f s status)
     ⊎ ((o : Output) × IsDone job machine second expects o × IsWrittenOut o s status)
 
+-- A search whose endings are written as they are found was stopped. Endings were written, whole and
+-- from the first on, where memory was refused, or else a beginning of such; then its fault was told
+-- with status 1.
+pub record IsStopped (search : EndingsJob) (machine expects : Gives) (s : Sinks) (status : ℕ) :
+    Type 0 where
+  pub text : List ℕ
+  pub given : machine (Ok text)
+  pub all : Bool
+  pub wrote : IsCutOff search text expects s.out all
+  pub unrecorded : s.keeps_list
+  pub told : IsReported s.faults (fault_of_stop all)
+  pub status_is : status ≡ 1
+
+-- A job was done, or such a search was stopped.
+abbrev pub IsDoneOrStopped : (explains : Bool) → Job → (machine second expects : Gives) → Sinks →
+    (status : ℕ) → Type 0
+IsDoneOrStopped explains job machine second expects s status =
+    IsPerformed explains job machine second expects s status
+    ⊎ IsSomeAnd (streamed_of job) (λ search. IsStopped search machine expects s status)
+
 -- What was written to the output of a run or a replay is true of the machine that its text declares.
 abbrev pub IsTrulyDone : Job → (machine : Gives) → (out : Takes) → (status : ℕ) → Type 0
 IsTrulyDone job machine out status =
@@ -148,7 +174,7 @@ IsPerformedOn {File} opens gives explains job s status =
     ((f : Fault) × ((f ≡ fault.NoMemory) ⊎ AreUnopened opens job f)
     × IsFaultTold explains (file_of job) [] f s status)
     ⊎ ((o : Opened File) × AreOpened opens job o
-    × IsPerformed explains job (GivenGives gives o.machine) (GivenGives gives o.second)
+    × IsDoneOrStopped explains job (GivenGives gives o.machine) (GivenGives gives o.second)
     (GivenGives gives o.expects) s status)
 
 -- What it wrote to the output of a run or a replay is true of the machine that its text declares.

@@ -1,7 +1,7 @@
 -- What a search for all endings is asked, what it prints, and its faults.
 use Rattle.std.specs.Prelude.{◌≡◌, ℕ, not, Option, None, Some, Result, Ok, Err, List, []}
 use Rattle.std.specs.Borrow.{Bor}
-use Rattle.std.specs.Option.{option_map}
+use Rattle.std.specs.Option.{option_copied, option_map}
 use Rattle.l4_model.specs.Machine.{Machine}
 use Rattle.l4_chart.specs.Listings.{listing_of}
 use Rattle.l4_chart.specs.declared.whole.TextForm.{TextForm}
@@ -25,7 +25,7 @@ use Rattle.l4_commands.specs.declared.job.Scheduler.TheVariants.{Any, Placed}
 use Rattle.l4_commands.specs.declared.job.TextChart.{TextChart}
 use Rattle.l4_commands.specs.declared.job.Wanted.{Wanted as Asked}
 use Rattle.l4_commands.specs.declared.job.Wanted.TheVariants as asked
-use Rattle.l4_jobs.specs.ChartJobs.{text_width}
+use Rattle.l4_jobs.specs.ChartJobs.{chosen_threads, fault_of_threads, text_width}
 use Rattle.l4_jobs.specs.FaultLines.{fault_line}
 use Rattle.l4_jobs.specs.Outputs.{Output}
 use Rattle.l4_jobs.specs.declared.fault.Fault.{Fault}
@@ -42,6 +42,7 @@ question_of e = record {
   states = e.states;
   memory = e.memory;
   stuck = e.stuck;
+  rests = e.rests;
   with_line = e.with_line;
   never = e.never;
   wanted = wanted_of e.wanted;
@@ -53,6 +54,7 @@ abbrev pub text_form : TextChart → TextForm
 text_form chart = record {
   is_ascii = not chart.shows_lines;
   width = text_width chart.width;
+  has_registers = chart.registers;
 }
 
 abbrev pub asked_chart : (text : List ℕ) → TextChart → AskedChart
@@ -95,6 +97,16 @@ abbrev pub IsDoneBy : (trace : Option ℕ) → EndingsJob → (text : List ℕ) 
 IsDoneBy None search text m expected o = IsAnswerDone search text m expected o
 IsDoneBy (Some number) search text m expected o = IsTraceDone search m number o
 
+-- The threads that may rest are threads of the machine.
+
+abbrev pub fault_of_rests : Machine → EndingsJob → Option Fault
+fault_of_rests m e = fault_of_threads (chosen_threads m (option_copied e.rests))
+
+pub record IsEndingsDone (search : EndingsJob) (text : List ℕ) (m : Machine)
+    (expected : Option (List Expected)) (o : Output) : Type 0 where
+  pub known : fault_of_rests m search ≡ None
+  pub done : IsDoneBy search.trace search text m expected o
+
 -- Where it is asked whether a world on the way meets a condition, that answer is printed, or the trace
 -- of the history that is told of it.
 
@@ -113,14 +125,14 @@ pub record IsVerdictDone (search : EndingsJob) (condition : List ℕ) (m : Machi
 
 abbrev pub IsSearchDoneBy : (condition : Option (Bor (List ℕ))) → EndingsJob → (text : List ℕ) →
     Machine → Option (List Expected) → Output → Type 0
-IsSearchDoneBy None search text m expected o = IsDoneBy search.trace search text m expected o
+IsSearchDoneBy None search text m expected o = IsEndingsDone search text m expected o
 IsSearchDoneBy (Some condition) search text m expected o = IsVerdictDone search condition.now m o
 
 abbrev pub IsSearchDone : EndingsJob → (text : List ℕ) → Machine → Option (List Expected) →
     Output → Type 0
 IsSearchDone search text m expected o = IsSearchDoneBy search.always search text m expected o
 
--- The faults of a search: of its condition, and then of its limits.
+-- The faults of a search: of its condition or of the threads that may rest, and then of its limits.
 
 abbrev pub fault_of_question : QuestionFault → Fault
 fault_of_question question.NoMemory = fault.NoMemory
@@ -139,9 +151,16 @@ abbrev pub fault_before : Result (List (List ℕ)) ExpectFault → Option Fault 
 fault_before (Err f) other = Some (fault_of_condition f)
 fault_before (Ok asked) other = other
 
-abbrev pub fault_by : (condition : Option (Bor (List ℕ))) → Option Fault → Option Fault
-fault_by None other = other
-fault_by (Some condition) other = fault_before (condition_of condition.now) other
+abbrev pub first_fault : Option Fault → Option Fault → Option Fault
+first_fault None other = other
+first_fault (Some f) other = Some f
 
-abbrev pub fault_of_search : EndingsJob → Option Fault
-fault_of_search e = fault_by e.always (fault_of_limits e)
+abbrev pub fault_of_endings : Machine → EndingsJob → Option Fault
+fault_of_endings m e = first_fault (fault_of_rests m e) (fault_of_limits e)
+
+abbrev pub fault_by : (condition : Option (Bor (List ℕ))) → Machine → EndingsJob → Option Fault
+fault_by None m e = fault_of_endings m e
+fault_by (Some condition) m e = fault_before (condition_of condition.now) (fault_of_limits e)
+
+abbrev pub fault_of_search : Machine → EndingsJob → Option Fault
+fault_of_search m e = fault_by e.always m e

@@ -1,5 +1,5 @@
 -- What is read and written, as far as the contracts of byte readers and writers tell.
-use Rattle.std.specs.Prelude.{◌≡◌, ◌⊎◌, ℕ, Bool, true, false, if◌then◌else◌, Option, Some, None, Result, Ok, Err, List, ◌++◌}
+use Rattle.std.specs.Prelude.{◌≡◌, ◌⊎◌, ℕ, Bool, true, false, if◌then◌else◌, Option, Some, None, Result, Ok, Err, List, [], ◌++◌}
 use Rattle.std.specs.Io.KnownBytes.{Appends}
 use Rattle.std.specs.declared.io.ErrorKind.{ErrorKind}
 use Rattle.std.specs.declared.io.ErrorKind.TheVariants.{NotFound}
@@ -27,6 +27,11 @@ HasAppended old new bytes left = (front : List ℕ) × (bytes ≡ front ++ left)
 abbrev pub MayTake : (old new : Option (List ℕ)) → (bytes : List ℕ) → (all : Bool) → Type 0
 MayTake old new bytes true = Appends old new bytes
 MayTake old new bytes false = (left : List ℕ) × HasAppended old new bytes left
+
+-- What takes no bytes stays as it was.
+abbrev pub TakesSome : (takes : (bytes : List ℕ) → (all : Bool) → Type 0) → (same : Type 0) →
+    (bytes : List ℕ) → (all : Bool) → Type 0
+TakesSome takes same bytes all = takes bytes all × (bytes ≡ [] → same)
 
 -- A folder told whether writing to the file of this name changes one that is read, where there is
 -- such a file.

@@ -8,7 +8,7 @@ ghost use Rattle.l4_chart.specs.Listings.{listing_of};
 ghost use Rattle.l4_chart.specs.Windows.{until_refused};
 ghost use Rattle.l4_jobs.specs.Audits.{IsFaultOfTrace, IsRefusedAt};
 ghost use Rattle.l4_jobs.specs.ChartJobs.{IsChartDone, IsChartFault, IsCharted, chosen_by};
-ghost use Rattle.l4_jobs.specs.ChartJobs.{drawing_form, fault_of_threads};
+ghost use Rattle.l4_jobs.specs.ChartJobs.{chosen_threads, drawing_form, fault_of_threads};
 ghost use Rattle.l4_jobs.specs.ChartJobs.{part_of, status_of_refused, text_width};
 ghost use Rattle.l4_jobs.specs.Outputs.{output_of};
 ghost use Rattle.l4_jobs.specs.declared.fault.Fault.TheVariants.{NoMemory as OutOfMemory};
@@ -35,18 +35,18 @@ use std::alloc::Global;
 // The width in columns, where neither the job nor the terminal tells one.
 const DEFAULT_WIDTH: usize = 80;
 
-// The threads that are shown, where there is a list of them.
-fn listed_threads<'a>(
+/// The threads that a list names, where there is one.
+pub(crate) fn listed_threads<'a>(
     alloc: Global,
     machine: &Machine,
-    chart: &ChartJob<'_>,
+    list: Option<&str>,
 ) -> Result<Option<Vec<GlobalId>>, Fault<'a>>
-    ensures ok { IfOk result (λ threads. chosen_by machine.now chart.now ≡
+    ensures ok { IfOk result (λ threads. chosen_threads machine.now (option_copied list.entry) ≡
         Ok (option_map (λ listed. listed.items) threads)) }
     ensures err { IfErr result (λ fault. (fault ≡ OutOfMemory) ⊎
-        (fault_of_threads (chosen_by machine.now chart.now) ≡ Some fault)) }
+        (fault_of_threads (chosen_threads machine.now (option_copied list.entry)) ≡ Some fault)) }
 {
-    match chart.threads {
+    match list {
         None => Ok(None),
         Some(list) => Ok(Some(threads_of(alloc, machine, list)?)),
     }
@@ -130,7 +130,8 @@ fn history_chart(
         history.now.steps) output.lines.items) }
 {
     let refused = refused_step(alloc, machine, history)?;
-    let all = Window::new(chart.first as usize, chart.last as usize, threads);
+    let (first, last) = (chart.first as usize, chart.last as usize);
+    let all = Window::new(first, last, threads, chart.registers);
     let window = all.until_refused(refused);
     let listing = Listing::of(alloc, text)?;
     let shown = Chart::new(alloc, machine, &listing, history, &window)?;
@@ -174,7 +175,7 @@ pub(crate) fn chart_done<'a, T: Source>(
     ensures err { IfErr result (λ fault. (fault ≡ OutOfMemory) ⊎
         IsChartFault chart.now machine.now (T.gives trace.old) fault) }
 {
-    let threads = listed_threads(alloc, machine, chart)?;
+    let threads = listed_threads(alloc, machine, chart.threads)?;
     let steps = read_all(alloc, chart.trace, trace)?;
     let output = chart_output(
         alloc,

@@ -7,9 +7,10 @@
 //!
 //! Contracts speak of bytes. One relation, `IsDone`, says what each job comes to; the laws of
 //! `laws` follow from it. Either all of that is written, each part once: the record, the lines, and
-//! what is said behind them. Or one line of a fault is written, and the status is 1. Contracts also
-//! say which file is which, and which fault comes first. No contract says what the listener of a
-//! search is told.
+//! what is said behind them. Or one line of a fault is written, and the status is 1. In front of
+//! that line stand the first endings of a search that was stopped: these are written as they are
+//! found. Contracts also say which file is which, and which fault comes first. No contract says what
+//! the listener of a search is told, nor how early an ending is written.
 //!
 //! `streams` assumes what the system's files and streams do. `.ci/command-lines` tries it, also with
 //! streams that fail. `l4_cases` has what each command prints, and what a fault displays.
@@ -38,6 +39,7 @@ pub mod rounds;
 mod runs;
 mod schedules;
 mod searches;
+mod streaming;
 pub mod streams;
 mod trace_lines;
 mod trace_output;

@@ -1,22 +1,25 @@
 //! Writing what a job comes to.
-ghost use Rattle.std.specs.Prelude.{◌≡◌, ◌≢◌, IfErr, IfOk, None, Some, false};
+ghost use Rattle.std.specs.Prelude.{◌≡◌, ◌≢◌, ◌⊎◌, IfErr, IfOk, None, Some, false, true};
 ghost use Rattle.std.specs.Option.{option_copied};
 ghost use Rattle.l4_commands.specs.Files.{alone, expected_of, file_of, second_file_of};
+ghost use Rattle.l4_commands.specs.declared.job.Job.TheVariants.{Endings};
 ghost use Rattle.l4_jobs.specs.Inputs.{gives_nothing};
 ghost use Rattle.l4_jobs.specs.Jobs.{IsDone, IsStatusOf};
 ghost use Rattle.l4_jobs.specs.Outputs.{Output, output_of};
 ghost use Rattle.l4_jobs.specs.Performing.{AreOpened, AreUnopened, IsLinesOut, IsOpened};
-ghost use Rattle.l4_jobs.specs.Performing.{IsPerformed, IsPerformedOn, IsSaid, IsTrulyDone};
-ghost use Rattle.l4_jobs.specs.Performing.{IsTrulyDoneOn, IsUnopened, IsWrittenOut, keeps_none};
-ghost use Rattle.l4_jobs.specs.Performing.{sinks};
-ghost use Rattle.l4_jobs.specs.Streams.{IsWrittenApart};
+ghost use Rattle.l4_jobs.specs.Performing.{IsPerformed, IsPerformedOn, IsSaid, IsStopped};
+ghost use Rattle.l4_jobs.specs.Performing.{IsTrulyDone, IsTrulyDoneOn, IsUnopened, IsWrittenOut};
+ghost use Rattle.l4_jobs.specs.Performing.{asks_none, keeps_none, sinks};
+ghost use Rattle.l4_jobs.specs.Streaming.{is_streamed};
+ghost use Rattle.l4_jobs.specs.Streams.{GivenGives, IsWrittenApart};
 
 use crate::done::Done;
 use crate::explanations::tell;
 use crate::fault::{Fault, read_fault, report};
-use crate::job::Job;
+use crate::job::{EndingsJob, Job};
 use crate::jobs::done_for_text;
 use crate::reading::read_text;
+use crate::streaming::{Stop, streamed, written_done};
 use crate::streams::{Folder, Given, InFolder, NoRecords, Records, Sink, Source};
 use l4_explore::progress::{Progress, Unheard};
 use std::alloc::Global;
@@ -197,6 +200,40 @@ fn files_of<'a, F: Folder>(folder: &F, job: &Job<'a>) -> Result<Files<F::File>, 
     })
 }
 
+// Does a search whose endings are written as they are found, and returns the exit status.
+fn perform_streamed<F: Source, W: Sink, E: Sink, P: Progress>(
+    alloc: Global,
+    explains: bool,
+    search: &EndingsJob<'_>,
+    files: &mut Files<F>,
+    out: &mut W,
+    faults: &mut E,
+    progress: &mut P,
+) -> u8
+    requires streamed { is_streamed search.now ≡ true }
+    ensures { IsPerformed explains (Endings search.now) (GivenGives F.gives files.old.machine)
+        gives_nothing (GivenGives F.gives files.old.expects)
+        (sinks asks_none (Unit {0}) (W.takes out.old out.new) (out.new ≡ out.old)
+        (E.takes faults.old faults.new) (faults.new ≡ faults.old)) result
+        ⊎ IsStopped search.now (GivenGives F.gives files.old.machine)
+        (GivenGives F.gives files.old.expects)
+        (sinks asks_none (Unit {0}) (W.takes out.old out.new) (out.new ≡ out.old)
+        (E.takes faults.old faults.new) (faults.new ≡ faults.old)) result }
+{
+    let file = search.file;
+    let text = match read_text(alloc, file, &mut files.machine) {
+        Ok(text) => text,
+        Err(fault) => return tell(alloc, explains, file, b"", faults, &fault),
+    };
+    let text = text.as_slice();
+    match written_done(alloc, text, search, &mut files.expects, out, progress) {
+        Ok(left) => write_lines(alloc, &left, out, faults),
+        Err(Stop::Faulty(fault)) => tell(alloc, explains, file, text, faults, &fault),
+        Err(Stop::NoMemory) => report(alloc, faults, &Fault::NoMemory),
+        Err(Stop::NotWritten) => report(alloc, faults, &Fault::Write),
+    }
+}
+
 /// Does a job over the files that it names, and returns the exit status: that of what the job comes
 /// to, or 1 where a fault was reported. 4 also stands for an expectation that does not hold.
 ///
@@ -205,6 +242,11 @@ fn files_of<'a, F: Folder>(folder: &F, job: &Job<'a>) -> Result<Files<F::File>, 
 /// is asked for, then the lines, and then what of the expectations does not hold. A fault is told by
 /// one line; with `explains`, as for a terminal, what explains it stands behind that. In a search,
 /// `progress` hears how far the search has come, and that it has ended.
+///
+/// The endings of a search are written one by one, each as soon as it is found: not where a trace
+/// or the answer about a condition is printed in their place, and not as objects. Where memory is
+/// refused on the way, those that were written are whole; where the output does not take one, the
+/// search ends there. Then that fault is told.
 pub fn perform_on_files<R: Threads + Sync, F: Folder, W: Sink, E: Sink, P: Progress>(
     rt: &R,
     alloc: Global,
@@ -228,6 +270,9 @@ pub fn perform_on_files<R: Threads + Sync, F: Folder, W: Sink, E: Sink, P: Progr
         Ok(files) => files,
         Err(fault) => return tell(alloc, explains, job.file(), b"", faults, &fault),
     };
+    if let Some(search) = streamed(job) {
+        return perform_streamed(alloc, explains, &search, &mut files, out, faults, progress);
+    }
     perform_over(
         rt,
         alloc,

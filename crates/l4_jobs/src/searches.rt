@@ -3,11 +3,11 @@ ghost use Rattle.std.specs.Prelude.{◌≡◌, ◌⊎◌, IfOk, IfErr, List, Non
 ghost use Rattle.std.specs.Option.{option_copied, option_map};
 ghost use Rattle.l4_jobs.specs.Outputs.{output_of};
 ghost use Rattle.l4_expect.specs.Conditions.{condition_of};
-ghost use Rattle.l4_jobs.specs.Searches.{IsAnswerBy, IsAnswerDone, IsSearchDone, IsTraceDone};
-ghost use Rattle.l4_jobs.specs.Searches.{IsTraceOut, IsVerdictDone, IsVerdictOut, asked_chart};
-ghost use Rattle.l4_jobs.specs.Searches.{fault_before};
-ghost use Rattle.l4_jobs.specs.Searches.{fault_of_limits, fault_of_search, question_of, text_form};
-ghost use Rattle.l4_jobs.specs.Searches.{wanted_of};
+ghost use Rattle.l4_jobs.specs.Searches.{IsAnswerBy, IsAnswerDone, IsEndingsDone, IsSearchDone};
+ghost use Rattle.l4_jobs.specs.Searches.{IsTraceDone, IsTraceOut, IsVerdictDone, IsVerdictOut};
+ghost use Rattle.l4_jobs.specs.Searches.{asked_chart, fault_before, fault_of_endings};
+ghost use Rattle.l4_jobs.specs.Searches.{fault_of_limits, fault_of_rests, fault_of_search};
+ghost use Rattle.l4_jobs.specs.Searches.{question_of, shown_of, text_form, wanted_of};
 ghost use Rattle.l4_jobs.specs.declared.fault.Fault.{Fault as ModelFault};
 ghost use Rattle.l4_jobs.specs.declared.fault.Fault.TheVariants.{NoMemory as OutOfMemory};
 ghost use Rattle.l4_chart.specs.Listings.{listing_of};
@@ -15,7 +15,7 @@ ghost use Rattle.l4_questions.specs.Beside.{chart_as, shown_as};
 ghost use Rattle.l4_questions.specs.Limits.{question_fault};
 ghost use Rattle.l4_questions.specs.declared.question.QuestionFault.TheVariants.{NoMemory as NoMemoryFor};
 
-use crate::charts::text_width;
+use crate::charts::{listed_threads, text_width};
 use crate::done::Done;
 use crate::fault::{Fault, line_of};
 use crate::job::{EndingsJob, Scheduler, TextChart, Wanted as Asked};
@@ -49,6 +49,7 @@ pub(crate) fn question_of<'a>(search: &EndingsJob<'a>) -> Question<'a>
         states: search.states,
         memory: search.memory,
         stuck: search.stuck,
+        rests: search.rests,
         with_line: search.with_line,
         never: search.never,
         wanted: wanted_of(search.wanted),
@@ -62,11 +63,14 @@ pub(crate) fn text_form(chart: TextChart) -> TextForm
     TextForm {
         is_ascii: !chart.shows_lines,
         width: text_width(chart.width),
+        has_registers: chart.registers,
     }
 }
 
-// The lines of a text, where a chart is asked for.
-fn listing_for<'t>(
+/// The lines of a text, where a chart is asked for.
+///
+/// `NoMemory`: memory was refused.
+pub(crate) fn listing_for<'t>(
     alloc: Global,
     text: &'t [u8],
     chart: Option<TextChart>,
@@ -117,8 +121,8 @@ fn answer_by<P: Progress>(
     }
 }
 
-// What an answer comes to.
-fn answer_out<'a>(answer: Answer) -> Done<'a>
+/// What an answer comes to.
+pub(crate) fn answer_out<'a>(answer: Answer) -> Done<'a>
     ensures { output_of result ≡ record {
       lines = answer.lines.items;
       list = None;
@@ -131,6 +135,26 @@ fn answer_out<'a>(answer: Answer) -> Done<'a>
         list: None,
         said: answer.unmet,
         status: answer.status,
+    }
+}
+
+/// What is printed of each ending beside its report, and what is expected of it.
+pub(crate) fn beside_of<'e, 't>(
+    search: &EndingsJob<'_>,
+    listing: &'e Option<Listing<'t>>,
+    expected: Option<&'e Expectations<'t>>,
+) -> Beside<'e, 't>
+    ensures shown { (text : List ℕ) →
+        listing.now ≡ option_map (λ c. listing_of text) search.now.chart →
+        shown_as result.shown ≡ shown_of text search.now }
+    ensures expected { option_copied result.expected ≡ option_copied expected.entry }
+{
+    Beside {
+        shown: Shown {
+            chart: asked_chart(search.chart, listing),
+            waits: search.waits,
+        },
+        expected,
     }
 }
 
@@ -151,13 +175,7 @@ fn answer_done<'a, P: Progress>(
 {
     let question = question_of(search);
     let listing = listing_for(alloc, text, search.chart)?;
-    let beside = Beside {
-        shown: Shown {
-            chart: asked_chart(search.chart, &listing),
-            waits: search.waits,
-        },
-        expected,
-    };
+    let beside = beside_of(search, &listing, expected);
     let answer = answer_by(
         alloc,
         machine,
@@ -207,6 +225,44 @@ fn trace_done<'a, P: Progress>(
     let question = question_of(search);
     let trace = asked_trace(alloc, machine, &question, number, progress)?;
     Ok(trace_out(alloc, trace)?)
+}
+
+/// Judges the list of the threads that may rest.
+pub(crate) fn judge_rests<'a>(
+    alloc: Global,
+    machine: &Machine,
+    search: &EndingsJob<'_>,
+) -> Result<(), Fault<'a>>
+    ensures ok { IfOk result (λ _. fault_of_rests machine.now search.now ≡ None) }
+    ensures err { IfErr result (λ fault. (fault ≡ OutOfMemory) ⊎
+        (fault_of_rests machine.now search.now ≡ Some fault)) }
+{
+    match listed_threads(alloc, machine, search.rests) {
+        Ok(_) => Ok(()),
+        Err(fault) => Err(fault),
+    }
+}
+
+// What a search for endings comes to, or that prints the trace of one.
+fn endings_done<'a, P: Progress>(
+    alloc: Global,
+    text: &[u8],
+    machine: &Machine,
+    search: &EndingsJob<'_>,
+    expected: Option<&Expectations<'_>>,
+    progress: &mut P,
+) -> Result<Done<'a>, Fault<'a>>
+    ensures ok { IfOk result (λ done.
+        IsEndingsDone search.now text.now machine.now (option_copied expected.entry)
+        (output_of done)) }
+    ensures err { IfErr result (λ fault. (fault ≡ OutOfMemory) ⊎
+        (fault_of_endings machine.now search.now ≡ Some fault)) }
+{
+    judge_rests(alloc, machine, search)?;
+    match search.trace {
+        None => answer_done(alloc, text, machine, search, expected, progress),
+        Some(number) => trace_done(alloc, machine, search, number, progress),
+    }
 }
 
 // The condition of a text.
@@ -278,11 +334,10 @@ pub(crate) fn search_done<'a, P: Progress>(
         IsSearchDone search.now text.now machine.now (option_copied expected.entry)
         (output_of done)) }
     ensures err { IfErr result (λ fault. (fault ≡ OutOfMemory) ⊎
-        (fault_of_search search.now ≡ Some fault)) }
+        (fault_of_search machine.now search.now ≡ Some fault)) }
 {
-    match (search.always, search.trace) {
-        (Some(condition), _) => condition_done(alloc, machine, search, condition, progress),
-        (None, None) => answer_done(alloc, text, machine, search, expected, progress),
-        (None, Some(number)) => trace_done(alloc, machine, search, number, progress),
+    match search.always {
+        Some(condition) => condition_done(alloc, machine, search, condition, progress),
+        None => endings_done(alloc, text, machine, search, expected, progress),
     }
 }

@@ -1,7 +1,7 @@
 //! What a job reads from and writes to: sources, sinks, and folders that open files. Unlike those
 //! of std's readers and writers, their contracts also say when a call failed.
-ghost use Rattle.std.specs.Prelude.{◌≡◌, ◌⊎◌, ℕ, Bool, List, take, true, false, Result, Ok, Err};
-ghost use Rattle.std.specs.Prelude.{IfOk, OnErr, MatchResult, Some, flat_map};
+ghost use Rattle.std.specs.Prelude.{◌≡◌, ◌⊎◌, ◌++◌, [], ℕ, Bool, List, take, true, false, Result};
+ghost use Rattle.std.specs.Prelude.{Err, IfOk, MatchResult, Ok, OnErr, Some, flat_map};
 ghost use Rattle.std.specs.Option.{option_copied};
 ghost use Rattle.std.specs.Io.KnownBytes.{Keeps};
 ghost use Rattle.std.specs.declared.io.ErrorKind.{ErrorKind as Kind};
@@ -75,6 +75,13 @@ pub trait Sink {
         ensures { MatchResult result
             (λ _. takes self.old self.new (flat_map (λ part. part.now) parts.now) true)
             (λ _. takes self.old self.new (flat_map (λ part. part.now) parts.now) false) };
+
+    /// To write nothing changes nothing.
+    ghost nothing: { (x : Self) → takes x x [] true };
+
+    /// What took bytes and then others has taken all of them, or a beginning of them all.
+    ghost joined: { (a b c : Self) (front back : List ℕ) (all : Bool) →
+        takes a b front true → takes b c back all → takes a c (front ++ back) all };
 }
 
 // Writes a beginning of the bytes, and returns what is left of them.
@@ -131,6 +138,9 @@ fn flush<W: Write>(out: &mut W) -> Result<(), NotWritten>
 }
 
 impl<W: Write> Sink for W {
+    ghost use Rattle.std.proofs.KnownBytes.{Appends-nil};
+    ghost use Rattle.l4_jobs.specs.Inner.Taking.{taken_on};
+
     ghost takes = { λ old new bytes all. MayTake (W.contents old) (W.contents new) bytes all };
 
     fn put(&mut self, bytes: &[u8]) -> Result<(), NotWritten> {
@@ -142,6 +152,11 @@ impl<W: Write> Sink for W {
         write_parts(self, parts)?;
         flush(self)
     }
+
+    ghost nothing = { λ x. Appends-nil (W.contents x) };
+
+    ghost joined = { λ a b c front back all.
+        taken_on (W.contents a) (W.contents b) (W.contents c) front back all };
 }
 
 /// A folder, in which files are opened and written by their names.

@@ -1,5 +1,5 @@
--- A fact of each thread is true of every world that a history reaches, where each change of a thread keeps it. A receive phase begins
--- only where the instruction at hand asks for one.
+-- A fact of each thread is true of every world that a history reaches, where each change of a
+-- thread keeps it. A receive phase begins only where the instruction at hand asks for one.
 use Rattle.std.proofs.Common.{subst, ◌≡◌, ℕ, zero, suc, Some, List, [], ◌∷◌, refl, ap, sym, ◌∙◌, inl, inr, ⊎_elim}
 use Rattle.std.specs.Prelude.{slice_get, ◌⊎◌}
 use Rattle.l4_model.specs.Words.{GlobalId, Id, NilThread, AnyThread, AnyLocalThread, LocalThread, GlobalThread}
@@ -75,7 +75,7 @@ sender_each : (m : Machine) (P : Fact) (w : World) (s : Name) (p : Pending) (f :
     (P p.sender.declared p.sender.now → P p.sender.declared (f p.sender.now)) → Each m P (without_send w p f)
 sender_each m P w s p f is each keep = found_each m P (unqueued w p.sender.at) s.thread p.sender f (sender_found m w s p is) each keep
 
--- OrderKind is so of the sender of an undecided send.
+-- What is so of the sender of an undecided send.
 pub sender_fact : (m : Machine) (P : Fact) (w : World) (s : Name) (p : Pending) → undecided m w s ≡ Some p → Each m P w → P p.sender.declared p.sender.now
 sender_fact m P w s p is each =
     let k = known_send m w s p is in

@@ -6,7 +6,7 @@ use Rattle.std.proofs.lemmas.List.Splits.{length-slice_split}
 use Rattle.l4_model.specs.Machine.{Machine}
 use Rattle.l4_words.specs.Lines.{parts_of}
 use Rattle.l4_script.specs.Second.Texts.{Stage}
-use Rattle.l4_lint.specs.Doubts.{Doubtful, begun_behind, doubts_from, line_doubts, second_doubts_from, second_line_doubts, stage_behind, thread_after, thread_at}
+use Rattle.l4_lint.specs.Doubts.{Doubtful, begun_behind, doubts_from, place_behind, second_doubts_from, second_line_doubts, stage_behind, thread_after, words_doubts}
 use Rattle.l4_lint.specs.Lines.{lines_of, without_last}
 use Rattle.l4_lint.specs.Second.Parts.{parts_of as parts_in_line}
 
@@ -24,32 +24,31 @@ first_line line rest text is =
     by (next ∷ parts) some count = refl
 
 -- The doubts of a line are found before those of the lines that follow it.
-pub one_more : (m : Machine) (begun number : ℕ) (found new whole : List Doubtful)
+pub one_more : (m : Machine) (begun place number : ℕ) (found new whole : List Doubtful)
     (line rest text : List ℕ) → parts_of text ≡ line ∷ parts_of rest →
-    new ≡ found ++ line_doubts m (thread_after m begun) number line →
-    found ++ doubts_from m (lines_of text) begun number ≡ whole →
-    new ++ doubts_from m (lines_of rest) (begun_behind begun line) (number + 1) ≡ whole
-one_more m begun number found new whole line rest text is adds all =
-    let here = line_doubts m (thread_after m begun) number line in
-    let behind = doubts_from m (lines_of rest) (begun_behind begun line) (number + 1) in
+    new ≡ found ++ words_doubts m (thread_after m begun) place number line line →
+    found ++ doubts_from m (lines_of text) begun place number ≡ whole →
+    new ++ doubts_from m (lines_of rest) (begun_behind begun line) (place_behind place line) (number + 1) ≡ whole
+one_more m begun place number found new whole line rest text is adds all =
+    let here = words_doubts m (thread_after m begun) place number line line in
+    let behind = doubts_from m (lines_of rest) (begun_behind begun line) (place_behind place line) (number + 1) in
     ap (λ (all : List Doubtful). all ++ behind) adds
     ∙ append_assoc found here behind
-    ∙ ap (λ (lines : List (List ℕ)). found ++ doubts_from m lines begun number)
+    ∙ ap (λ (lines : List (List ℕ)). found ++ doubts_from m lines begun place number)
     (sym (first_line line rest text is))
     ∙ all
 
-pub one_more_of_second : (m : Machine) (stage : Stage) (number : ℕ) (found new whole : List Doubtful)
+pub one_more_of_second : (m : Machine) (stage : Stage) (place number : ℕ) (found new whole : List Doubtful)
     (line rest text : List ℕ) → parts_of text ≡ line ∷ parts_of rest →
-    new ≡ found ++
-    second_line_doubts m (thread_at m (stage_behind number stage line)) number (parts_in_line line) →
-    found ++ second_doubts_from m (lines_of text) stage number ≡ whole →
-    new ++ second_doubts_from m (lines_of rest) (stage_behind number stage line) (number + 1) ≡ whole
-one_more_of_second m stage number found new whole line rest text is adds all =
+    new ≡ found ++ second_line_doubts m (stage_behind number stage line) (lines_of rest) place number (parts_in_line line) →
+    found ++ second_doubts_from m (lines_of text) stage place number ≡ whole →
+    new ++ second_doubts_from m (lines_of rest) (stage_behind number stage line) (place_behind place (parts_in_line line).words) (number + 1) ≡ whole
+one_more_of_second m stage place number found new whole line rest text is adds all =
     let after = stage_behind number stage line in
-    let here = second_line_doubts m (thread_at m after) number (parts_in_line line) in
-    let behind = second_doubts_from m (lines_of rest) after (number + 1) in
+    let here = second_line_doubts m after (lines_of rest) place number (parts_in_line line) in
+    let behind = second_doubts_from m (lines_of rest) after (place_behind place (parts_in_line line).words) (number + 1) in
     ap (λ (all : List Doubtful). all ++ behind) adds
     ∙ append_assoc found here behind
-    ∙ ap (λ (lines : List (List ℕ)). found ++ second_doubts_from m lines stage number)
+    ∙ ap (λ (lines : List (List ℕ)). found ++ second_doubts_from m lines stage place number)
     (sym (first_line line rest text is))
     ∙ all

@@ -1,5 +1,5 @@
 -- The first fault is the one that the reader of machine texts returns.
-use Rattle.std.proofs.Common.{◌≡◌, ℕ, ◌+◌, Bool, true, false, cond, List, [], ◌∷◌, length, map, Option, Some, Result, Ok, Err, refl, sym, ap, ◌∙◌}
+use Rattle.std.proofs.Common.{◌≡◌, ℕ, ◌+◌, Bool, true, false, cond, List, [], ◌∷◌, length, map, Some, Result, Ok, Err, refl, sym, ap, ◌∙◌}
 use Rattle.std.specs.Prelude.{◌==◌, nat_lt, filter, find}
 use Rattle.l4_model.specs.Machine.{Machine}
 use Rattle.l4_words.specs.Lines.{parts_of}
@@ -85,7 +85,8 @@ second_from_first whole (part ∷ next ∷ parts) stage left number =
     by (Ok after) others = others after
     by (Err k) others = refl
 
--- Both versions: `long` says that the text is too long, `of_second` that its scripts are of version 2.
+-- Both versions: `long` says that the text is too long, `of_second` that its scripts are of version
+-- 2.
 
 abbrev said : (text : List ℕ) (long of_second : Bool) → Result Machine TextFault
 said text long of_second =

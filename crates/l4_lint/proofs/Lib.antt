@@ -11,3 +11,4 @@ pub mod Silent
 pub mod Sizes
 pub mod Steps
 pub mod Sure
+pub mod Ways

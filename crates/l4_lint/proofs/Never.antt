@@ -1,12 +1,12 @@
--- What a thread whose script receives nothing never sends: a register that no tag sends, and a propagated message where no `vs` permits
--- one.
+-- What a thread whose script receives nothing never sends: a register that no tag sends, and a
+-- propagated message where no `vs` permits one.
 use Rattle.std.proofs.Common.{subst, ◌≡◌, ℕ, zero, suc, ◌+◌, ◌%◌, ◌<◌, ◌≤◌, Bool, true, false, cond, Option, Some, None, List, [], ◌∷◌, length, drop, refl, ap, sym, ◌∙◌, arith}
 use Rattle.std.specs.Prelude.{◌==◌, ◌/◌, ◌*◌, ◌^◌, not, ◌&&◌, ◌||◌, nat_lt, nat_le, is_some, slice_get, IfSome}
 use Rattle.std.specs.List.{list_any, list_all}
 use Rattle.std.proofs.lemmas.Bool.{and_parts, or_from, or_parts, ltb-true, leb-true, leb-false, eqb-true}
 use Rattle.std.proofs.lemmas.List.{length-take}
 use Rattle.std.proofs.lemmas.Slice.Eq.{bytes_eq-Decides}
-use Rattle.l4_model.specs.Words.{Format, GlobalId, Id, NilThread, AnyThread, AnyLocalThread, LocalThread, GlobalThread, same_id, last_register}
+use Rattle.l4_model.specs.Words.{GlobalId, Id, NilThread, AnyThread, AnyLocalThread, LocalThread, GlobalThread, same_id, last_register}
 use Rattle.l4_model.specs.Machine.{Machine, Declaration, IdFrom, Fixed, Last, InRegister, Assign, Instr, Run, Tag, Vs, Ipc, Ask, Jump, OnErr, OnLabel, OnWord, OnFrom, End, place_of, instruction_at}
 use Rattle.l4_model.specs.World.{World, Message, Context, Name, opening}
 use Rattle.l4_model.specs.Rules.{permitted, originator, message_of, register, received_tag, is_cross, bit}
@@ -18,7 +18,8 @@ use Rattle.l4_model.proofs.Places.{same_id_is, known_send, eqb_same}
 use Rattle.l4_model.proofs.Requests.{message_short}
 use Rattle.l4_script.specs.Canonical.{is_register}
 use Rattle.l4_lint.specs.Always.{delivers_register, delivers_propagated}
-use Rattle.l4_lint.specs.Doubts.{uses, may_receive, is_taken_from, names_originator, asks_to_propagate}
+use Rattle.l4_lint.specs.Doubts.{names_originator, asks_to_propagate}
+use Rattle.l4_lint.specs.Scripts.{uses, may_receive, is_taken_from}
 use Rattle.l4_lint.proofs.Changes.{Each, step_each, sender_fact}
 use Rattle.l4_lint.proofs.Silent.{Allows, IsClosed, Silent, is_kept, opening_silent}
 

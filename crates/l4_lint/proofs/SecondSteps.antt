@@ -1,5 +1,5 @@
 -- Reading a text with scripts of version 2 line by line.
-use Rattle.std.proofs.Common.{◌≡◌, ℕ, ◌+◌, Bool, true, false, cond, List, [], ◌∷◌, ◌++◌, sym, ap, ◌∙◌, append-nil}
+use Rattle.std.proofs.Common.{◌≡◌, ℕ, ◌+◌, Bool, cond, List, [], ◌∷◌, ◌++◌, sym, ap, ◌∙◌}
 use Rattle.l4_words.specs.Lines.{parts_of}
 use Rattle.l4_words.proofs.Parts.{has_part}
 use Rattle.l4_lint.specs.Found.{Fault}

@@ -1,5 +1,5 @@
--- A thread whose script receives nothing: what its tag register and its register ActualSender have is what the script writes there, and
--- so is what it sends.
+-- A thread whose script receives nothing: what its tag register and its register ActualSender have
+-- is what the script writes there, and so is what it sends.
 use Rattle.std.proofs.Common.{subst, ◌≡◌, ℕ, zero, suc, ◌<◌, Bool, true, false, Option, Some, None, List, [], ◌∷◌, refl, ap, sym, arith}
 use Rattle.std.specs.Prelude.{slice_index, slice_set, IfSome}
 use Rattle.std.specs.Option.{option_map}
@@ -14,7 +14,8 @@ use Rattle.l4_model.proofs.Keeping.{opening_is}
 use Rattle.l4_model.proofs.Requests.{act_request}
 use Rattle.l4_lint.proofs.Changes.{Fact, Each, IsKept}
 
--- OrderKind is asked of an instruction: it receives nothing, writes the tag register as a tag alone, and keeps a fact of both registers.
+-- What is asked of an instruction: it receives nothing, writes the tag register as a tag alone, and
+-- keeps a fact of both registers.
 abbrev pub Allows : (ℕ → Id → Type 0) → Instr → Type 0
 Allows C (Run (Assign a value)) = 0 < a
 Allows C (Tag word) = (tag : ℕ) (actual : Id) → C tag actual → C word actual
@@ -22,7 +23,8 @@ Allows C (Vs from) = (tag : ℕ) (actual : Id) → C tag actual → (c : Context
 Allows C (Ipc to from send_period receive_period) = from ≡ Fixed NilThread
 Allows C _ = Unit {0}
 
--- A script keeps a fact of both registers, and each message that such registers give has a fact too.
+-- A script keeps a fact of both registers, and each message that such registers give has a fact
+-- too.
 pub record IsClosed (m : Machine) (d : Declaration) (C : ℕ → Id → Type 0) (M : Message → Type 0) : Type 0 where
   pub each : (place : ℕ) → Allows C (instruction_at d.script place)
   pub fresh : C 0 NilThread
@@ -70,7 +72,7 @@ waits_not_after (Ipc to from send_period receive_period) = refl
 waits_not_after (Ask target what) = refl
 waits_not_after End = refl
 
--- OrderKind an instruction asks for that receives nothing
+-- What an instruction asks for that receives nothing
 
 ipc_calls_nobody : (m : Machine) (id : GlobalId) (now : ℕ) (c : Context) (to : Id) (period : Period) (send : Send) →
     send_of (ipc_act m id now c to period None) ≡ Some send → send.receive ≡ None

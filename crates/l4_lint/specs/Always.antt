@@ -1,6 +1,8 @@
 -- What a doubt that is marked `always` says. It holds in every history of the machine that the text
 -- declares.
-use Rattle.std.specs.Prelude.{ℕ, ◌≡◌, ◌+◌, ◌-◌, Bool, true, false, not, ◌&&◌, ◌||◌, nat_lt, nat_le, if◌then◌else◌, Option, Ok, unwrap_or, IsSomeAnd, List, [], ◌∷◌, length, take}
+use Rattle.std.specs.Prelude.{ℕ, ◌≡◌, ◌+◌, ◌-◌, Bool, true, false, not, ◌&&◌, ◌||◌, nat_lt, nat_le}
+use Rattle.std.specs.Prelude.{if◌then◌else◌, Option, Ok, unwrap_or, IsSomeAnd, List, [], ◌∷◌}
+use Rattle.std.specs.Prelude.{length, take}
 use Rattle.std.specs.List.{AllByRecursion, count_by, list_any}
 use Rattle.l4_model.specs.Words.{GlobalId, same_id}
 use Rattle.l4_model.specs.Machine.{Declaration, Delete, Machine, OrderKind}
@@ -12,9 +14,11 @@ use Rattle.l4_script.specs.Numbers.{number_of}
 use Rattle.l4_script.specs.Second.Texts as second
 use Rattle.l4_script.specs.Versions.{machine_of_text}
 use Rattle.l4_lint.specs.declared.doubts.Doubt.{Doubt}
-use Rattle.l4_lint.specs.declared.doubts.Doubt.TheVariants.{NoThread, NotSent, NotPropagated, OtherSpace}
+use Rattle.l4_lint.specs.declared.doubts.Doubt.TheVariants.{NoThread, NotSent, NotPropagated}
+use Rattle.l4_lint.specs.declared.doubts.Doubt.TheVariants.{OtherSpace}
 use Rattle.l4_lint.specs.declared.doubts.Mark.TheVariants.{Always}
-use Rattle.l4_lint.specs.Doubts.{Doubtful, asks_to_propagate, marked, stage_behind, thread_after, thread_at}
+use Rattle.l4_lint.specs.Doubts.{Doubtful, asks_to_propagate, marked, stage_behind, thread_after}
+use Rattle.l4_lint.specs.Doubts.{thread_at}
 use Rattle.l4_lint.specs.Lines.{lines_of}
 use Rattle.l4_lint.specs.Reading.{begins_script}
 
@@ -58,8 +62,8 @@ cancels caller target (Order c t what) =
 cancels caller target _ = false
 
 -- Of an id: no step names the thread. Of a register that is written: no delivered message of the
--- script's thread has it. Of a tag: none is propagated. Of a thread of another space: no order of the
--- script's thread cancels what it does. Of the others nothing is certain.
+-- script's thread has it. Of a tag: none is propagated. Of a thread of another space: no order of
+-- the script's thread cancels what it does. Of the others nothing is certain.
 abbrev pub Says : Doubt → (word : List ℕ) → Option Declaration → List Step → Type 0
 Says NoThread word thread h = IsSomeAnd (thread_of word) (λ t. NoStep (names_thread t) h)
 Says NotSent word thread h =

@@ -1,5 +1,5 @@
 -- The bytes of a line.
-use Rattle.std.specs.Prelude.{ℕ, ◌+◌, Bool, true, not, ◌&&◌, ◌==◌, nat_eq, nat_lt, nat_le}
+use Rattle.std.specs.Prelude.{ℕ, ◌+◌, Bool, not, ◌&&◌, ◌==◌, nat_eq, nat_le}
 use Rattle.std.specs.Prelude.{if◌then◌else◌, Option, List, [], ◌∷◌}
 use Rattle.std.specs.List.{position, before_first, after_first, starts_with}
 use Rattle.l4_lint.specs.declared.hints.Hint.{Hint}

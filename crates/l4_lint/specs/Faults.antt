@@ -1,20 +1,16 @@
 -- The faults of a text.
-use Rattle.std.specs.Prelude.{ℕ, false, ◌+◌, ◌-◌, Bool, ◌==◌, nat_lt, if◌then◌else◌, Option, Some}
-use Rattle.std.specs.Prelude.{None, unwrap_or, Result, Ok, Err, List, [], ◌∷◌, length, map, filter}
-use Rattle.std.specs.Prelude.{slice_get}
-use Rattle.l4_model.specs.Machine.{Machine}
+use Rattle.std.specs.Prelude.{ℕ, false, ◌+◌, Bool, ◌==◌, nat_lt, if◌then◌else◌, Option, Some}
+use Rattle.std.specs.Prelude.{None, Ok, Err, List, [], ◌∷◌, length, map, filter}
 use Rattle.l4_words.specs.Lines.{parts_of}
 use Rattle.l4_script.specs.declared.text.fault.TextFault.{TextFault}
 use Rattle.l4_script.specs.declared.text.fault.TextFaultKind.{TextFaultKind}
 use Rattle.l4_script.specs.declared.text.fault.TextFaultKind.TheVariants as kinds
 use Rattle.l4_script.specs.Faults.{fault_at}
 use Rattle.l4_script.specs.Judged.{Judged}
-use Rattle.l4_script.specs.Texts.{Target, Stage, Start, Processors, Threads, is_missed}
+use Rattle.l4_script.specs.Texts.{Target, Stage, Start, Threads, is_missed}
 use Rattle.l4_script.specs.Texts as texts
 use Rattle.l4_script.specs.Second.Texts.{begins_second}
 use Rattle.l4_lint.specs.declared.hints.Hint.TheVariants as hints
-use Rattle.l4_lint.specs.declared.hints.Lines.TheVariants as these
-use Rattle.l4_lint.specs.Bytes.{behind}
 use Rattle.l4_lint.specs.Contexts.{context_at}
 use Rattle.l4_lint.specs.Forms.{line_place}
 pub use Rattle.l4_lint.specs.Found.{Fault, fault, fault_in, unended}

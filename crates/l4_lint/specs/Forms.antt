@@ -1,6 +1,6 @@
 -- The place of a line's fault.
 use Rattle.std.specs.Prelude.{ℕ, ◌+◌, true, ◌||◌, ◌==◌, nat_eq, if◌then◌else◌, Option, Some, None}
-use Rattle.std.specs.Prelude.{List, [], ◌∷◌, length, codes, slice_index, slice_range}
+use Rattle.std.specs.Prelude.{List, [], length, codes, slice_index, slice_range}
 use Rattle.std.specs.List.{starts_with}
 use Rattle.l4_script.specs.declared.text.fault.TextFaultKind.{TextFaultKind}
 use Rattle.l4_script.specs.declared.text.fault.TextFaultKind.TheVariants as kinds

@@ -1,6 +1,6 @@
 -- Whether a word is right in its place.
 use Rattle.std.specs.Prelude.{ℕ, ◌/◌, ◌%◌, ◌^◌, ◌-◌, Bool, true, false, not, ◌&&◌, ◌||◌, ◌==◌}
-use Rattle.std.specs.Prelude.{nat_le, nat_lt, if◌then◌else◌, Option, Some, None, is_some, Result}
+use Rattle.std.specs.Prelude.{nat_le, nat_lt, if◌then◌else◌, Option, Some, None, is_some}
 use Rattle.std.specs.Prelude.{Ok, Err, is_ok, List, length, codes, drop}
 use Rattle.std.specs.List.{before_first, after_first, list_all, list_any, position}
 use Rattle.std.specs.Str.{bytes_eq}
@@ -13,6 +13,7 @@ use Rattle.l4_script.specs.declared.text.fault.TextFaultKind.TheVariants as kind
 use Rattle.l4_script.specs.Judged.{Judged}
 use Rattle.l4_script.specs.Numbers.{number_of, number_from, word_from, time_from}
 use Rattle.l4_script.specs.Ids.{thread_in, id_of}
+use Rattle.l4_script.specs.Second.Names.{is_digit}
 use Rattle.l4_script.specs.Statements.{processor_of, destination_of, bits_of}
 use Rattle.l4_lint.specs.declared.hints.Hint.{Hint}
 use Rattle.l4_lint.specs.declared.hints.Hint.TheVariants as hints
@@ -77,9 +78,6 @@ id_hint wanted word =
     else hints.Wanted wanted)
 
 -- Digits of a hexadecimal number, in either case, and those that are letters.
-
-abbrev pub is_digit : (byte : ℕ) → Bool
-is_digit byte = nat_le 48 byte && nat_le byte 57
 
 abbrev pub is_capital_digit : (byte : ℕ) → Bool
 is_capital_digit byte = nat_le 65 byte && nat_le byte 70

@@ -12,6 +12,7 @@ pub mod Judging
 pub mod Lines
 pub mod Places
 pub mod Reading
+pub mod Scripts
 pub mod Second
 pub mod Spelling
 pub mod Walks

@@ -1,12 +1,12 @@
 -- How far a text has been read.
-use Rattle.std.specs.Prelude.{ℕ, ◌+◌, Bool, true, false, not, ◌&&◌, ◌||◌, if◌then◌else◌, Option}
-use Rattle.std.specs.Prelude.{Some, None, Result, Ok, Err, List, [], ◌∷◌, codes}
+use Rattle.std.specs.Prelude.{ℕ, Bool, true, false, not, ◌&&◌, ◌||◌, if◌then◌else◌, Option}
+use Rattle.std.specs.Prelude.{Some, None, Ok, List, [], ◌∷◌, codes}
 use Rattle.std.specs.Str.{bytes_eq}
 use Rattle.l4_model.specs.Words.{Format}
 use Rattle.l4_script.specs.Judged.{Judged, ◌>>=◌}
 use Rattle.l4_script.specs.Lines.{line_of}
 use Rattle.l4_script.specs.Statements.{instruction_of}
-use Rattle.l4_script.specs.Texts.{Stage, Start, Processors, Threads, after_line}
+use Rattle.l4_script.specs.Texts.{Stage, Threads, after_line}
 use Rattle.l4_lint.specs.Bytes.{word_of}
 
 -- What comes next; whether the last `thread` line was faulty, so that a script of no thread
@@ -19,8 +19,8 @@ pub record Reader : Type 0 where
 abbrev pub reader : Stage → (lost faulty : Bool) → Reader
 reader stage lost faulty = record { stage = stage; lost = lost; faulty = faulty }
 
-abbrev pub begins_script : (line : List ℕ) → Bool
-begins_script line = bytes_eq (word_of line) (codes "thread")
+abbrev pub begins_script : (words : List ℕ) → Bool
+begins_script words = bytes_eq (word_of words) (codes "thread")
 
 -- A line of a script of no thread is judged as an instruction, and changes nothing.
 abbrev pub words_form : Format → List (List ℕ) → Judged (Unit {0})

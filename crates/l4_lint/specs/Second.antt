@@ -5,3 +5,4 @@ pub mod Judging
 pub mod Names
 pub mod Parts
 pub mod Reading
+pub mod Unused

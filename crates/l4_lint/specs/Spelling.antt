@@ -10,7 +10,7 @@ use Rattle.l4_lint.specs.declared.hints.Lines.{Lines}
 use Rattle.l4_lint.specs.declared.hints.Lines.TheVariants as these
 use Rattle.l4_lint.specs.declared.hints.Operand.{Operand}
 use Rattle.l4_lint.specs.declared.hints.Operand.TheVariants as operand
-use Rattle.l4_lint.specs.Faults.{Fault, faults_of}
+use Rattle.l4_lint.specs.Faults.{Fault}
 
 abbrev pub kind_word : TextFaultKind → List ℕ
 kind_word kinds.TooLong = codes "TooLong"

@@ -3,7 +3,9 @@ ghost use Rattle.std.specs.Prelude.{◌≡◌};
 ghost use Rattle.std.specs.Option.{option_copied};
 ghost use Rattle.l4_lint.specs.Commands.{instruction_operands, first_operand, operands_behind};
 ghost use Rattle.l4_lint.specs.Commands.{operands_of};
+ghost use Rattle.l4_lint.specs.Reading.{begins_script};
 
+use crate::bytes::split_word;
 use crate::hints::{Lines, Operand};
 
 pub(crate) const FORMAT: &[u8] = b"l4";
@@ -141,4 +143,11 @@ pub(crate) fn operands_of(lines: Lines, name: &[u8]) -> Option<&'static [Operand
         Lines::Script if name == THREAD => Some(THREAD_OPERANDS),
         Lines::Script => instruction_operands(name),
     }
+}
+
+/// Whether words begin with `thread`: a script follows.
+pub(crate) fn begins_script(words: &[u8]) -> bool
+    ensures { result ≡ begins_script words.now }
+{
+    split_word(words).0 == THREAD
 }

@@ -2,11 +2,12 @@
 ghost use Rattle.std.specs.Prelude.{◌≡◌, ◌<◌, IfSome, is_some, length};
 ghost use Rattle.l4_types.specs.Inner.FormatView.{format_of};
 ghost use Rattle.l4_script.specs.Numbers.{number_of, word_from};
+ghost use Rattle.l4_script.specs.Second.Names.{is_digit};
 ghost use Rattle.l4_lint.specs.Judging.{is_one_of, is_untyped, is_right, is_keyword, is_threadless};
 ghost use Rattle.l4_lint.specs.Judging.{has_no_thread, id_hint, number_hint, operand_hint};
 ghost use Rattle.l4_lint.specs.Judging.{are_digits, has_capital, has_capital_prefix, has_capitals};
 ghost use Rattle.l4_lint.specs.Judging.{has_letter, has_unit, number_end};
-ghost use Rattle.l4_lint.specs.Judging.{is_capital_digit, is_digit, is_letter_digit};
+ghost use Rattle.l4_lint.specs.Judging.{is_capital_digit, is_letter_digit};
 ghost use Rattle.l4_lint.specs.Judging.{is_like_hexadecimal, is_time, is_unit, lacks_prefix};
 ghost use Rattle.l4_lint.specs.Inner.Views.{context_of};
 

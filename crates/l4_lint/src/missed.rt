@@ -1,5 +1,5 @@
 //! Lines that name a place which their script does not have.
-ghost use Rattle.std.specs.Prelude.{◌≡◌, ◌≤◌, ◌-◌, ◌++◌, All, filter, length, map, IfOk, OnOk};
+ghost use Rattle.std.specs.Prelude.{◌≡◌, ◌≤◌, ◌++◌, All, filter, length, map, IfOk, OnOk};
 ghost use Rattle.l4_words.specs.Lines.{parts_of};
 ghost use Rattle.l4_script.specs.Texts.{is_missed};
 ghost use Rattle.l4_lint.specs.Faults.{line_at, missed_fault};

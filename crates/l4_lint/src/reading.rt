@@ -1,17 +1,16 @@
 //! How far a text has been read.
-ghost use Rattle.std.specs.Prelude.{◌≡◌, ◌≢◌, false, IfErr, OnErr, OnOk};
+ghost use Rattle.std.specs.Prelude.{◌≡◌, ◌≢◌, false, IfErr};
 ghost use Rattle.l4_types.specs.Inner.FormatView.{format_of};
 ghost use Rattle.l4_script.specs.Judged.{Leads};
 ghost use Rattle.l4_script.specs.Inner.Stages.{stage_of};
 ghost use Rattle.l4_script.specs.Texts.{Start};
 ghost use Rattle.l4_script.specs.declared.text.fault.TextFaultKind.TheVariants as kinds;
 ghost use Rattle.l4_lint.specs.Contexts.{context_at};
-ghost use Rattle.l4_lint.specs.Reading.{reader, goes_on, begins_script, instruction_form};
+ghost use Rattle.l4_lint.specs.Reading.{reader, goes_on, instruction_form};
 ghost use Rattle.l4_lint.specs.Reading.{lost_form, is_lost, judged, led_on, left_out};
 ghost use Rattle.l4_lint.specs.Inner.Views.{context_of, reader_of};
 
-use crate::bytes::split_word;
-use crate::commands::THREAD;
+use crate::commands::begins_script;
 use crate::contexts::Context;
 use l4_script::text::{Stage, TextFaultKind, instruction, words_of};
 use l4_types::formats::Format;
@@ -27,12 +26,6 @@ pub(crate) struct Reader {
     pub(crate) lost: bool,
     /// Whether any line was faulty.
     pub(crate) faulty: bool,
-}
-
-fn begins_script(line: &[u8]) -> bool
-    ensures { result ≡ begins_script line.now }
-{
-    split_word(line).0 == THREAD
 }
 
 /// Judges a line as an instruction.

@@ -1,5 +1,5 @@
 //! The faults of a text with scripts of version 2.
-ghost use Rattle.std.specs.Prelude.{◌≡◌, ◌≤◌, ◌++◌, ◌∷◌, [], List, if◌then◌else◌, map, length};
+ghost use Rattle.std.specs.Prelude.{◌≡◌, ◌≤◌, ◌++◌, [], List, if◌then◌else◌, map, length};
 ghost use Rattle.std.specs.Prelude.{IfOk, OnOk, All};
 ghost use Rattle.std.specs.Option.{option_copied, option_map};
 ghost use Rattle.l4_words.specs.Lines.{parts_of};
@@ -8,7 +8,8 @@ ghost use Rattle.l4_script.specs.Second.Texts.{ended as stage_ended};
 ghost use Rattle.l4_lint.specs.Found.{Fault as FaultView, fault_in};
 ghost use Rattle.l4_lint.specs.Lines.{lines_of};
 ghost use Rattle.l4_lint.specs.Second.Faults.{ended, faults_from, followed, line_fault, looked_in};
-ghost use Rattle.l4_lint.specs.Second.Faults.{missed_fault, missed_faults, not_read, step, text_ends};
+ghost use Rattle.l4_lint.specs.Second.Faults.{missed_fault, missed_faults, not_read, step};
+ghost use Rattle.l4_lint.specs.Second.Faults.{text_ends};
 ghost use Rattle.l4_lint.specs.Second.Reading.{Reader as ReaderView};
 ghost use Rattle.l4_lint.specs.Inner.Views.{fault_of, second_reader_of, second_step_of};
 
@@ -18,11 +19,13 @@ mod judging;
 mod names;
 mod parts;
 mod reading;
+mod unused;
 
 use crate::faults::{Fault, keep, next_line, unended};
 use crate::hints::{Hint, Lines};
 use crate::missed;
 use crate::places::Place;
+pub(crate) use commands::is_instruction;
 use forms::{line_place, missed_place};
 use l4_script::text::second::Stage;
 use l4_script::text::{TextFault, TextFaultKind};
@@ -30,6 +33,7 @@ use l4_types::errors::NoMemory;
 pub(crate) use parts::{Parts, parts_of};
 use reading::Reader;
 use std::alloc::Global;
+pub(crate) use unused::{is_name_looked_for, is_unused_name};
 
 /// The fault of a text that ends in front of its second line.
 fn text_ends<'a>(number: usize) -> Fault<'a>

@@ -1,8 +1,9 @@
 //! The lines of faults.
-ghost use Rattle.std.specs.Prelude.{◌≡◌, ◌++◌, codes, decimal, flat_map, map, OnOk};
+ghost use Rattle.std.specs.Prelude.{◌≡◌, ◌++◌, flat_map, map, OnOk};
 ghost use Rattle.std.specs.Char.Escape.{escape_ascii};
 ghost use Rattle.std.specs.Option.{option_copied};
-ghost use Rattle.l4_lint.specs.Spelling.{kind_word, operand_text, lines_text, plain_hint, hint_text};
+ghost use Rattle.l4_lint.specs.Spelling.{kind_word, operand_text, lines_text, plain_hint};
+ghost use Rattle.l4_lint.specs.Spelling.{hint_text};
 ghost use Rattle.l4_lint.specs.Spelling.{counted_text, declared_text, near_text, near_times_text};
 ghost use Rattle.l4_lint.specs.Spelling.{shown_word, place_text, fault_line, faults_text};
 ghost use Rattle.l4_lint.specs.Inner.Views.{fault_of};

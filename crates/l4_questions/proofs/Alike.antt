@@ -1,7 +1,6 @@
 -- Core runs that come to rest in similar states are stuck alike.
 use Rattle.std.proofs.Common.{◌≡◌, ℕ, zero, suc, ◌<◌, Bool, true, Option, Some, None, List, [], ◌∷◌, filter, length, map, refl, ap, ap₂, sym, subst, ◌∙◌, arith}
 use Rattle.std.specs.Prelude.{◌||◌, is_some, slice_index_or}
-use Rattle.std.specs.List.{list_any}
 use Rattle.std.specs.Option.{option_map}
 use Rattle.std.proofs.lemmas.Bool.{and_parts}
 use Rattle.std.proofs.Math.ListN.{get_or-map}
@@ -19,7 +18,9 @@ use Rattle.l4_refines.proofs.Law.{RunFacts, run_facts}
 use Rattle.l4_refines.proofs.Relation.Rows.{Agrees, AgreesIn, learned}
 use Rattle.l4_refines.proofs.Relation.Views.{home, is_about, kept, locators, nowhere}
 use Rattle.l4_bisimilar.specs.InCommon.{thread_at}
-use Rattle.l4_futures.specs.Stuck.{is_closed, is_stuck_thread, is_stuck_world}
+use Rattle.l4_futures.specs.Stuck.{is_closed, is_stuck_thread}
+use Rattle.l4_questions.specs.Resting.{stuck_in}
+use Rattle.l4_questions.proofs.SameStuck.{stuck_by_marks}
 
 -- A thread of the world is stuck as the one at home with which it agrees.
 agrees : (a t : Thread) (p : Phase) → t.phase ≡ p → AgreesIn p a t →
@@ -99,29 +100,30 @@ same_at_home m g h place similar =
     ∙ get_or-map relative_thread (at h) place opening_thread)
     ∙ stuck_timeless (at_home m h place)
 
-any_alike : (ts us : List Thread) → length ts ≡ length us → ((i : ℕ) → i < length ts →
+marks_alike : (ts us : List Thread) → length ts ≡ length us → ((i : ℕ) → i < length ts →
     is_stuck_thread (slice_index_or ts i opening_thread)
     ≡ is_stuck_thread (slice_index_or us i opening_thread)) →
-    list_any is_stuck_thread ts ≡ list_any is_stuck_thread us
-any_alike [] [] same each = refl
-any_alike [] (u ∷ us) same each = cc
-any_alike (t ∷ ts) [] same each = cc
-any_alike (t ∷ ts) (u ∷ us) same each =
-    ap₂ (λ (b c : Bool). b || c) (each 0 (omega arith))
-    (any_alike ts us (omega (arith, same)) (λ i inside. each (suc i) (omega (arith, inside))))
+    map is_stuck_thread ts ≡ map is_stuck_thread us
+marks_alike [] [] same each = refl
+marks_alike [] (u ∷ us) same each = cc
+marks_alike (t ∷ ts) [] same each = cc
+marks_alike (t ∷ ts) (u ∷ us) same each =
+    ap₂ (λ (b : Bool) (rest : List Bool). b ∷ rest) (each 0 (omega arith))
+    (marks_alike ts us (omega (arith, same)) (λ i inside. each (suc i) (omega (arith, inside))))
 
 pub stuck_alike : (m : Machine) → IsMachine m → (r s : Run) → IsCoreRun m r → IsCoreRun m s →
     at_rest m r.system ≡ true → at_rest m s.system ≡ true → IsShifted r.system s.system →
     (w v : World) → reached m (told r.events) ≡ Some w → reached m (told s.events) ≡ Some v →
-    is_stuck_world w ≡ is_stuck_world v
+    stuck_in m w ≡ stuck_in m v
 stuck_alike m machine r s run other rests stays similar w v here there =
     let f = run_facts m r machine run in
     let g = run_facts m s machine other in
     let one = (reached_facts m (told r.events) f.world f.reaches).threads_counted in
     let two = (reached_facts m (told s.events) g.world g.reaches).threads_counted in
-    ap is_stuck_world (some_is w f.world (sym here ∙ f.reaches))
-    ∙ any_alike f.world.threads g.world.threads (one ∙ sym two) (λ i inside.
+    ap (stuck_in m) (some_is w f.world (sym here ∙ f.reaches))
+    ∙ stuck_by_marks m f.world g.world
+    (marks_alike f.world.threads g.world.threads (one ∙ sym two) (λ i inside.
     let among : i < length m.threads = omega (arith, inside, one) in
     stuck_at_home m r f rests i among ∙ same_at_home m r.system s.system i similar
-    ∙ sym (stuck_at_home m s g stays i among))
-    ∙ ap is_stuck_world (some_is g.world v (sym g.reaches ∙ there))
+    ∙ sym (stuck_at_home m s g stays i among)))
+    ∙ ap (stuck_in m) (some_is g.world v (sym g.reaches ∙ there))

@@ -1,9 +1,10 @@
 -- What is so of the endings that were found is so of each one that a listed one stands for.
 use Rattle.std.proofs.Common.{◌≡◌, ℕ, zero, suc, Bool, true, false, not, cond, Option, Some, None, List, [], ◌∷◌, refl, ap, ap₂, subst, sym, ◌∙◌}
 use Rattle.std.specs.Prelude.{◌&&◌, filter, is_none, slice_get}
-use Rattle.std.specs.List.{list_all}
+use Rattle.std.specs.List.{list_all, list_any}
 use Rattle.std.specs.Option.{option_copied}
 use Rattle.std.proofs.lemmas.Bool.{and_parts}
+use Rattle.l4_model.specs.Words.{GlobalId}
 use Rattle.l4_model.specs.Machine.{Machine}
 use Rattle.l4_model.specs.World.{World}
 use Rattle.l4_model.specs.Steps.{Step}
@@ -14,7 +15,6 @@ use Rattle.l4_common_lines.proofs.Expected.{met_alike}
 use Rattle.l4_common_lines.proofs.Lines.{lines_in_common}
 use Rattle.l4_expect.specs.Expected.{Expected}
 use Rattle.l4_expect.specs.Unmet.{are_met}
-use Rattle.l4_futures.specs.Stuck.{is_stuck_world}
 use Rattle.l4_bisimilar.specs.InCommon.{HaveInCommon}
 use Rattle.l4_lines.specs.Lines.{line_fault}
 use Rattle.l4_lines.specs.declared.lines.LineFault.{LineFault}
@@ -23,17 +23,18 @@ use Rattle.l4_questions.specs.Answers.{ending_after, ending_in, ending_or_none}
 use Rattle.l4_questions.specs.Asked.{asked_of, has_asked, if_stuck, is_asked, lacks_asked}
 use Rattle.l4_questions.specs.Endings.{Ending}
 use Rattle.l4_questions.specs.Printed.{meets}
+use Rattle.l4_questions.specs.Resting.{counts, stuck_in}
 use Rattle.l4_questions.specs.Runs.{AsksForLines, may_ask}
 use Rattle.l4_questions.specs.declared.question.Question.{Question}
 
 -- Two endings whose reports have lines in common, and that are stuck alike
 pub record AreLike (e f : Ending) : Type 0 where
   pub common : HaveLinesInCommon e.report f.report
-  pub stuck : e.is_stuck ≡ f.is_stuck
+  pub stuck : e.stuck ≡ f.stuck
 
 -- So are those of worlds that have in common what is told of them.
 pub worlds_like : (m : Machine) (h k : List Step) (w v : World) → reached m h ≡ Some w →
-    reached m k ≡ Some v → HaveInCommon m w v → is_stuck_world w ≡ is_stuck_world v →
+    reached m k ≡ Some v → HaveInCommon m w v → stuck_in m w ≡ stuck_in m v →
     AreLike (ending_in m h w) (ending_after m k)
 worlds_like m h k w v here there alike stuck =
     subst (AreLike (ending_in m h w)) (sym (ap (ending_or_none m k) there)) (record {
@@ -60,7 +61,7 @@ module _ (e f : Ending) (like : AreLike e f) where
   pub asked_alike : (q : Question) → AsksForLines q → is_asked q e ≡ is_asked q f
   asked_alike q may =
       ap₂ (λ (lines none : Bool). lines && none)
-      (ap₂ (λ (waits some : Bool). if_stuck q.stuck waits && some) like.stuck
+      (ap₂ (λ (stuck : List GlobalId) (some : Bool). if_stuck q.stuck (list_any (counts q) stuck) && some) like.stuck
       (has_alike (option_copied q.with_line) may.with_line))
       (lacks_alike (option_copied q.never) may.never)
 

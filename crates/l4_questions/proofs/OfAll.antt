@@ -18,7 +18,6 @@ use Rattle.l4_refines.proofs.Law.{run_facts}
 use Rattle.l4_states.specs.Endings.{IsAmong, ending_at}
 use Rattle.l4_persistent.specs.Endings.{AreAllEndings, IsEnding}
 use Rattle.l4_futures.specs.Endings.{AreAllEndings as AreAllWorldEndings, IsEnding as IsWorldEnding}
-use Rattle.l4_futures.proofs.Stuck.{stuck_same}
 use Rattle.l4_quiet.proofs.Replays.{replay_run}
 use Rattle.l4_questions.specs.Answers.{ending_after, ending_in, ending_or_none, endings_after}
 use Rattle.l4_questions.specs.Asked.{is_asked}
@@ -28,6 +27,7 @@ use Rattle.l4_questions.specs.Runs.{ComesToRest}
 use Rattle.l4_questions.specs.declared.question.Question.{Question}
 use Rattle.l4_questions.proofs.Alike.{stuck_alike}
 use Rattle.l4_questions.proofs.Asking.{worlds_like, AreLike, IsLikeOne}
+use Rattle.l4_questions.proofs.SameStuck.{stuck_as_good}
 
 pub found : (m : Machine) (traces : List (List Step)) (depth : ℕ) →
     AreAllWorldEndings m traces depth true → (h : List Step) (w : World) → IsWorldEnding m h w →
@@ -40,7 +40,7 @@ found m traces depth all h w ending =
       at = get-map (ending_after m) traces one.place one.trace one.at;
       like =
           worlds_like m h one.trace w one.world ending.comes.reaches one.reaches
-          (as_good_in_common m w one.world one.as_good) (stuck_same w one.world one.as_good);
+          (as_good_in_common m w one.world one.as_good) (stuck_as_good m w one.world one.as_good);
     }
 
 -- The ending at a place is of a run that rests.

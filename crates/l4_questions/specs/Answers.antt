@@ -9,7 +9,6 @@ use Rattle.l4_model.specs.History.{reached, view, waiting as undecided_sends}
 use Rattle.l4_all_endings.specs.Tried.{schedules_from}
 use Rattle.l4_expect.specs.Expected.{Expected}
 use Rattle.l4_futures.specs.Endings.{length_of, AreAllEndings, HasLooked, IsEnding}
-use Rattle.l4_futures.specs.Stuck.{is_stuck_world}
 use Rattle.l4_futures.specs.Traces.{trace_along}
 use Rattle.l4_reports.specs.ReportLines.{report_text}
 use Rattle.l4_trace.specs.Lines.{has_line, trace_of}
@@ -20,6 +19,7 @@ use Rattle.l4_questions.specs.Asked.{asks, is_asked}
 use Rattle.l4_questions.specs.Endings.{Ending}
 use Rattle.l4_questions.specs.Limits.{most_looked, question_fault}
 use Rattle.l4_questions.specs.Printed.{IsTold}
+use Rattle.l4_questions.specs.Resting.{stuck_in}
 use Rattle.l4_questions.specs.Stuck.{is_any, stuck_lines, stuck_status, stuck_traces, AreAskedStuck}
 use Rattle.l4_stuck.specs.Stuck.{Stuck}
 use Rattle.l4_questions.specs.declared.question.Question.{Question}
@@ -42,7 +42,7 @@ ending_in m trace w = record {
   waits = waits_text m w;
   machine = m;
   trace = trace;
-  is_stuck = is_stuck_world w;
+  stuck = stuck_in m w;
 }
 
 abbrev pub no_ending : Machine → (trace : List Step) → Ending
@@ -52,7 +52,7 @@ no_ending m trace = record {
   waits = [];
   machine = m;
   trace = trace;
-  is_stuck = false;
+  stuck = [];
 }
 
 abbrev pub ending_or_none : Machine → (trace : List Step) → Option World → Ending
@@ -155,11 +155,11 @@ pub record IsTraceAnswer (m : Machine) (q : Question) (number : ℕ) (lines : Op
 abbrev pub NoneIsReached : Machine → Question → Type 0
 NoneIsReached m q =
     (h : List Step) (w : World) → IsEnding m h w →
-    asks q (is_stuck_world w) (report_in m h w) ≡ false
+    asks q (stuck_in m w) (report_in m h w) ≡ false
 
 -- What it says where one should exist: some history comes to an ending that is asked for.
 pub record OneIsReached (m : Machine) (q : Question) : Type 0 where
   pub history : List Step
   pub world : World
   pub ending : IsEnding m history world
-  pub asked : asks q (is_stuck_world world) (report_in m history world) ≡ true
+  pub asked : asks q (stuck_in m world) (report_in m history world) ≡ true

@@ -1,5 +1,6 @@
 -- An ending that a search found, as far as a question asks about it and an answer tells it.
-use Rattle.std.specs.Prelude.{ℕ, Bool, List}
+use Rattle.std.specs.Prelude.{ℕ, List}
+use Rattle.l4_model.specs.Words.{GlobalId}
 use Rattle.l4_model.specs.Machine.{Machine}
 use Rattle.l4_model.specs.Steps.{Step}
 
@@ -13,5 +14,5 @@ pub record Ending : Type 0 where
   -- the history that comes to it, of this machine
   pub machine : Machine
   pub trace : List Step
-  -- a thread waits there that may wait for ever
-  pub is_stuck : Bool
+  -- the threads that wait there and may wait for ever
+  pub stuck : List GlobalId

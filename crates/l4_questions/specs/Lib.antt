@@ -9,6 +9,8 @@ pub mod Met
 pub mod Placed
 pub mod Printed
 pub mod Quiet
+pub mod Resting
 pub mod Runs
 pub mod Stuck
+pub mod Told
 pub mod Walked

@@ -5,8 +5,8 @@ use Rattle.l4_questions.specs.declared.question.Question.{Question}
 use Rattle.l4_questions.specs.declared.question.QuestionFault.{QuestionFault}
 use Rattle.l4_questions.specs.declared.question.QuestionFault.TheVariants.{Depth, States, Memory}
 
--- The greatest depth of a search, the greatest number of its states or worlds, and the most memory for
--- them in MiB.
+-- The greatest depth of a search, the greatest number of its states or worlds, and the most memory
+-- for them in MiB.
 abbrev pub most_deep : ℕ
 most_deep = 1000000
 

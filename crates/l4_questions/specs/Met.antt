@@ -7,13 +7,13 @@ use Rattle.l4_model.specs.History.{reached}
 use Rattle.l4_core_model.specs.Runs.{Run}
 use Rattle.l4_types.specs.declared.reports.Ending.TheVariants.{Quiet}
 use Rattle.l4_futures.specs.Endings.{IsEnding}
-use Rattle.l4_futures.specs.Stuck.{is_stuck_world}
 use Rattle.l4_machine.specs.Outcomes.{Findings}
 use Rattle.l4_expect.specs.Expected.{Expected}
 use Rattle.l4_expect.specs.Unmet.{are_met}
 use Rattle.l4_questions.specs.Answers.{report_in}
 use Rattle.l4_questions.specs.Asked.{asks}
 use Rattle.l4_questions.specs.Placed.{is_asked_after, report_of_run}
+use Rattle.l4_questions.specs.Resting.{stuck_in}
 use Rattle.l4_questions.specs.Runs.{ComesToRest}
 use Rattle.l4_questions.specs.declared.question.Question.{Question}
 
@@ -21,14 +21,14 @@ use Rattle.l4_questions.specs.declared.question.Question.{Question}
 abbrev pub EachIsMet : Machine → Question → List Expected → Type 0
 EachIsMet m q expected =
     (h : List Step) (w : World) → IsEnding m h w →
-    asks q (is_stuck_world w) (report_in m h w) ≡ true →
+    asks q (stuck_in m w) (report_in m h w) ≡ true →
     are_met (report_in m h w) expected ≡ true
 
 -- If the ending of a run is quiet, the world that it came to meets it, if the question asks for it.
 abbrev pub QuietIsMet : Machine → Question → List Expected → Findings → Type 0
 QuietIsMet m q expected o =
     o.ending ≡ Quiet → (w : World) → reached m o.history ≡ Some w →
-    asks q (is_stuck_world w) (report_in m o.history w) ≡ true →
+    asks q (stuck_in m w) (report_in m o.history w) ≡ true →
     are_met (report_in m o.history w) expected ≡ true
 
 -- So does each core run that comes to rest, and whose ticks go to least deadlines.

@@ -6,10 +6,10 @@ use Rattle.l4_model.specs.Steps.{Step}
 use Rattle.l4_model.specs.History.{reached}
 use Rattle.l4_types.specs.declared.reports.Ending.TheVariants.{Quiet}
 use Rattle.l4_futures.specs.Endings.{length_of, IsListed}
-use Rattle.l4_futures.specs.Stuck.{is_stuck_world}
 use Rattle.l4_machine.specs.Outcomes.{Findings}
 use Rattle.l4_questions.specs.Answers.{report_in}
 use Rattle.l4_questions.specs.Asked.{asks}
+use Rattle.l4_questions.specs.Resting.{stuck_in}
 use Rattle.l4_questions.specs.declared.question.Question.{Question}
 
 -- If the ending of a run is quiet, a listed trace leads to a world as good as the one it came to.
@@ -22,4 +22,4 @@ QuietIsListed m traces o =
 abbrev pub QuietIsNotAsked : Machine → Question → Findings → Type 0
 QuietIsNotAsked m q o =
     o.ending ≡ Quiet → (w : World) → reached m o.history ≡ Some w →
-    asks q (is_stuck_world w) (report_in m o.history w) ≡ false
+    asks q (stuck_in m w) (report_in m o.history w) ≡ false

@@ -1,5 +1,5 @@
 -- Which threads are stuck for ever, as an answer tells it.
-use Rattle.std.specs.Prelude.{ℕ, zero, suc, ◌≡◌, ◌&&◌, Bool, true, false, Option, None, Some, is_none, List, [], ◌∷◌, ◌++◌, codes, decimal, map, slice_get}
+use Rattle.std.specs.Prelude.{ℕ, zero, suc, ◌≡◌, ◌&&◌, Bool, true, false, Option, None, Some, is_none, List, [], ◌∷◌, ◌++◌, codes, decimal, filter, map, slice_get}
 use Rattle.std.specs.List.{AllByRecursion}
 use Rattle.l4_model.specs.Machine.{Machine, Declaration}
 use Rattle.l4_model.specs.Steps.{Step}
@@ -9,6 +9,7 @@ use Rattle.l4_stuck.specs.Stuck.{stuck_from, AreStuckThreads, IsStuck, Stuck}
 use Rattle.l4_stuck.specs.declared.search.StuckThread.{StuckThread}
 use Rattle.l4_words.specs.Lines.{line_of_words}
 use Rattle.l4_words.specs.Threads.{thread_word}
+use Rattle.l4_questions.specs.Resting.{counts}
 use Rattle.l4_questions.specs.declared.question.Question.{Question}
 use Rattle.l4_questions.specs.declared.question.Wanted.{Wanted}
 use Rattle.l4_questions.specs.declared.question.Wanted.TheVariants.{Whatever, NoEnding, AnEnding}
@@ -17,13 +18,29 @@ use Rattle.l4_questions.specs.declared.question.Wanted.TheVariants.{Whatever, No
 abbrev pub asks_who_is_stuck : Question → Bool
 asks_who_is_stuck q = q.stuck && is_none q.with_line && is_none q.never
 
--- Where they are asked for, these are the threads that may get stuck for ever.
-abbrev pub AreAsked : (asked : Bool) → Machine → List Stuck → (is_whole : Bool) → Type 0
-AreAsked true m stuck is_whole = AreStuckThreads m stuck is_whole
-AreAsked false m stuck is_whole = (stuck ≡ []) × (is_whole ≡ true)
+-- Of the threads that may get stuck for ever, those that may rest are not told.
+
+abbrev pub counts_one : Question → Option Declaration → Bool
+counts_one q None = true
+counts_one q (Some d) = counts q d.id
+
+abbrev pub counts_at : Machine → Question → (thread : ℕ) → Bool
+counts_at m q thread = counts_one q (slice_get m.threads thread)
+
+pub record AreTold (m : Machine) (q : Question) (stuck : List Stuck) (is_whole : Bool) :
+    Type 0 where
+  pub all : List Stuck
+  pub all_are : AreStuckThreads m all is_whole
+  pub told : stuck ≡ filter (λ s. counts_at m q s.thread) all
+
+-- Where they are asked for, these are told.
+abbrev pub AreAsked : (asked : Bool) → Machine → Question → List Stuck → (is_whole : Bool) →
+    Type 0
+AreAsked true m q stuck is_whole = AreTold m q stuck is_whole
+AreAsked false m q stuck is_whole = (stuck ≡ []) × (is_whole ≡ true)
 
 abbrev pub AreAskedStuck : Machine → Question → List Stuck → (is_whole : Bool) → Type 0
-AreAskedStuck m q stuck is_whole = AreAsked (asks_who_is_stuck q) m stuck is_whole
+AreAskedStuck m q stuck is_whole = AreAsked (asks_who_is_stuck q) m q stuck is_whole
 
 abbrev pub AreAllStuck : Machine → List StuckThread → Type 0
 AreAllStuck m threads = AllByRecursion (λ t. IsStuck m (stuck_from t)) threads

@@ -1,12 +1,11 @@
 //! An ending that a search found.
 ghost use Rattle.std.specs.Prelude.{◌≡◌, ◌++◌, IfOk, OnOk};
-ghost use Rattle.std.specs.List.{list_any};
 ghost use Rattle.std.specs.Option.{option_map};
 ghost use Rattle.l4_futures.specs.Stuck.{names_one};
 ghost use Rattle.l4_model.specs.History.{IsHistory};
 ghost use Rattle.l4_questions.specs.Answers.{ending_after};
 ghost use Rattle.l4_questions.specs.Beside.{chart_as};
-ghost use Rattle.l4_questions.specs.Inner.Found.{is_stuck_wait, report_by};
+ghost use Rattle.l4_questions.specs.Inner.Found.{is_stuck_wait, report_by, stuck_among, stuck_by};
 ghost use Rattle.l4_questions.specs.Printed.{chart_in, head_line};
 
 use crate::beside::AskedChart;
@@ -30,7 +29,7 @@ pub(crate) struct FoundEnding<'m> {
     // What stands behind its number in its first line.
     head: Vec<u8>,
     report: Vec<u8>,
-    is_stuck: bool,
+    stuck: Vec<GlobalId>,
     machine: &'m Machine,
     // It is a history, and comes to this ending.
     trace: History,
@@ -51,7 +50,7 @@ impl<'m> Model for FoundEnding<'m> {
       waits = waits_text f.auditor.at.machine f.auditor.at.world;
       machine = f.machine.now;
       trace = f.trace.steps;
-      is_stuck = f.is_stuck;
+      stuck = f.stuck.items;
     } };
 
     ghost invariant = { λ f. IsHistory f.machine.now f.trace.steps };
@@ -78,11 +77,11 @@ impl<'m> FoundEnding<'m> {
         };
         let report = report_of(alloc, &auditor)?;
         let waits = auditor.waits(alloc)?;
-        let is_stuck = are_any_stuck(&waits);
+        let stuck = stuck_among(alloc, &waits)?;
         Ok(FoundEnding {
             head,
             report,
-            is_stuck,
+            stuck,
             machine,
             trace,
             auditor,
@@ -96,11 +95,11 @@ impl<'m> FoundEnding<'m> {
         self.report.as_slice()
     }
 
-    /// Whether a thread waits there that may wait for ever.
-    pub(crate) fn is_stuck(&self) -> bool
-        ensures { result ≡ self.now.is_stuck }
+    /// The threads that wait there and may wait for ever.
+    pub(crate) fn stuck(&self) -> &[GlobalId]
+        ensures { result.now ≡ self.now.stuck }
     {
-        self.is_stuck
+        self.stuck.as_slice()
     }
 
     /// Appends its first line, with this number.
@@ -179,8 +178,23 @@ fn is_stuck_wait(wait: &Wait) -> bool
     }
 }
 
-fn are_any_stuck(waits: &[(GlobalId, Wait)]) -> bool
-    ensures { result ≡ list_any (λ w. is_stuck_wait w.1) waits.now }
+// Those of the threads that wait which may wait for ever.
+fn stuck_among(alloc: Global, waits: &[(GlobalId, Wait)]) -> Result<Vec<GlobalId>, NoMemory>
+    ensures { IfOk result (λ stuck. stuck.items ≡ stuck_among waits.now) }
 {
-    waits.iter().any(|waiting| is_stuck_wait(&waiting.1))
+    let mut stuck = Vec::new(alloc);
+    for waiting in waits {
+        push_stuck(waiting, &mut stuck)?;
+    }
+    Ok(stuck)
+}
+
+// Appends a thread that waits, if it may wait for ever.
+fn push_stuck(waiting: &(GlobalId, Wait), stuck: &mut Vec<GlobalId>) -> Result<(), NoMemory>
+    ensures { OnOk result (stuck.new.items ≡ stuck.old.items ++ stuck_by waiting.now) }
+{
+    if is_stuck_wait(&waiting.1) {
+        stuck.push(waiting.0)?;
+    }
+    Ok(())
 }

@@ -1,22 +1,19 @@
 //! The answer to a question, ending by ending.
-ghost use Rattle.std.specs.Prelude.{◌≡◌, ◌++◌, ◌∷◌, ◌+◌, ◌^◌, ◌<◌, ◌≤◌, [], Bool, List, Option};
-ghost use Rattle.std.specs.Prelude.{IfOk, OnOk, length, map};
-ghost use Rattle.std.specs.List.{AllByRecursion};
+ghost use Rattle.std.specs.Prelude.{◌≡◌, ◌++◌, ◌+◌, [], Bool, List, Option, IfOk, OnOk, false};
+ghost use Rattle.std.specs.Prelude.{length};
 ghost use Rattle.std.specs.Option.{option_copied};
 ghost use Rattle.l4_expect.specs.Expected.{Expected};
-ghost use Rattle.l4_questions.specs.Endings.{Ending};
-ghost use Rattle.l4_questions.specs.Printed.{ending_text, status_of_asked, status_of_search};
-ghost use Rattle.l4_questions.specs.Printed.{unmet_of, IsTold};
-ghost use Rattle.l4_questions.specs.Inner.Writing.{AreWritten};
-ghost use Rattle.l4_questions.specs.declared.question.Question.{Question as AskedQuestion};
 ghost use Rattle.l4_questions.specs.Beside.{Shown, shown_as};
+ghost use Rattle.l4_questions.specs.Endings.{Ending};
+ghost use Rattle.l4_questions.specs.Printed.{ending_text, endings_text, status_of_asked};
+ghost use Rattle.l4_questions.specs.Printed.{status_of_search, unmet_of, IsTold};
+ghost use Rattle.l4_questions.specs.Inner.Counted.{IsCounted};
+ghost use Rattle.l4_questions.specs.Inner.Faults.{fault_of, fault_without};
 
-use crate::asked::is_asked;
 use crate::beside::{Beside, status_beside, write_unmet};
 use crate::found::FoundEnding;
-use crate::listed::Listed;
-use crate::question::{Question, Wanted};
-use l4_script::machine::Machine;
+use crate::question::{Question, QuestionFault, Wanted};
+use crate::teller::TellFault;
 use l4_types::errors::NoMemory;
 use std::alloc::Global;
 
@@ -35,125 +32,122 @@ pub struct Answer {
     pub status: u8,
 }
 
-/// What is written of the endings so far.
+/// What is known of the endings that were told so far.
 #[derive(Drop)]
-pub(crate) struct Written {
-    lines: Vec<u8>,
-    unmet: Vec<u8>,
+pub(crate) struct Told {
+    // What of them is not met.
+    pub(crate) unmet: Vec<u8>,
     // How many of them are asked for.
-    count: usize,
+    pub(crate) count: usize,
+    // Whether there is any, asked for or not.
+    pub(crate) is_any: bool,
+    // Whether not all lines were taken.
+    pub(crate) is_refused: bool,
 }
 
-impl Written {
-    // What is written before the first ending.
-    fn new(alloc: Global) -> Written
-        ensures written { (q : AskedQuestion) (shown : Shown) (expected : Option (List Expected))
-            (all : List Ending) → AreWritten q shown expected all all result }
+impl Told {
+    /// Before the first ending.
+    pub(crate) fn new(alloc: Global) -> Told
+        ensures unmet { result.unmet.items ≡ [] }
         ensures count { result.count ≡ 0 }
+        ensures any { result.is_any ≡ false }
+        ensures whole { result.is_refused ≡ false }
     {
-        Written {
-            lines: Vec::new(alloc),
+        Told {
             unmet: Vec::new(alloc),
             count: 0,
+            is_any: false,
+            is_refused: false,
         }
     }
 
-    // Appends an ending that is asked for, with its number.
-    fn write_asked(
+    /// Appends an ending that is asked for to `lines`, with its number.
+    ///
+    /// `NoMemory`: memory was refused, or there are more endings than a number counts.
+    pub(crate) fn write(
         &mut self,
         alloc: Global,
         beside: Beside<'_, '_>,
         found: FoundEnding<'_>,
+        lines: &mut Vec<u8>,
     ) -> Result<(), NoMemory>
-        requires room { self.old.count + 1 < 2 ^ 64 }
-        ensures lines { OnOk result (self.new.lines.items ≡ self.old.lines.items ++
+        ensures lines { OnOk result (lines.new.items ≡ lines.old.items ++
             ending_text (shown_as beside.entry.shown) (self.old.count + 1) found.entry) }
         ensures unmet { OnOk result (self.new.unmet.items ≡ self.old.unmet.items ++
             unmet_of (option_copied beside.entry.expected) (self.old.count + 1) found.entry) }
         ensures count { OnOk result (self.new.count ≡ self.old.count + 1) }
+        ensures any { self.new.is_any ≡ self.old.is_any }
+        ensures whole { self.new.is_refused ≡ self.old.is_refused }
     {
-        let number = self.count + 1;
-        found.write_head(number, &mut self.lines)?;
+        let Some(number) = self.count.checked_add(1) else {
+            return Err(NoMemory);
+        };
+        found.write_head(number, lines)?;
         let chart = found.chart(alloc, beside.shown.chart)?;
-        self.lines.extend_from_slice(&chart)?;
-        self.lines.extend_from_slice(found.report())?;
+        lines.extend_from_slice(&chart)?;
+        lines.extend_from_slice(found.report())?;
         write_unmet(beside.expected, number, &found, &mut self.unmet)?;
         self.count = number;
         if !beside.shown.waits {
             return Ok(());
         }
-        found.write_waits(alloc, &mut self.lines)
+        found.write_waits(alloc, lines)
     }
 
-    // Writes the next ending, if the question asks for it.
-    fn write(
-        &mut self,
-        alloc: Global,
-        question: &Question<'_>,
-        beside: Beside<'_, '_>,
-        found: FoundEnding<'_>,
-    ) -> Result<(), NoMemory>
-        requires room { self.old.count + 1 < 2 ^ 64 }
-        ensures written { OnOk result ((all left : List Ending) →
-            AreWritten question.now (shown_as beside.entry.shown) (option_copied beside.entry.expected)
-            all (found.entry ∷ left) self.old →
-            AreWritten question.now (shown_as beside.entry.shown) (option_copied beside.entry.expected)
-            all left self.new) }
-        ensures count { OnOk result (self.new.count ≤ self.old.count + 1) }
+    /// Why telling came to its end.
+    pub(crate) fn fault(&self) -> TellFault
+        ensures { result ≡ fault_of self.now.is_refused }
     {
-        if !is_asked(question, &found) {
-            return Ok(());
+        if self.is_refused {
+            TellFault::NotTold
+        } else {
+            TellFault::NoAnswer(QuestionFault::NoMemory)
         }
-        self.write_asked(alloc, beside, found)?;
-        Ok(())
     }
 
-    /// The answer, with what the search says of itself last.
-    ///
-    /// `NoMemory`: memory was refused.
+    /// The answer behind the endings: these lines are left.
     pub(crate) fn into_answer(
         self,
         question: &Question<'_>,
-        last: &[u8],
+        lines: Vec<u8>,
         is_whole: bool,
-    ) -> Result<Answer, NoMemory>
-        ensures { IfOk result (λ answer. (shown : Shown) (expected : Option (List Expected))
-            (endings : List Ending) →
-            AreWritten question.now shown expected endings [] self →
-            IsTold question.now shown expected endings last.now is_whole answer.lines.items
-            answer.unmet.items answer.status) }
+    ) -> Answer
+        ensures { (shown : Shown) (expected : Option (List Expected)) (endings : List Ending) →
+            IsCounted question.now expected endings self →
+            IsTold question.now shown expected endings lines.items is_whole
+            (endings_text shown question.now endings ++ result.lines.items) result.unmet.items
+            result.status }
     {
-        let mut lines = self.lines;
-        lines.extend_from_slice(last)?;
         let status = status_of(question.wanted, self.count, is_whole);
-        Ok(Answer {
+        Answer {
             status: status_beside(self.unmet.as_slice(), status),
             lines,
             unmet: self.unmet,
-        })
+        }
     }
 }
 
-/// What is written of the endings that a search lists. It keeps one at a time.
+/// An answer, with the lines that were told before its own.
 ///
 /// `NoMemory`: memory was refused.
-pub(crate) fn written_endings<E: Listed>(
-    alloc: Global,
-    machine: &Machine,
-    question: &Question<'_>,
-    beside: Beside<'_, '_>,
-    endings: &[E],
-) -> Result<Written, NoMemory>
-    requires { AllByRecursion (E.leads machine.now) endings.now }
-    ensures { IfOk result (AreWritten question.now (shown_as beside.entry.shown)
-        (option_copied beside.entry.expected) (map (E.ending machine.now) endings.now) []) }
+pub(crate) fn with_told(told: Vec<u8>, answer: Answer) -> Result<Answer, NoMemory>
+    ensures lines { IfOk result (λ whole. whole.lines.items ≡ told.items ++ answer.lines.items) }
+    ensures unmet { IfOk result (λ whole. whole.unmet.items ≡ answer.unmet.items) }
+    ensures status { IfOk result (λ whole. whole.status ≡ answer.status) }
 {
-    let mut written = Written::new(alloc);
-    for entries in endings {
-        let found = entries.ending(alloc, machine)?;
-        written.write(alloc, question, beside, found)?;
+    let mut lines = told;
+    lines.extend_from_slice(&answer.lines)?;
+    Ok(Answer { lines, ..answer })
+}
+
+/// The fault of an answer that is told to a vector: it takes not all where memory is refused.
+pub(crate) fn fault_without(fault: TellFault) -> QuestionFault
+    ensures { result ≡ fault_without fault }
+{
+    match fault {
+        TellFault::NoAnswer(fault) => fault,
+        TellFault::NotTold => QuestionFault::NoMemory,
     }
-    Ok(written)
 }
 
 /// The exit status where it is not asked how many endings there are.

@@ -25,7 +25,7 @@ ghost use Rattle.l4_futures.specs.Endings.{AreAllEndings as AreAllWorldEndings};
 ghost use Rattle.l4_questions.specs.Placed.{IsPlacedAnswer};
 ghost use Rattle.l4_questions.specs.Quiet.{QuietIsListed, QuietIsNotAsked};
 ghost use Rattle.l4_forever.specs.Moves.{IsNeverStuck};
-ghost use Rattle.l4_questions.specs.Stuck.{asks_who_is_stuck};
+ghost use Rattle.l4_questions.specs.Stuck.{asks_who_is_stuck, counts_at};
 ghost use Rattle.l4_questions.specs.Runs.{AsksForLines, ComesToRest, NoneIsAsked, StandsFor};
 ghost use Rattle.l4_questions.specs.declared.question.Question.{Question as AskedQuestion};
 ghost use Rattle.l4_questions.specs.declared.question.Wanted.TheVariants.{AnEnding, NoEnding};
@@ -41,13 +41,13 @@ pub fn law_none_is_reached()
 {}
 
 /// Status 0, where a question asks that nothing be stuck, says that no history makes a thread stuck
-/// for ever, whether the text comes to rest or not.
+/// for ever that the question counts, whether the text comes to rest or not.
 pub fn law_nobody_is_stuck()
     ensures { (m : Machine) (q : AskedQuestion) (shown : Shown)
         (expected : Option (List Expected)) (lines unmet : List ℕ) →
         asks_who_is_stuck q ≡ true → q.wanted ≡ NoEnding →
         IsAnyAnswer m q shown expected lines unmet 0 → (thread : ℕ) → thread < length m.threads →
-        IsNeverStuck m thread }
+        counts_at m q thread ≡ true → IsNeverStuck m thread }
 {}
 
 /// Status 0, where a question asks that such an ending exist, says that one does: a history of the

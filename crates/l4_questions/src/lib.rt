@@ -11,6 +11,9 @@
 //! and `met` says of them what is expected of these. `always_answer` asks no endings, but whether any
 //! world on the way meets a condition, and `always_trace` is the trace of a history that comes there.
 //!
+//! `told_answer` and `told_placed_answer` tell each ending as soon as it is found to a `Teller`, and
+//! return what stands behind the endings. The bytes are the same.
+//!
 //! ```rust
 //! let question = Question { stuck: true, wanted: Wanted::NoEnding, ..Question::new(1_000, 100_000) };
 //! let answer = answer(alloc, &machine, &question, Beside::nothing(), &mut Unheard)?;
@@ -30,12 +33,15 @@ pub mod met;
 mod placed_answering;
 mod printed;
 pub mod question;
+mod resting;
 mod stuck;
+pub mod teller;
+mod telling;
 mod traces;
 mod walked;
 
 pub use always::{always_answer, always_trace};
-pub use answering::answer;
+pub use answering::{answer, told_answer};
 pub use judged::Answer;
-pub use placed_answering::placed_answer;
+pub use placed_answering::{placed_answer, told_placed_answer};
 pub use traces::asked_trace;

@@ -43,11 +43,14 @@ pub struct Question<'a> {
     /// The greatest number of worlds or states that are looked at, 1 to 100,000,000. Any other
     /// number is the fault `States`.
     pub states: u64,
-    /// The most memory for them in MiB, 1 to 1,048,576: so many bytes are counted for each, 128 and 8
-    /// for each thread of the machine. Any other number is the fault `Memory`.
+    /// The most memory for them in MiB, 1 to 1,048,576: so many bytes are counted for each, 128 and
+    /// 8 for each thread of the machine. Any other number is the fault `Memory`.
     pub memory: u64,
     /// Only endings in which a send waits, or a thread receives from one thread alone.
     pub stuck: bool,
+    /// Threads that do not count as stuck, by their ids with commas between them: a thread that
+    /// waits for an interrupt rests in a receive from one thread. An item that is no id names none.
+    pub rests: Option<&'a str>,
     /// Only endings whose report has such a line.
     pub with_line: Option<&'a str>,
     /// Only endings whose report has no such line.
@@ -85,6 +88,7 @@ impl<'a> Question<'a> {
           states = states;
           memory = 2048;
           stuck = false;
+          rests = None;
           with_line = None;
           never = None;
           wanted = Whatever;
@@ -95,6 +99,7 @@ impl<'a> Question<'a> {
             states,
             memory: USUAL_MEMORY,
             stuck: false,
+            rests: None,
             with_line: None,
             never: None,
             wanted: Wanted::Whatever,

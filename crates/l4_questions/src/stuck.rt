@@ -1,12 +1,15 @@
 //! Threads that are stuck for ever, as an answer tells them.
-ghost use Rattle.std.specs.Prelude.{◌≡◌, ◌<◌, ◌++◌, IfOk, OnOk, codes, false, slice_get, true};
+ghost use Rattle.std.specs.Prelude.{◌≡◌, ◌<◌, ◌++◌, IfOk, OnOk, codes, false, filter, slice_get};
+ghost use Rattle.std.specs.Prelude.{true};
 ghost use Rattle.std.specs.String.{string_bytes};
 ghost use Rattle.l4_stuck.specs.Stuck.{stuck_from, stuck_of, AreStuckThreads, IsStuck};
-ghost use Rattle.l4_questions.specs.Stuck.{asks_who_is_stuck, cut_status, declared_word, is_any};
+ghost use Rattle.l4_questions.specs.Stuck.{asks_who_is_stuck, counts_at, cut_status, declared_word};
+ghost use Rattle.l4_questions.specs.Stuck.{is_any};
 ghost use Rattle.l4_questions.specs.Stuck.{stuck_line};
 ghost use Rattle.l4_questions.specs.Stuck.{stuck_lines, stuck_status, AreAllStuck, AreAskedStuck};
 
 use crate::question::{Question, Wanted};
+use crate::resting::counts;
 use l4_explore::progress::Progress;
 use l4_outlooks::know_times;
 use l4_script::machine::Machine;
@@ -22,7 +25,7 @@ fn asks_who_is_stuck(question: &Question<'_>) -> bool
     question.stuck && question.with_line.is_none() && question.never.is_none()
 }
 
-/// The threads that may get stuck for ever, where a question asks for them.
+/// The threads that may get stuck for ever, where a question asks for them, and counts them.
 ///
 /// `NoMemory`: memory was refused.
 pub(crate) fn asked_stuck<P: Progress>(
@@ -38,12 +41,36 @@ pub(crate) fn asked_stuck<P: Progress>(
         r.is_whole) }
 {
     if asks_who_is_stuck(question) {
-        return stuck_threads(alloc, machine, depth, most, progress);
+        let found = stuck_threads(alloc, machine, depth, most, progress)?;
+        return Ok(told_of(machine, question, found));
     }
     Ok(FoundThreads {
         threads: Vec::new(alloc),
         is_whole: true,
     })
+}
+
+// Whether a question counts the thread at a place of the order of declaration.
+fn counts_at(machine: &Machine, question: &Question<'_>, thread: usize) -> bool
+    ensures { result ≡ counts_at machine.now question.now thread }
+{
+    match machine.threads().get(thread) {
+        Some(declared) => counts(question, declared.id()),
+        None => true,
+    }
+}
+
+// Those of the threads that are stuck for ever which may not rest.
+fn told_of(machine: &Machine, question: &Question<'_>, found: FoundThreads) -> FoundThreads
+    ensures threads { stuck_of result.threads.items ≡
+        filter (λ s. counts_at machine.now question.now s.thread) (stuck_of found.threads.items) }
+    ensures whole { result.is_whole ≡ found.is_whole }
+{
+    let mut found = found;
+    found
+        .threads
+        .retain(|stuck| counts_at(machine, question, stuck.thread));
+    found
 }
 
 // Appends a space and the thread at a place of the order of declaration.

@@ -3,8 +3,8 @@
 //!
 //! It runs machine texts and prints what happened, and audits what is said to have happened. What
 //! is printed for which words is proved in `l4_jobs`. This file has what needs a system: it refuses
-//! arguments that are not UTF-8 with status 2, reports refused memory, and shows on a terminal how
-//! far a search has come.
+//! arguments that are not UTF-8 with status 2, reports refused memory, paints lines for a terminal,
+//! and shows there how far a search has come.
 //!
 //! No contract says what the system's files and streams do. `.ci/command-lines` tries them with the
 //! built program: a full device, a closed pipe, a folder for a file.
@@ -19,15 +19,18 @@
 
 mod progress;
 
-use crate::progress::ProgressLine;
+use crate::progress::{BesideLine, LinePlace, ProgressLine};
+use l4_colours::outputs::{Output, PaintedOutput, is_painted};
 use l4_explore::progress::Progress;
 use l4_jobs::fault::{Fault, report};
 use l4_jobs::perform::perform_on_files;
 use l4_jobs::refusal::refuse;
 use l4_jobs::streams::{STANDARD_INPUT, Sink, Source, WithInput};
-use l4_jobs::words::job_of;
+use l4_jobs::words::asked_of;
 use std::alloc::{AllocError, Global};
-use std::io::IsTerminal;
+use std::cell::Cell;
+use std::env::VarError;
+use std::io::{IsTerminal, Write};
 use std::process::ExitCode;
 use std::rt::{Env, Files};
 use std::thread::Threads;
@@ -46,11 +49,27 @@ fn columns<R: Env + AllocGlobal>(rt: &R) -> u64 {
     }
 }
 
+// Whether a variable of the environment is set to anything but an empty text.
+fn is_set<R: Env + AllocGlobal>(rt: &R, name: &str) -> bool {
+    match env::var(rt, name) {
+        Ok(value) => !value.as_str().is_empty(),
+        Err(error) => !matches!(error, VarError::NotPresent),
+    }
+}
+
+fn output<R: Env + AllocGlobal>(rt: &R, is_terminal: bool) -> Output {
+    Output {
+        is_terminal: shows_lines(rt, is_terminal),
+        is_uncoloured: is_set(rt, "NO_COLOR"),
+    }
+}
+
 // Does what the words ask for.
 fn on_words<
     R: Files + Env + AllocGlobal + Threads + Sync,
     I: Source + Copy + Drop,
-    W: Sink,
+    W: Write,
+    T: Sink + Drop,
     E: Sink,
     P: Progress,
 >(
@@ -60,19 +79,27 @@ fn on_words<
     explains: bool,
     input: I,
     out: &mut W,
+    line: LinePlace<'_, T>,
     faults: &mut E,
     progress: &mut P,
 ) -> u8 {
-    match job_of(rt.alloc(), words) {
-        Ok(job) => {
-            let job = job.on_output(shows_lines(rt, is_terminal), columns(rt));
+    match asked_of(rt.alloc(), words) {
+        Ok(asked) => {
+            let output = output(rt, is_terminal);
+            let job = asked.job.on_output(output.is_terminal, columns(rt));
+            let alloc = rt.alloc();
+            let mut out = BesideLine {
+                out: PaintedOutput::new(alloc, out, is_painted(&asked, output)),
+                line,
+            };
             let folder = WithInput {
                 folder: rt,
                 input,
                 input_name: STANDARD_INPUT,
             };
-            let alloc = rt.alloc();
-            perform_on_files(rt, alloc, &folder, explains, &job, out, faults, progress)
+            perform_on_files(
+                rt, alloc, &folder, explains, &job, &mut out, faults, progress,
+            )
         }
         Err(fault) => refuse(rt.alloc(), &fault, out, faults),
     }
@@ -85,7 +112,8 @@ fn texts<'a>(alloc: Global, words: &'a [String]) -> Result<Vec<&'a str>, AllocEr
 fn run_program<
     R: Files + Env + AllocGlobal + Threads + Sync,
     I: Source + Copy + Drop,
-    W: Sink,
+    W: Write,
+    T: Sink + Drop,
     E: Sink,
     P: Progress,
 >(
@@ -94,6 +122,7 @@ fn run_program<
     explains: bool,
     input: I,
     out: &mut W,
+    line: LinePlace<'_, T>,
     faults: &mut E,
     progress: &mut P,
 ) -> u8 {
@@ -119,6 +148,7 @@ fn run_program<
             explains,
             input,
             out,
+            line,
             faults,
             progress,
         ),
@@ -129,14 +159,20 @@ fn run_program<
 fn main(rt: HostRuntime) -> ExitCode {
     let is_terminal = rt.stdout().is_terminal();
     let is_shown = shows_lines(&rt, rt.stderr().is_terminal());
+    let is_there = Cell::new(false);
     let mut terminal = rt.stderr();
-    let mut progress = ProgressLine::new(&rt, &mut terminal, is_shown);
+    let mut progress = ProgressLine::new(&rt, &mut terminal, is_shown, &is_there);
+    let line = LinePlace {
+        terminal: rt.stderr(),
+        is_there: &is_there,
+    };
     ExitCode::from(run_program(
         &rt,
         is_terminal,
         is_shown,
         rt.stdin(),
         &mut rt.stdout(),
+        line,
         &mut rt.stderr(),
         &mut progress,
     ))

@@ -1,5 +1,5 @@
 -- A core run under way in the program, behind some choices.
-use Rattle.std.specs.Prelude.{ℕ, ◌*◌, ◌≤◌, ◌≡◌, Some, List, IsSome, length}
+use Rattle.std.specs.Prelude.{ℕ, ◌*◌, ◌≤◌, ◌≡◌, Some, List, length}
 use Rattle.std.specs.List.{AllByRecursion}
 use Rattle.l4_model.specs.Words.{period_limit}
 use Rattle.l4_model.specs.Machine.{Machine}
@@ -7,10 +7,7 @@ use Rattle.l4_core_model.specs.Runs.{Run, opening_system}
 use Rattle.l4_states.specs.Choices.{after_choices}
 use Rattle.l4_machine.specs.UnderWay.{UnderWay, IsRun}
 use Rattle.l4_persistent.proofs.Slow.{AreSlow}
-
--- Choices lead to a state.
-abbrev pub AreChoices : Machine → List ℕ → Type 0
-AreChoices m numbers = IsSome (after_choices m (opening_system m) numbers)
+pub use Rattle.l4_endings.specs.Told.{AreChoices}
 
 -- It is a core run to the state that these choices lead to, with one event for each.
 pub record IsWalked (m : Machine) (numbers : List ℕ) (w : UnderWay) : Type 0 where

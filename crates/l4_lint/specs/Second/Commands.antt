@@ -1,5 +1,6 @@
 -- What may stand behind the first word of a line with scripts of version 2.
-use Rattle.std.specs.Prelude.{ℕ, ◌==◌, ◌||◌, if◌then◌else◌, Option, Some, None, List, [], ◌∷◌, length, codes}
+use Rattle.std.specs.Prelude.{ℕ, ◌==◌, ◌||◌, if◌then◌else◌, Option, Some, None, is_some, Bool, List}
+use Rattle.std.specs.Prelude.{[], ◌∷◌, length, codes}
 use Rattle.std.specs.Str.{bytes_eq}
 use Rattle.l4_lint.specs.declared.hints.Operand.{Operand}
 use Rattle.l4_lint.specs.declared.hints.Operand.TheVariants as operand
@@ -27,8 +28,8 @@ heirs_operands =
     ∷ operand.Processor ∷ operand.SpaceKeyword ∷ operand.Space ∷ operand.AsKeyword ∷ operand.Heir
     ∷ []
 
--- Which one it is, by the words behind the first one: the second of them, and whether there are more
--- than five.
+-- Which one it is, by the words behind the first one: the second of them, and whether there are
+-- more than five.
 abbrev pub operands_of_thread : (words : List ℕ) → List Operand
 operands_of_thread words =
     if bytes_eq (word_of (behind words)) (codes "to") then heirs_operands
@@ -51,6 +52,10 @@ instruction_operands name =
     then Some (operand.Source ∷ operand.Word ∷ operand.NamedPlace ∷ [])
     else (if bytes_eq name (codes "onfrom") then Some (operand.NamedId ∷ operand.NamedPlace ∷ [])
     else first.instruction_operands name)))))))))
+
+-- Words begin with the name of an instruction, of either version.
+abbrev pub is_instruction : (words : List ℕ) → Bool
+is_instruction words = is_some (instruction_operands (word_of words))
 
 -- The operands of a line by its words. None where no line of these begins so.
 

@@ -1,6 +1,6 @@
 -- The faults of a text with scripts of version 2.
-use Rattle.std.specs.Prelude.{ℕ, false, ◌+◌, Bool, ◌==◌, if◌then◌else◌, Option, Some, None, Result, Ok, Err, List, [], ◌∷◌, length}
-use Rattle.l4_model.specs.Machine.{Machine}
+use Rattle.std.specs.Prelude.{ℕ, false, ◌+◌, Bool, ◌==◌, if◌then◌else◌, Option, Some, None, Ok, Err}
+use Rattle.std.specs.Prelude.{List, [], ◌∷◌, length}
 use Rattle.l4_script.specs.declared.text.fault.TextFault.{TextFault}
 use Rattle.l4_script.specs.declared.text.fault.TextFaultKind.{TextFaultKind}
 use Rattle.l4_script.specs.declared.text.fault.TextFaultKind.TheVariants as kinds

@@ -1,5 +1,7 @@
 -- The place of the fault of a line with scripts of version 2.
-use Rattle.std.specs.Prelude.{ℕ, ◌+◌, ◌-◌, Bool, true, false, not, ◌&&◌, ◌||◌, ◌==◌, nat_eq, nat_le, if◌then◌else◌, Option, Some, None, is_some, Result, Ok, Err, is_ok, List, [], ◌∷◌, length, codes, slice_index, slice_range}
+use Rattle.std.specs.Prelude.{ℕ, ◌+◌, ◌-◌, Bool, true, false, not, ◌&&◌, ◌||◌, ◌==◌, nat_eq, nat_le}
+use Rattle.std.specs.Prelude.{if◌then◌else◌, Option, Some, None, is_some, is_ok, List, [], ◌∷◌}
+use Rattle.std.specs.Prelude.{length, codes, slice_index, slice_range}
 use Rattle.std.specs.List.{position, starts_with}
 use Rattle.l4_model.specs.Words.{W64}
 use Rattle.l4_script.specs.declared.text.fault.TextFaultKind.{TextFaultKind}
@@ -7,7 +9,8 @@ use Rattle.l4_script.specs.declared.text.fault.TextFaultKind.TheVariants as kind
 use Rattle.l4_script.specs.Lines.{has_empty_word}
 use Rattle.l4_script.specs.Second.Lines.{without_return}
 use Rattle.l4_script.specs.Second.Names.{is_name}
-use Rattle.l4_script.specs.Second.Texts.{Reading, Stage, Start, Processors, Threads, has_thread, may_label}
+use Rattle.l4_script.specs.Second.Texts.{Reading, Stage, Start, Processors, Threads, has_thread}
+use Rattle.l4_script.specs.Second.Texts.{may_label}
 use Rattle.l4_lint.specs.declared.hints.Hint.{Hint}
 use Rattle.l4_lint.specs.declared.hints.Hint.TheVariants as hints
 use Rattle.l4_lint.specs.declared.hints.Lines.{Lines}
@@ -47,7 +50,8 @@ reading_in stage = None
 abbrev pub passes : Test → Context → Option Reading → (words : List ℕ) → Operand →
     (word : List ℕ) → Bool
 passes test.Present c r words operand word = not (length word == 0)
-passes test.Keyword c r words operand word = not (is_keyword operand) || is_right c r words operand word
+passes test.Keyword c r words operand word =
+    not (is_keyword operand) || is_right c r words operand word
 passes test.Right c r words operand word = is_right c r words operand word
 
 abbrev pub walk : Test → Context → Option Reading → (words : List ℕ) → List Operand →
@@ -87,7 +91,8 @@ abbrev pub count_place : Context → Option Reading → Parts → List Operand �
     (failed : Option Operand) → Place
 count_place c r p operands rest (Some wanted) = place_at p.front rest (hints.Wanted wanted)
 count_place c r p operands rest None =
-    if length rest == 0 then keywords_place c r p (walk_all test.Keyword c r operands (behind p.words))
+    if length rest == 0
+    then keywords_place c r p (walk_all test.Keyword c r operands (behind p.words))
     else place_at p.front rest hints.Surplus
 
 abbrev pub counted_place : Context → Option Reading → Parts → List Operand → Walked → Place
@@ -119,7 +124,8 @@ spaced_place c r p None = if has_empty_word p.words
 
 abbrev pub wrong_byte : (line : List ℕ) → Option ℕ
 wrong_byte line =
-    position (λ byte. not (byte == 9 || (nat_le 0x20 byte && nat_le byte 0x7e))) (without_return line)
+    position (λ byte. not (byte == 9 || (nat_le 0x20 byte && nat_le byte 0x7e)))
+    (without_return line)
 
 abbrev pub form_place : Context → Option Reading → (number : ℕ) → (line : List ℕ) →
     (wrong : Option ℕ) → Place

@@ -1,6 +1,8 @@
 -- Whether a word is right in its place in a line with scripts of version 2, and what is said of one
 -- that is not.
-use Rattle.std.specs.Prelude.{ℕ, ◌-◌, ◌+◌, ◌*◌, ◌/◌, ◌^◌, ◌==◌, Bool, true, false, ◌&&◌, nat_le, nat_lt, if◌then◌else◌, Option, Some, None, is_some, Result, Ok, Err, is_ok, List, [], ◌∷◌, length, codes, take, find}
+use Rattle.std.specs.Prelude.{ℕ, ◌-◌, ◌+◌, ◌*◌, ◌/◌, ◌^◌, ◌==◌, Bool, false, ◌&&◌, nat_le, nat_lt}
+use Rattle.std.specs.Prelude.{if◌then◌else◌, Option, Some, None, is_some, Ok, is_ok, List, []}
+use Rattle.std.specs.Prelude.{length, codes, take, find}
 use Rattle.std.specs.List.{range_with_len}
 use Rattle.std.specs.Str.{bytes_eq}
 use Rattle.l4_model.specs.Words.{GlobalId, label_limit_in}
@@ -11,7 +13,8 @@ use Rattle.l4_script.specs.declared.text.fault.TextFaultKind.TheVariants as kind
 use Rattle.l4_script.specs.Judged.{Judged}
 use Rattle.l4_script.specs.Numbers.{number_from}
 use Rattle.l4_script.specs.Second.Names.{Named, id_named, is_name, thread_named}
-use Rattle.l4_script.specs.Second.Operands.{ends_with, id_or_last_of, id_or_register_of, place_of, second_time_from}
+use Rattle.l4_script.specs.Second.Operands.{ends_with, id_or_last_of, id_or_register_of, place_of}
+use Rattle.l4_script.specs.Second.Operands.{second_time_from}
 use Rattle.l4_script.specs.Second.Texts.{Reading, may_name}
 use Rattle.l4_lint.specs.declared.hints.Hint.{Hint}
 use Rattle.l4_lint.specs.declared.hints.Hint.TheVariants as hints

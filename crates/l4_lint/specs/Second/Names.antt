@@ -1,12 +1,13 @@
 -- Where a name is declared, and which declared name is near.
-use Rattle.std.specs.Prelude.{ℕ, ◌+◌, ◌==◌, Bool, false, ◌&&◌, ◌||◌, if◌then◌else◌, Option, Some, None, List, [], ◌∷◌, codes, drop, map}
+use Rattle.std.specs.Prelude.{ℕ, ◌+◌, ◌==◌, Bool, false, ◌&&◌, ◌||◌, if◌then◌else◌, Option, Some}
+use Rattle.std.specs.Prelude.{None, List, [], ◌∷◌, codes, drop, map}
 use Rattle.std.specs.Char.{to_ascii_lowercase}
 use Rattle.std.specs.Str.{bytes_eq}
 use Rattle.l4_script.specs.Second.Names.{is_name}
 use Rattle.l4_lint.specs.declared.hints.Hint.{Hint}
 use Rattle.l4_lint.specs.declared.hints.Hint.TheVariants as hints
 use Rattle.l4_lint.specs.Bytes.{behind, word_of}
-use Rattle.l4_lint.specs.Second.Parts.{Parts, parts_of}
+use Rattle.l4_lint.specs.Second.Parts.{parts_of}
 
 -- The name that a line declares: of an instruction, or of an id.
 
@@ -21,8 +22,8 @@ label_or (Some label) otherwise = Some label
 abbrev pub declared_by : (line : List ℕ) → Option (List ℕ)
 declared_by line = label_or (parts_of line).label (named_by (parts_of line).words)
 
--- Names are near that differ in upper and lower case alone, or besides in one byte, which is another
--- one or missing, or in two neighbours that are exchanged.
+-- Names are near that differ in upper and lower case alone, or besides in one byte, which is
+-- another one or missing, or in two neighbours that are exchanged.
 
 abbrev pub same_letter : (a b : ℕ) → Bool
 same_letter a b = to_ascii_lowercase a == to_ascii_lowercase b
@@ -45,8 +46,8 @@ are_near (a ∷ one) (b ∷ other) =
     if same_letter a b then are_near one other else differ_once (a ∷ one) (b ∷ other)
 are_near one other = differ_once one other
 
--- What is said of a name that no instruction may have, or that is none: the number of the first line
--- that declares it, or else of the first that declares one that is near.
+-- What is said of a name that no instruction may have, or that is none: the number of the first
+-- line that declares it, or else of the first that declares one that is near.
 
 abbrev pub near_or : (near : Option ℕ) → Hint
 near_or None = hints.Unknown

@@ -1,9 +1,9 @@
 -- The parts of a line with scripts of version 2.
-use Rattle.std.specs.Prelude.{ℕ, Bool, ◌==◌, if◌then◌else◌, Option, Some, None, List, codes}
+use Rattle.std.specs.Prelude.{ℕ, Bool, ◌==◌, if◌then◌else◌, Option, Some, None, List}
 use Rattle.std.specs.List.{before_first}
-use Rattle.std.specs.Str.{bytes_eq}
-use Rattle.l4_script.specs.Second.Lines.{ends_with_byte, first_of, others_of, without_first_blanks, without_last, without_last_blanks, without_return}
-use Rattle.l4_lint.specs.Bytes.{word_of}
+use Rattle.l4_script.specs.Second.Lines.{ends_with_byte, first_of, others_of, without_first_blanks}
+use Rattle.l4_script.specs.Second.Lines.{without_last, without_last_blanks, without_return}
+use Rattle.l4_lint.specs.Reading as first
 
 -- A line up to the end of what it says; what stands there behind blanks; the name in front of that,
 -- without its `:`; and the words behind it.
@@ -32,4 +32,4 @@ abbrev pub words_of : (line : List ℕ) → List ℕ
 words_of line = (parts_of line).words
 
 abbrev pub begins_script : (line : List ℕ) → Bool
-begins_script line = bytes_eq (word_of (words_of line)) (codes "thread")
+begins_script line = first.begins_script (words_of line)

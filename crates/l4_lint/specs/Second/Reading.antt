@@ -1,12 +1,13 @@
 -- How far a text with scripts of version 2 has been read.
-use Rattle.std.specs.Prelude.{ℕ, ◌-◌, Bool, true, false, not, ◌&&◌, ◌||◌, ◌==◌, if◌then◌else◌, Option, Some, None, is_none, Result, Ok, Err, List, [], ◌∷◌}
+use Rattle.std.specs.Prelude.{ℕ, ◌-◌, Bool, true, false, not, ◌&&◌, ◌||◌, if◌then◌else◌, Option}
+use Rattle.std.specs.Prelude.{Some, None, Ok, List, [], ◌∷◌}
 use Rattle.l4_model.specs.Words.{Format}
 use Rattle.l4_script.specs.declared.text.fault.TextFaultKind.TheVariants as kinds
 use Rattle.l4_script.specs.Judged.{Judged, ◌>>=◌, ◌>>◌, must}
 use Rattle.l4_script.specs.Second.Lines.{Said, second_line_of}
 use Rattle.l4_script.specs.Second.Names.{Named, is_name}
 use Rattle.l4_script.specs.Second.Statements.{second_instruction_of}
-use Rattle.l4_script.specs.Second.Texts.{Stage, Start, Processors, Threads, after_line}
+use Rattle.l4_script.specs.Second.Texts.{Stage, Threads, after_line}
 use Rattle.l4_lint.specs.Second.Parts.{begins_script}
 
 -- What comes next; whether the last `thread` line was faulty, so that a script of no thread

@@ -4,7 +4,8 @@ ghost use Rattle.std.specs.Option.{option_copied};
 ghost use Rattle.std.specs.Str.{bytes_eq};
 ghost use Rattle.l4_lint.specs.Bytes.{behind, word_of};
 ghost use Rattle.l4_lint.specs.Second.Commands.{instruction_operands, operands_of};
-ghost use Rattle.l4_lint.specs.Second.Commands.{operands_of_thread, target_in, thread_or};
+ghost use Rattle.l4_lint.specs.Second.Commands.{is_instruction, operands_of_thread, target_in};
+ghost use Rattle.l4_lint.specs.Second.Commands.{thread_or};
 
 use crate::bytes::split_word;
 use crate::commands::{
@@ -184,4 +185,11 @@ pub(super) fn target_in(words: &[u8]) -> &[u8]
     } else {
         others
     }
+}
+
+/// Whether words begin with the name of an instruction, of either version.
+pub(crate) fn is_instruction(words: &[u8]) -> bool
+    ensures { result ≡ is_instruction words.now }
+{
+    instruction_operands(split_word(words).0).is_some()
 }

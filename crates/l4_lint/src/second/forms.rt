@@ -6,10 +6,11 @@ ghost use Rattle.l4_lint.specs.Lines.{lines_of};
 ghost use Rattle.l4_lint.specs.Second.Commands.{operands_of};
 ghost use Rattle.l4_lint.specs.Second.Forms.{column_in, context_at, counted_place, form_place};
 ghost use Rattle.l4_lint.specs.Second.Forms.{hint_for_name, hint_of, is_heir, is_other_comment};
-ghost use Rattle.l4_lint.specs.Second.Forms.{is_wrong_label, keywords_place, kind_place, label_place};
+ghost use Rattle.l4_lint.specs.Second.Forms.{is_wrong_label, keywords_place, kind_place};
+ghost use Rattle.l4_lint.specs.Second.Forms.{label_place};
 ghost use Rattle.l4_lint.specs.Second.Forms.{line_at, line_hint, line_place, lines_in, missed_hint};
 ghost use Rattle.l4_lint.specs.Second.Forms.{missed_place, name_place, operands_place, passes};
-ghost use Rattle.l4_lint.specs.Second.Forms.{reading_in, spaced_place, walk, walk_all, walked_place};
+ghost use Rattle.l4_lint.specs.Second.Forms.{reading_in, spaced_place, walk_all, walked_place};
 ghost use Rattle.l4_lint.specs.Second.Forms.{words_place, wrong_byte};
 ghost use Rattle.l4_lint.specs.Inner.Views.{context_of, parts_view, place_of, walked_of};
 

@@ -3,8 +3,8 @@ ghost use Rattle.std.specs.Prelude.{◌≡◌};
 ghost use Rattle.l4_lint.specs.Second.Parts.{front_of, parts_in, parts_of, begins_script};
 ghost use Rattle.l4_lint.specs.Inner.Views.{parts_view};
 
-use crate::bytes::{split_at_byte, split_word};
-use crate::commands::THREAD;
+use crate::bytes::split_at_byte;
+use crate::commands;
 use l4_script::text::second::{
     ends_with_byte, split_first, without_first_blanks, without_last, without_last_blanks,
     without_return,
@@ -58,5 +58,5 @@ pub(crate) fn parts_of(line: &[u8]) -> Parts<'_>
 pub(crate) fn begins_script(line: &[u8]) -> bool
     ensures { result ≡ begins_script line.now }
 {
-    split_word(parts_of(line).words).0 == THREAD
+    commands::begins_script(parts_of(line).words)
 }

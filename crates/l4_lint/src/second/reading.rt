@@ -1,13 +1,13 @@
 //! How far a text with scripts of version 2 has been read.
 ghost use Rattle.std.specs.Prelude.{◌≡◌, ◌≢◌, false, IfErr};
 ghost use Rattle.std.specs.Option.{option_copied};
-ghost use Rattle.l4_types.specs.Inner.FormatView.{format_of};
 ghost use Rattle.l4_script.specs.Judged.{Leads};
-ghost use Rattle.l4_script.specs.Inner.Second.{said_of, stage_of};
+ghost use Rattle.l4_script.specs.Inner.Second.{stage_of};
 ghost use Rattle.l4_script.specs.Second.Texts.{Start};
 ghost use Rattle.l4_script.specs.declared.text.fault.TextFaultKind.TheVariants as kinds;
 ghost use Rattle.l4_lint.specs.Second.Faults.{most_looked};
-ghost use Rattle.l4_lint.specs.Second.Reading.{goes_on, instruction_form, is_lost, judged, label_form};
+ghost use Rattle.l4_lint.specs.Second.Reading.{goes_on, instruction_form, is_lost, judged};
+ghost use Rattle.l4_lint.specs.Second.Reading.{label_form};
 ghost use Rattle.l4_lint.specs.Second.Reading.{led_on, left_out, lost_form, reader, words_form};
 ghost use Rattle.l4_lint.specs.Inner.Views.{second_reader_of};
 

@@ -5,4 +5,4 @@ use Rattle.l4_chart.proofs.chart.rows_of.Given as goal
 
 abbrev pub invariant-loop-place : goal.invariant-loop-place
 invariant-loop-place l =
-    Walked l.initial.world.machine l.listing (is_in l.window l.columns) (take l.count l.history.steps) l.place l.world (map row_of l.rows.items)
+    Walked l.initial.world.machine l.listing l.watched (is_in l.window l.columns) (take l.count l.history.steps) l.place l.world (map row_of l.rows.items)

@@ -1,7 +1,6 @@
-use Rattle.std.proofs.Common.{ap, sym, ◌∙◌}
+use Rattle.std.proofs.Common.{sym, ◌∙◌}
 use Rattle.l4_explore.specs.Search.{seen_at}
 use Rattle.l4_endings.specs.Inner.Tried.{told}
-use Rattle.l4_states.specs.Endings.{entries_of}
 use Rattle.l4_endings.proofs.Ending.{no_end, one_end}
 use Rattle.l4_endings.proofs.endings_of.list_end.Goals as goal
 
@@ -13,7 +12,5 @@ returns-then-not-is_end c =
 pub returns : goal.returns
 returns c =
     one_end c.args.machine.now (seen_at c.args.found.now c.args.place) c.args.ends.now.items
-    c.push.new.self.items c.in_ok-entries_of.field-0 (sym c.is_end.ensures ∙ c.if-not-is_end.false)
-    c.in_ok-push.ensures.items
-    (c.in_ok-entries_of.ensures
-    ∙ ap (entries_of c.args.machine.now) (c.deref.ensures.value ∙ c.in_ok-schedule.ensures))
+    c.push.new.self.items c.in_ok-entries_at.field-0 (sym c.is_end.ensures ∙ c.if-not-is_end.false)
+    c.in_ok-push.ensures.items c.in_ok-entries_at.ensures

@@ -1,8 +1,8 @@
-use Rattle.std.proofs.Common.{◌≡◌, ◌≤◌, ◌+◌, ◌++◌, ℕ, Bool, true, false, List, Option, map, refl, ap, sym, subst, ◌∙◌, arith}
+use Rattle.std.proofs.Common.{◌≡◌, ◌≤◌, ◌+◌, ◌++◌, ℕ, Bool, true, false, Option, map, refl, ap, sym, subst, ◌∙◌, arith}
 use Rattle.std.specs.Prelude.{if◌then◌else◌}
 use Rattle.std.specs.Int.{from_bool}
 use Rattle.l4_model.specs.Machine.{Declaration}
-use Rattle.l4_lint.specs.Doubts.{begun_behind, doubts_from, line_doubts, thread_after}
+use Rattle.l4_lint.specs.Doubts.{begun_behind, doubts_from, thread_after, words_doubts}
 use Rattle.l4_lint.specs.Lines.{lines_of}
 use Rattle.l4_lint.specs.Reading.{begins_script}
 use Rattle.l4_lint.specs.Inner.Views.{doubtful_of}
@@ -24,6 +24,7 @@ lines-preserved c =
     let line = c.in-Some.line.now in
     let rest = c.in-Some.rest.now in
     let begun = c.lines.begun in
+    let place = c.lines.place in
     let number = c.lines.before + 1 in
     let found = map doubtful_of c.lines.found.items in
     let new = map doubtful_of c.push_words.new.found.items in
@@ -31,20 +32,25 @@ lines-preserved c =
     ap (λ (n : ℕ). begun + n)
     (c.from-begun.ensures ∙ ap from_bool c.begins_script.ensures
     ∙ one_where_so (begins_script line)) in
-    let adds : new ≡ found ++ line_doubts m (thread_after m begun) number line =
+    let adds : new ≡ found ++ words_doubts m (thread_after m begun) place number line line =
     c.in_ok-push_words.ensures
-    ∙ ap (λ (d : Option Declaration). found ++ line_doubts m d number line)
+    ∙ ap (λ (d : Option Declaration). found ++ words_doubts m d place number line line)
     c.thread_after.ensures in
     let few : c.from-begun.result ≤ 1 =
     subst (λ (n : ℕ). n ≤ 1) (sym c.from-begun.ensures) (at_most_one c.begins_script.result) in
     record {
       whole =
           subst
-          (λ (n : ℕ). new ++ doubts_from m (lines_of rest) n (number + 1)
-          ≡ doubts_from m (lines_of text) 0 1)
+          (λ (n : ℕ). new ++ doubts_from m (lines_of rest) n c.place_behind-place.result (number + 1)
+          ≡ doubts_from m (lines_of text) 0 0 1)
           (sym next)
-          (one_more m begun number found new (doubts_from m (lines_of text) 0 1) line rest
-          c.lines.left.now c.in-Some.ensures.parts adds c.lines.invariant.whole);
+          (subst
+          (λ (n : ℕ). new ++ doubts_from m (lines_of rest) (begun_behind begun line) n (number + 1)
+          ≡ doubts_from m (lines_of text) 0 0 1)
+          (sym c.place_behind-place.ensures.value)
+          (one_more m begun place number found new (doubts_from m (lines_of text) 0 0 1) line rest
+          c.lines.left.now c.in-Some.ensures.parts adds c.lines.invariant.whole));
       counted = omega (arith, c.lines.invariant.counted, c.in-Some.ensures.shorter);
       few = omega (arith, c.lines.invariant.few, few);
+      near = omega (arith, c.lines.invariant.near, c.place_behind-place.ensures.near);
     }

@@ -9,10 +9,11 @@ abbrev pub invariant-lines : goal.invariant-lines
 invariant-lines l = record {
   whole :
       map doubtful_of l.found.items
-      ++ doubts_from l.machine (lines_of l.left) l.begun (l.before + 1)
-      ≡ doubts_from l.machine (lines_of l.text) 0 1;
+      ++ doubts_from l.machine (lines_of l.left) l.begun l.place (l.before + 1)
+      ≡ doubts_from l.machine (lines_of l.text) 0 0 1;
   counted : l.before + length l.left ≤ length l.text;
   few : l.begun ≤ l.before;
+  near : l.place ≤ l.before;
 }
 
 abbrev pub decreases-lines : goal.decreases-lines

@@ -11,9 +11,10 @@ abbrev pub invariant-lines : goal.invariant-lines
 invariant-lines l = record {
   whole :
       map doubtful_of l.found.items
-      ++ second_doubts_from l.machine (lines_of l.left) (stage_of l.stage) (l.before + 1)
-      ≡ second_doubts_from l.machine (lines_of l.text) Start 1;
+      ++ second_doubts_from l.machine (lines_of l.left) (stage_of l.stage) l.place (l.before + 1)
+      ≡ second_doubts_from l.machine (lines_of l.text) Start 0 1;
   counted : l.before + length l.left ≤ length l.text;
+  near : l.place ≤ l.before;
 }
 
 abbrev pub decreases-lines : goal.decreases-lines

@@ -1,4 +1,4 @@
-use Rattle.std.proofs.Common.{◌≡◌, ◌+◌, ◌++◌, Bool, true, false, length, map, rules, tests, arith}
+use Rattle.std.proofs.Common.{◌≡◌, true, false, map, rules, tests, arith}
 use Rattle.std.proofs.lemmas.Grind.{common_steps}
 use Rattle.l4_words.specs.Lines.{parts_of}
 use Rattle.l4_lint.specs.Second.Faults.{faults_from, not_read}

@@ -16,4 +16,4 @@ numbered-requires-clause-stuck g c =
     let stuck = c.in_ok-stuck.stuck in
     subst (AreAllStuck c.args.machine.now) (sym c.deref-2.ensures.value)
     (all_stuck (asks_who_is_stuck c.args.question.now) stuck.is_whole c.args.machine.now
-    stuck.threads.items c.in_ok-stuck.ensures)
+    c.args.question.now stuck.threads.items c.in_ok-stuck.ensures)

@@ -1,4 +1,4 @@
-use Rattle.std.proofs.Common.{◌≡◌, ◌+◌, ◌≤◌, ◌∙◌, Option, ℕ, ap, length, sym, arith}
+use Rattle.std.proofs.Common.{◌+◌, ◌∙◌, Option, ℕ, ap, sym, arith}
 use Rattle.l4_lint.specs.Lines.{lines_of}
 use Rattle.l4_lint.specs.Second.Names.{declared_hint}
 use Rattle.l4_lint.proofs.Looking.{declares, declares_none, declares_other}

@@ -13,6 +13,6 @@ unreachable-requires c =
 pub returns : goal.returns
 returns c =
     found_is c.args.machine.now c.args.trace.steps c.in-Ok.auditor c.args.head.items
-    c.in_ok-report.report.items c.are_any_stuck-is_stuck.result c.deref.result.now
+    c.in_ok-report.report.items c.in_ok-stuck.stuck.items c.deref.result.now
     c.in-Ok.ensures.reached c.in_ok-report.ensures (c.deref.ensures.value ∙ c.in_ok-waits.ensures)
-    c.are_any_stuck-is_stuck.ensures
+    c.in_ok-stuck.ensures

@@ -1,0 +1,3 @@
+mod Lines
+mod Written
+mod Stripped

@@ -1,0 +1,4 @@
+pub mod Inner
+pub mod Outputs
+pub mod Painted
+pub mod Tones

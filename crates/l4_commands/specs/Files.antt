@@ -9,7 +9,7 @@ use Rattle.l4_commands.specs.declared.job.Job.{Job}
 use Rattle.l4_commands.specs.declared.job.LintJob.{LintJob}
 use Rattle.l4_commands.specs.declared.job.Printed.{Printed}
 use Rattle.l4_commands.specs.declared.job.TextChart.{TextChart}
-use Rattle.l4_commands.specs.declared.job.Job.TheVariants.{Run, Replay, Next, Audit, Chart, Endings, Lint}
+use Rattle.l4_commands.specs.declared.job.Job.TheVariants.{Run, Replay, Next, Audit, Chart, Endings, Lint, Step}
 
 -- The name that stands for the standard input: `-`. A file of that name is `./-`.
 abbrev pub is_input : (name : List ℕ) → Bool
@@ -31,6 +31,7 @@ file_of (Audit audit) = audit.file.now
 file_of (Chart chart) = chart.file.now
 file_of (Endings search) = search.file.now
 file_of (Lint lint) = lint.file.now
+file_of (Step step) = step.file.now
 
 abbrev pub list_name_in : Option (Bor (List ℕ)) → Option (List ℕ)
 list_name_in None = None
@@ -44,6 +45,7 @@ second_file_of (Audit audit) = Some audit.trace.now
 second_file_of (Chart chart) = Some chart.trace.now
 second_file_of (Endings search) = None
 second_file_of (Lint lint) = list_name_in lint.schedule
+second_file_of (Step step) = None
 
 abbrev pub expected_of : Job → Option (List ℕ)
 expected_of (Run run) = option_copied run.expected

@@ -270,6 +270,13 @@ impl<'a> LintJob<'a> {
     }
 }
 
+/// A session on the machine text in a file, by the lines of an input.
+#[derive(Clone, Copy, Debug, PartialEq, Eq)]
+pub struct StepJob<'a> {
+    /// The name of the file with the machine text.
+    pub file: &'a str,
+}
+
 /// Where lines are painted, of a job whose lines may be painted.
 #[derive(Clone, Copy, Debug, PartialEq, Eq)]
 pub enum Colours {
@@ -298,6 +305,8 @@ pub enum Job<'a> {
     Endings(EndingsJob<'a>),
     /// Report all that is wrong in a machine text.
     Lint(LintJob<'a>),
+    /// Go through a machine step by step.
+    Step(StepJob<'a>),
 }
 
 impl<'a> Job<'a> {
@@ -313,6 +322,7 @@ impl<'a> Job<'a> {
             Job::Chart(chart) => chart.file,
             Job::Endings(search) => search.file,
             Job::Lint(lint) => lint.file,
+            Job::Step(step) => step.file,
         }
     }
 
@@ -322,7 +332,7 @@ impl<'a> Job<'a> {
         ensures { option_copied result ≡ second_file_of self.now }
     {
         match *self {
-            Job::Run(_) | Job::Endings(_) => None,
+            Job::Run(_) | Job::Endings(_) | Job::Step(_) => None,
             Job::Replay(replay) => list_name(replay.schedule),
             Job::Next(next) => list_name(next.schedule),
             Job::Audit(audit) => Some(audit.trace),

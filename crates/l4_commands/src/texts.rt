@@ -203,6 +203,28 @@ Kinds: BadLine, BadNumber, BadId, BadName, BadCpu, TypedItems, DoubleId, TooMany
 TooManyInstructions,
 BadTarget, TooLong. docs/FORMATS.md tells what each of them is.";
 
+pub const STEP_EXAMPLE: &str =
+    "Example: `l4run step ping.l4`, with the machine text that `l4run help run` shows, tells what is \
+possible at the
+opening, each entry with a number, its item and the steps that it would tell. A line of the standard \
+input then is
+one of these:
+
+  NUMBER       does the entry of this number, as it was told last
+  ITEM         does the entry of this item: cP, P:Q, tP or tP:V, as in a schedule
+  back         goes an entry back; `back N` goes N entries back
+  next         tells what is possible
+  state        tells the report of the replay so far, as `replay --report` does
+  chart        draws the history so far, as `replay --chart` does
+  schedule     tells the list of the entries so far, as `replay --schedule` takes it
+  record NAME  writes that list to a file, for `replay --schedule @NAME`
+  help         tells these lines
+  end          ends, as the end of the input does
+
+What is no such line, or not possible, is told by a line that begins with `refused`, and changes \
+nothing. The status
+is 0, or 1 behind a fault, as those that `l4run help run` shows.";
+
 pub const TWO_FORMS: &str =
     "error: only one of '--ascii', '--svg', '--html' and '--mermaid' can be given
 
@@ -215,6 +237,12 @@ For more information, try '--help'.
 ";
 
 pub const INPUT_TWICE: &str = "error: the standard input '-' can be named only once
+
+For more information, try '--help'.
+";
+
+pub const INPUT_OF_STEPS: &str =
+    "error: the standard input has the lines of 'step', so FILE cannot be '-'
 
 For more information, try '--help'.
 ";

@@ -135,7 +135,8 @@ def answered(words, files, given):
     """What the library answers. The standard input is a file with the names that it has."""
     asked = {name for word in words for name in names_of(word)}
     named = {name: text for name, text in files.items() if name in asked}
-    named.update((name, given) for name in ("-", INPUT) if name in asked)
+    # The lines of a session come from there, though no word says so.
+    named.update((name, given) for name in ("-", INPUT) if name in asked or (name, *words[:1]) == ("-", "step"))
     return l4emu.call(*words, files=named)
 
 

@@ -1,7 +1,8 @@
 """Plants mistakes in a copy of their crate, and asks the prover for the functions one of which must be refused.
 
 One run of the prover takes the mistakes of different functions together: a function is judged by its own contract and by those of the functions that it
-calls. It proves the functions that are asked for and what of their crate they call, over the crates below as they were built.
+calls. It proves the functions that are asked for and what of their crate they call, over the crates below as they were built. The runs over one crate follow
+one another, and each takes what those before it proved of the same texts.
 """
 
 import concurrent.futures
@@ -122,8 +123,8 @@ def is_unproved(edit, said):
     return any(text.startswith("not proved") for path, text in told(VERDICT, said) if any(is_of(path, function) for function in edit.judges()))
 
 
-def prove(batch, room):
-    """What the prover says of the functions that judge these mistakes."""
+def prove(batch, room, work):
+    """What the prover says of the functions that judge these mistakes, over what it keeps in the folder `work`."""
     home = batch.edits[0].home
     for part in filter(lambda part: (home / part).is_dir(), PARTS):
         shutil.copytree(home / part, room / part)
@@ -131,7 +132,7 @@ def prove(batch, room):
         (room / file).write_text(text)
     asked = [word for path in batch.asked() or [] for word in ("--only", path)]
     crate = rtlib.Crate(str(home), str(TOP), {})
-    words = [rtlib.RATTLE, "check", *crate.words(["--jobs", "1", *asked])]
+    words = [rtlib.RATTLE, "check", *crate.words(["--jobs", "1", *asked]), "--incremental", work]
     return subprocess.run(words, cwd=room, stdin=subprocess.DEVNULL, **TEXT).stdout.splitlines()
 
 
@@ -154,11 +155,11 @@ def keep(edits):
             kept(edit).touch()
 
 
-def try_batch(batch, takes_names):
+def try_batch(batch, work, takes_names):
     """Those that were not refused. One that does not compile keeps all of its batch from being judged, so each is tried by itself then.
     `takes_names` says whether one counts as refused where that is so only since a name of a proof is gone."""
     with tempfile.TemporaryDirectory(prefix="mistake-") as room:
-        said = prove(batch, pathlib.Path(room))
+        said = prove(batch, pathlib.Path(room), work)
     left = [edit for edit in batch.edits if not is_refused(edit, said)]
     nameless = [edit for edit in left if is_unproved(edit, said)]
     for edit in nameless if takes_names or len(batch.edits) == 1 else []:
@@ -167,12 +168,18 @@ def try_batch(batch, takes_names):
         left = [edit for edit in left if edit not in nameless]
     keep(edit for edit in batch.edits if edit not in left)
     if left and len(batch.edits) > 1:
-        return [edit for one in left for edit in try_batch(Batch(one), takes_names)]
+        return [edit for one in left for edit in try_batch(Batch(one), work, takes_names)]
     if left:
         # Where no function was looked at, the last line says why.
         for line in list(filter(UNREAD.match, said)) or ([] if told(VERDICT, said) else said[-1:]):
             print(f"  {left[0].name}: {line}", flush=True)
     return left
+
+
+def try_crate(batches, takes_names):
+    """Those of one crate that were not refused."""
+    with tempfile.TemporaryDirectory(prefix="proved-") as work:
+        return [edit for batch in batches for edit in try_batch(batch, work, takes_names)]
 
 
 def provers():
@@ -194,7 +201,8 @@ def try_edits(edits, is_alone, is_anew, is_built, takes_names):
     crates = sorted({edit.home for edit in todo}, key=lambda home: home.name)
     for home in [] if is_built else crates:
         build_below(home)
-    batches = [batch for home in crates for batch in batches_of([edit for edit in todo if edit.home == home], is_alone)]
-    batches.sort(key=lambda batch: -len(batch.edits))
+    of_each = [batches_of([edit for edit in todo if edit.home == home], is_alone) for home in crates]
+    # What may take longest begins first.
+    of_each.sort(key=lambda batches: -sum(len(batch.edits) for batch in batches))
     with concurrent.futures.ThreadPoolExecutor(provers()) as pool:
-        return [edit for left in pool.map(lambda batch: try_batch(batch, takes_names), batches) for edit in left]
+        return [edit for left in pool.map(lambda batches: try_crate(batches, takes_names), of_each) for edit in left]

@@ -36,6 +36,7 @@ SCRIPT = [
     "editor.js",
     "chart.js",
     "stepper.js",
+    "ways.js",
     "endings.js",
     "expectations.js",
     "commands.js",

@@ -10,11 +10,11 @@ import random
 import subprocess
 import sys
 
-from second import explained, machines, model, randoms, reasons, traces
+from second import explained, machines, model, randoms, reasons, scripts, traces
 
 SEED = 20_261_126
 SPOILT = 6
-KINDS = (randoms.General, randoms.HandingOn, randoms.Conflicts, randoms.HandingOn, randoms.Serving)
+KINDS = (randoms.General, randoms.HandingOn, randoms.Conflicts, randoms.HandingOn, scripts.Serving, scripts.Turned)
 
 
 def answer(machine, history):

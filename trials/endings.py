@@ -28,6 +28,7 @@ OPEN = (words.ANY, words.ANY_LOCAL)
 BEGINNINGS = ("thread", "waiting", "ending", ANY_WORD)
 NEVER = "never "
 OUT_OF_RANGE = "l4run: ending out of range\n"
+ENDLESS = "no ending: it goes on for ever\n"
 
 
 class Ending:
@@ -134,7 +135,7 @@ def found_anywhere(machine, asked):
     limits = asked.depth, most_looked(machine, asked), worlds.Reduction(machine)
     found = worlds.search(machine, *limits)
     endings = [Ending(machine, ending.history(), f"steps {ending.steps}") for ending in found.endings()]
-    last = "" if endings or not found.is_whole else "no ending: it goes on for ever\n"
+    last = "" if endings or not found.is_whole else ENDLESS
     last += f"worlds {len(found.worlds)} steps {found.steps} {'whole' if found.is_whole else 'cut'}\n"
     return Found(endings, last, found.is_whole, lambda: worlds.stuck(machine, *limits))
 

@@ -10,6 +10,7 @@ import subprocess
 import sys
 
 import json_lines
+from second import scripts
 
 SEED = 20_261_124
 TURNS = "300"
@@ -32,6 +33,13 @@ QUIET, FAULT, USAGE, SPENT, FOUND = 0, 1, 2, 3, 4
 
 NUMBERS = ["0", "1", "63", "64", "15", "16", "17", "0x3f", "18446744073709551615", "18446744073709551616", "4294967296", "-1", "0x", "00", "1.", ""]
 WORDS = ["never", "zero", "nil", "any", "anylocal", "last", "S", "R", "SR", "1.1", "2.1", "3.65", "1.64", "1.0", "#0000000000000001", "#00004001", "262143.16383", ";", "cpu", "end", "tick", "retarget"]
+# Words of version 2.
+SECOND_WORDS = [
+    "2", "mr0", "mr32", "mr63", "mr64", "mr", "mr01", "from", "onlabel", "onword", "onfrom", "name", "as", "to", "last", "5us", "9ms", "0s", "2s", "us", "again0", "again0:", "ann0", "ann0:",
+    ":", "1:", "last:", "thread:", "n" * 31, "n" * 32, "n" * 31 + ":",
+]
+# How often a machine has scripts of version 2.
+SECOND = 0.4
 BYTES = [0, 9, 10, 13, 32, 59, 127, 128, 255]
 # The items of schedules.
 ITEMS = [
@@ -64,7 +72,8 @@ def machine(dice):
                 f"vs {thread()}",
                 f"jump {dice.randrange(script)}",
             ]))
-    return "\n".join(lines) + "\n"
+    text = "\n".join(lines) + "\n"
+    return scripts.turned(dice, text) if dice.random() < SECOND else text
 
 
 def spoilt(dice, told):
@@ -95,7 +104,7 @@ def spoilt(dice, told):
                 told = bytearray(b"\n".join(lines))
             case 6:
                 words = re.split(rb"([ \n])", bytes(told))
-                words[dice.randrange(len(words))] = dice.choice(NUMBERS + WORDS).encode()
+                words[dice.randrange(len(words))] = dice.choice(NUMBERS + WORDS + SECOND_WORDS).encode()
                 told = bytearray(b"".join(words))
     return bytes(told)
 
@@ -149,6 +158,22 @@ def goes_on(program, name, items, dice, seen):
     trace, longer = (judged([program, "replay", name, "--schedule=" + told], collections.Counter(), lambda out: True) for told in (items, f"{items},{item}".lstrip(",")))
     if longer != trace + steps.encode():
         sys.exit(f"{name} --schedule={items}: the replay of {item} behind it tells other steps than --next")
+
+
+def held(program, name, dice, seen):
+    """A session answers lines that nobody meant, and a replay of the list that it tells has the report that it tells."""
+    asked = [*ITEMS, *["1"] * 9, "2", "3", "back", "back 2", "back 1000001", "next", "state", "chart", "record", "help", "", "rest", "1 2", "-1"]
+    lines = "\n".join(dice.choice(asked) for _ in range(dice.randint(0, 20))).encode()
+    lines = spoilt(dice, lines) if dice.random() < 0.3 else lines
+    told = subprocess.run([program, "step", name], input=lines + b"\nrecord\nstate\n", capture_output=True)
+    if told.stderr or told.returncode != QUIET:
+        sys.exit(f"step {name} with {lines}: status {told.returncode}: {told.stderr}")
+    before = subprocess.run([program, "step", name], input=lines + b"\n", capture_output=True).stdout
+    items, _, report = told.stdout[len(before) :].decode().partition("\n")
+    again = subprocess.run([program, "replay", name, "--schedule=" + items, "--report"], capture_output=True)
+    if not told.stdout.startswith(before) or again.stdout != report.encode():
+        sys.exit(f"step {name} with {lines}: the replay of {items} has another report")
+    seen[f"{min(len(items.split(',')), 3) if items else 0} entries"] += 1
 
 
 def recorded(program, words, name, listed, seen):
@@ -256,7 +281,7 @@ def write(name, told):
 
 def main(program, folder, count, part):
     name, trace, listed, wanted = (f"{folder}/hostile-{part}.{kind}" for kind in ("l4", "trace", "list", "expected"))
-    abouts = ("texts", "lint", "traces", "schedules", "rests", "nexts", "items", "lists", "charts", "endings", "expectations", "objects")
+    abouts = ("texts", "lint", "traces", "schedules", "rests", "nexts", "sessions", "items", "lists", "charts", "endings", "expectations", "objects")
     seen = {about: collections.Counter() for about in abouts}
     dice = random.Random(SEED + part)
     for done in range(count):
@@ -272,6 +297,7 @@ def main(program, folder, count, part):
         rest = ["--then-rest", *dice.choice([[], ["--turns", dice.choice(["0", "7", "300", "1000001"])]])]
         recorded(program, ["replay", name, "--schedule=" + schedule(dice), *rest], name, listed, seen["rests"])
         goes_on(program, name, schedule(dice), dice, seen["nexts"])
+        held(program, name, dice, seen["sessions"])
         items_linted(program, name, schedule(dice), seen["items"])
         printed = [word for word in ("--report", "--waits", "--counts") if dice.random() < 0.3]
         told_in_json(program, ["replay", name, "--schedule=" + schedule(dice), *(printed or dice.choice([[], ["--next"]]))], seen["objects"])

@@ -15,12 +15,12 @@ import subprocess
 import sys
 
 import endings
-from second import invariants, machines, model, plain, randoms, traces, worlds
+from second import invariants, machines, model, plain, randoms, scripts, traces, worlds
 from second.expectations import split_lines
 from second.invariants import Condition, LeftOut
 
 SEED = 20_261_129
-KINDS = (randoms.GoingRound, randoms.GoingRound, randoms.Conflicts, randoms.GoingRound, randoms.GoingRound, randoms.HandingOn, randoms.GoingRound, randoms.General, randoms.Serving)
+KINDS = (randoms.GoingRound, randoms.GoingRound, randoms.Conflicts, randoms.GoingRound, randoms.GoingRound, randoms.HandingOn, randoms.GoingRound, randoms.General, scripts.Serving, scripts.Turned)
 DEPTH, MOST_WORLDS = 1_000, 2_000
 # So many worlds may the search of every step find.
 MOST_PLAIN = 300

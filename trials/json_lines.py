@@ -1,19 +1,25 @@
 """Turns the objects of `--json` back into lines by the keys that docs/FORMATS.md documents, and compares these with what is printed without it, of
-every command of the cases and the examples that may have it. Status and faults have to be the same. Prints counts.
+every command of the cases and the examples that may have it, and of commands about random machines. Status and faults have to be the same. Prints counts.
 
-    trials/json_lines.py PROGRAM [CASES]        CASES is crates/l4_cases/data where it is left out
-    l4run .. --json | trials/json_lines.py -    prints the lines that objects tell
+    trials/json_lines.py PROGRAM [CASES [COUNT]]    CASES is crates/l4_cases/data where it is left out; of COUNT random machines, 0 where that is
+    l4run .. --json | trials/json_lines.py -        prints the lines that objects tell
 """
 
 import collections
 import json
 import pathlib
+import random
 import re
 import shlex
 import subprocess
 import sys
 import tempfile
 
+from second import charts, machines, randoms, scripts, traces
+from second import words as words_of_ids
+
+SEED = 20_261_130
+KINDS = (randoms.General, scripts.Turned, randoms.HandingOn, scripts.Serving, randoms.Conflicts)
 USAGE = 2
 VERBS = ("run", "replay", "audit", "endings", "lint")
 # A line by its kind: `{key}` is a word or a text, `{key..}` the words of a row.
@@ -80,31 +86,31 @@ def lines_of(objects):
     return "".join(f"{line_of(text)}\n" for text in objects.split("\n")[:-1])
 
 
-def scripts_of(machine):
-    """For each thread the words of its instructions, by the number of their line."""
-    scripts, of = {}, None
-    for number, line in enumerate(machine.split("\n"), 1):
-        words = line.split(" ")
-        if not line or line.startswith(";"):
-            continue
-        if words[0] == "thread":
-            of = scripts.setdefault(words[1], {})
-        elif of is not None:
-            of[str(number)] = words
-    return scripts
+def scripts_of(text):
+    """For each thread the words of its instructions, without names in front, by the number of their line."""
+    told = charts.numbered_lines(text, machines.read(text))
+    return {words_of_ids.spelled(thread): {str(number): unnamed(line.split()) for number, line in lines} for thread, lines in told.items()}
+
+
+def unnamed(words):
+    return words[1:] if words[0].endswith(machines.LABEL_END) else words
 
 
 WRITES = {"begin": {"ipc"}, "wait": {"ipc"}, "order": {"exregs", "delete"}}
+# Destinations that a line spells out are compared where they are not spelled by a word, a name or a register.
+SPELLED_OUT = re.compile(r"\d+\.\d+|any|anylocal")
 
 
 def judge_steps(objects, machine):
     """A step that runs an instruction names a line of its thread that has such a one, and each receiver is where the send went to."""
-    scripts, receivers, count = scripts_of(machine), {}, 0
+    if not objects:
+        return 0
+    lines, receivers, count = scripts_of(machine), {}, 0
     for told in map(json.loads, objects.split("\n")[:-1]):
         kind = told["kind"]
         if kind in ("local", "begin", "wait", "order"):
             thread = told.get("thread") or told.get("caller") or told["send"].split("#")[0]
-            script = scripts[thread]
+            script = lines[thread]
             if "line" in told:
                 words = script[told["line"]]
                 assert words[0] in WRITES.get(kind, words), f"{told} is no {words}"
@@ -112,7 +118,7 @@ def judge_steps(objects, machine):
             else:
                 assert kind == "local", f"no line: {told}"
         if kind == "begin":
-            assert words[1] in (told["to"], "last") or "#" in words[1] + told["to"], f"{told} is no {words}"
+            assert words[1] == told["to"] or not SPELLED_OUT.fullmatch(words[1]), f"{told} is no {words}"
         if kind in ("begin", "queue"):
             count += 1
             receivers[told["send"]] = told["to"]
@@ -151,7 +157,7 @@ def compare(program, words, given, folder, machine, counts):
     if plain[0] == USAGE:
         return
     # A run of several processors may go another way the next time.
-    one_way = verb != "run" or plain == answer(program, words, given, folder) and "\ncpus 1\n" in machine
+    one_way = verb != "run" or plain == answer(program, words, given, folder) and re.search(r"^cpus 1\b", machine, re.MULTILINE)
     objects = answer(program, [*words, "--json"], given, folder)
     told = lines_of(objects[1])
     if one_way:
@@ -163,13 +169,42 @@ def compare(program, words, given, folder, machine, counts):
     counts.update(f"kind {json.loads(text)['kind']}" for text in objects[1].split("\n")[:-1])
 
 
-def main(program, cases="crates/l4_cases/data"):
+LIMITS = ["--depth=40", "--states=300"]
+QUESTIONS = ["waiting ..", "thread 1.1 ended ..", "thread * receiving .."]
+
+
+def commands_about(dice, machine, file):
+    """Commands about a random machine, each with what it reads."""
+    entries, replay = randoms.random_replay(dice, machine, randoms.LENGTHS)
+    trace = traces.text(replay.history)
+    more = [word for word in ("--waits", "--counts") if dice.random() < 0.4]
+    schedule = ",".join(map(str, entries))
+    yield ["run", file, "--turns=300", *dice.choice([[], ["--report"]]), *more], ""
+    yield ["replay", file, f"--schedule={schedule}", *dice.choice([["--next"], ["--report", *more], more])], ""
+    yield ["audit", file, "-", *dice.choice([[], ["--report"], ["--explain"]]), *more], dice.choice([trace, trace and randoms.spoilt(dice, machine, trace)])
+    yield ["lint", file], ""
+    asked = [[], ["--stuck"], ["--none"], ["--stuck", "--none"], ["--placed"], [f"--with={dice.choice(QUESTIONS)}"], ["--trace=1"], ["--stuck", "--trace=1"]]
+    yield ["endings", file, *LIMITS, *dice.choice(asked)], ""
+    yield ["endings", file, *LIMITS, f"--always=never {dice.choice(QUESTIONS)}"], ""
+
+
+def compare_random(program, dice, kind, folder, counts):
+    text, file = kind(dice).text(), pathlib.Path(folder, "random.l4")
+    file.write_text(text, newline="")
+    for words, given in commands_about(dice, machines.read(text), str(file)):
+        compare(program, words, given, folder, text, counts)
+    counts["random machines"] += 1
+
+
+def main(program, cases="crates/l4_cases/data", count=0):
     if program == "-":
         sys.stdout.write(lines_of(sys.stdin.read()))
         return
     program, cases = str(pathlib.Path(program).resolve()), pathlib.Path(cases).resolve()
-    counts = collections.Counter()
+    counts, dice = collections.Counter(), random.Random(SEED)
     with tempfile.TemporaryDirectory() as work:
+        for number in range(int(count)):
+            compare_random(program, dice, KINDS[number % len(KINDS)], work, counts)
         for case in sorted([*cases.glob("*.l4"), *cases.glob("*.case"), *cases.glob("examples/*.l4")]):
             machine, commands = commands_of(case)
             for words, given in commands:

@@ -13,7 +13,7 @@ import subprocess
 import sys
 
 import soak
-from second import machines, randoms
+from second import machines, randoms, scripts
 
 sys.path.append(str(pathlib.Path(__file__).resolve().parent.parent / "bench"))
 
@@ -28,7 +28,7 @@ PARTS = 4
 NOT_DONE = 2
 DATA = pathlib.Path(__file__).resolve().parent.parent / "crates/l4_cases/data"
 COMMANDS = ("run", "replay", "audit")
-KINDS = (randoms.General, randoms.HandingOn, randoms.Conflicts, None)
+KINDS = (randoms.General, randoms.HandingOn, randoms.Conflicts, None, scripts.Turned)
 # So many turns, and so many items of a schedule, are compared of each input of the benchmarks.
 TURNS = 5_000
 ITEMS = 20_000

@@ -9,14 +9,14 @@ import random
 import subprocess
 import sys
 
-from second import charts, expectations, explained, machines, model, processors, randoms, searches, traces, waits
+from second import charts, expectations, explained, machines, model, processors, randoms, scripts, searches, traces, waits
 from second import words as words_of_ids
 
 SEED = 20_261_125
 QUIET, FAULT, SPENT, UNMET = 0, 1, 3, 4
 FAULTS = "l4run: "
-# Half of all machines are of profile 2, and hand messages on.
-KINDS = (randoms.General, randoms.HandingOn, randoms.Conflicts, randoms.HandingOn, randoms.Serving)
+# Of three machines one hands messages on by profile 2, and one has scripts of version 2.
+KINDS = (randoms.General, randoms.HandingOn, randoms.Conflicts, randoms.HandingOn, scripts.Serving, scripts.Turned)
 
 
 class Case:

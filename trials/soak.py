@@ -8,6 +8,8 @@ import shutil
 import subprocess
 import sys
 
+from second import scripts
+
 sys.path.append(str(pathlib.Path(__file__).resolve().parent.parent / "bench"))
 
 import texts  # noqa: E402
@@ -27,6 +29,8 @@ ACROSS = 0x4000
 PROFILES = (1, 2)
 # How many bits a word has.
 FORMATS = (64, 32)
+# How often a machine has scripts of version 2.
+SECOND = 0.3
 # How often a script of each profile hands a message on, in place of another instruction.
 HANDS_ON = {1: 0.02, 2: 0.2}
 
@@ -154,8 +158,12 @@ def main(program, folder, runs, part):
     counts, different = collections.Counter(), set()
     for number in range(runs):
         cpus, profile, bits = dice.randint(2, texts.MOST_CPUS), dice.choice(PROFILES), dice.choice(FORMATS)
+        told = text(dice, cpus, profile, bits)
+        if dice.random() < SECOND:
+            told = scripts.turned(dice, told)
+            counts["machines with scripts of version 2"] += 1
         with open(machine, "w") as file:
-            file.write(text(dice, cpus, profile, bits))
+            file.write(told)
         run = [program, "run", machine, "--turns", str(TURNS), "--record", record]
         told = done(run, (QUIET, SPENT))
         audited(program, machine, trace, told)

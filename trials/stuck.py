@@ -12,10 +12,10 @@ import subprocess
 import sys
 
 import endings
-from second import machines, model, plain, randoms, traces, worlds
+from second import machines, model, plain, randoms, scripts, traces, worlds
 
 SEED = 20_261_130
-KINDS = (randoms.GoingRound, randoms.GoingRound, randoms.Conflicts, randoms.GoingRound, randoms.GoingRound, randoms.HandingOn, randoms.GoingRound, randoms.General, randoms.Serving)
+KINDS = (randoms.GoingRound, randoms.GoingRound, randoms.Conflicts, randoms.GoingRound, randoms.GoingRound, randoms.HandingOn, randoms.GoingRound, randoms.General, scripts.Serving, scripts.Turned)
 # In place of a program: the two ways are compared with each other alone.
 NO_PROGRAM = "none"
 DEPTH, MOST_WORLDS = 1_000, 1_000
@@ -97,7 +97,7 @@ def main(program, folder, count, part):
         text = KINDS[number % len(KINDS)](dice).text()
         machine = machines.read(text)
         counts[f"machines of profile {machine.profile}, {machine.format.bits} bits"] += 1
-        counts["machines that go round"] += "\njump " in text
+        counts["machines that go round"] += "jump " in text
         try:
             judge(machine, dice, counts)
             if program != NO_PROGRAM:

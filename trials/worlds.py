@@ -10,12 +10,12 @@ import collections
 import random
 import sys
 
-from second import model, randoms, traces, worlds
+from second import model, randoms, scripts, traces, worlds
 from second.processors import OwnTurn, TakeLetter, Tick
 from second.searches import Walk
 
 SEED = 20_261_128
-KINDS = (randoms.Conflicts, randoms.HandingOn, randoms.General, randoms.HandingOn, randoms.Serving)
+KINDS = (randoms.Conflicts, randoms.HandingOn, randoms.General, randoms.HandingOn, scripts.Serving, scripts.Turned)
 DEPTH = 60
 MOST_WORLDS = 1_000
 WALKS = 2
@@ -113,8 +113,8 @@ def main(count, part):
     dice, counts = random.Random(SEED + part), collections.Counter()
     for number in range(count):
         text = KINDS[number % len(KINDS)](dice).text()
-        if number % 3:
-            text = text.replace("\njump ", "\nonerr ")
+        if number // len(KINDS) % 3:
+            text = randoms.ending_more(text)
         machine = worlds.machines.read(text)
         counts[f"machines of profile {machine.profile}, {machine.format.bits} bits"] += 1
         try:

@@ -8,6 +8,7 @@
  *              where a round does nothing, all clocks go on to the least deadline. So it prints what
  *              `replay --schedule '' --then-rest` prints, with the turns of the run. The program has
  *              several processors work at the same time, and may take another order.
+ *     step     takes its lines from the file `-`, and answers all of them.
  *     others   replay, audit, chart, endings, lint, help: as the program does. A chart is drawn as
  *              for an output that is no terminal.
  *
@@ -15,10 +16,10 @@
  * "run\0m.l4\0--report" with the 0 that C puts behind it. What follows the last 0 is no word.
  *
  * FILES have the names that words may have for them, without a 0. At most three are read: the
- * machine text; the trace of audit and chart, or the list that `--schedule @NAME` names; and what
- * `--expect` names. A file without a name is not there. Of two with one name the first is taken. A
- * name among the words that no file has is a fault, `l4run: cannot read NAME`. The name `-` of the
- * standard input is a name like any other.
+ * machine text; the trace of audit and chart, the list that `--schedule @NAME` names, or the lines
+ * of step; and what `--expect` names. A file without a name is not there. Of two with one name the
+ * first is taken. A name among the words that no file has is a fault, `l4run: cannot read NAME`. The
+ * name `-` of the standard input is a name like any other.
  *
  * ANSWERS are what goes to the output, to the faults and into the record of `--record`, and the exit
  * status of the program:

@@ -118,7 +118,9 @@ class Editor {
     // How many letters the ids of threads take, which stand before the numbers of the lines at which they are. There is room for them where
     // none is shown too, so that the text does not move.
     roomForIds() {
-        const ids = this.lines.filter((line) => line.startsWith("thread ")).map((line) => line.split(" ")[1]);
+        const wordsOf = (key) => this.lines.filter((line) => line.startsWith(`${key} `)).map((line) => line.split(" ").slice(1));
+        const names = new Map(wordsOf("name"));
+        const ids = wordsOf("thread").map(([id = ""]) => names.get(id) ?? id);
         return ids.length > MOST_PLACES ? 0 : Math.min(Editor.LONGEST_ID, Math.max(0, ...ids.map((id) => id.length)));
     }
 

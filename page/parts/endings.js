@@ -70,6 +70,9 @@ async function search(isStuckOnly) {
     if (!answer) return;
     const { made, text } = answer;
     const found = endingsOf(made.out, rests);
+    const machine = machineOf(text);
+    for (const { report: ended } of found.endings) nameThreads(ended, machine);
+    for (const thread of found.forever) thread.called = calledIn(machine, thread.id);
     const isPart = asked.includes("--with") || asked.includes("--never");
     if (isPart) $("bylines").open = true;
     sayIn("found", searchText({ ...found, isStuckOnly, isPart, rests, took: made.took }));
@@ -109,10 +112,12 @@ async function askForMoment() {
     if (!answer) return;
     const { made, text } = answer;
     const moment = momentOf(made.out);
+    nameThreads(moment.report, machineOf(text));
     sayIn("found", momentText({ ...moment, took: made.took }));
     const cards = moment.isMet ? [momentCard(moment, () => openEnding({ number: "1", condition }, asked, text))] : [];
     $("count").textContent = cards.length;
     $("endinglist").replaceChildren(...cards);
+    letIdsFit([moment]);
     tellCommand(made, [], moment.last);
 }
 
@@ -148,6 +153,13 @@ function showEndings({ endings, forever }, open) {
     const head = forever.length ? [el("h3", {}, "Stuck for ever, whatever the others do ", note)] : [];
     const threads = forever.slice(0, MOST_CARDS).map((thread) => foreverCard(thread, () => open(thread)));
     $("endinglist").replaceChildren(...cards, ...rest, ...head, ...threads);
+    letIdsFit(endings);
+}
+
+// Ids with their names have one width on all cards, as far as there is room.
+function letIdsFit(endings) {
+    const longest = Math.max(0, ...endings.flatMap(({ report }) => report.threads.map(({ called }) => called.length)));
+    $("endinglist").style.setProperty("--ids", `max(44px, ${Math.min(22, longest)}ch)`);
 }
 
 const opens = (open) => () =>
@@ -158,8 +170,8 @@ const opens = (open) => () =>
     });
 
 // A thread that may be stuck for ever, of which a search tells how many steps make it so.
-function foreverCard({ id, steps }, open) {
-    const name = el("span", { className: "name" }, el("b", { textContent: id }), "can never go on", el("small", { textContent: `after ${counted(steps, "step")}` }));
+function foreverCard({ called, steps }, open) {
+    const name = el("span", { className: "name" }, el("b", { textContent: called }), "can never go on", el("small", { textContent: `after ${counted(steps, "step")}` }));
     return el("button", { className: "ending bad", onclick: opens(open) }, name);
 }
 
@@ -189,7 +201,7 @@ function rowsOf(threads, differs) {
 
 function endingCard({ number, list, steps, report }, differs, open) {
     const isBad = report.threads.some((thread) => thread.isStuck);
-    const deadlocks = report.deadlocks.map((ids) => el("span", { className: "circle", textContent: `deadlock of ${ids.join(", ")}` }));
+    const deadlocks = report.deadlocks.map((ids) => el("span", { className: "circle", textContent: `deadlock of ${ids.map((id) => report.byId.get(id).called).join(", ")}` }));
     const held = report.threads.filter((thread) => thread.held).map(heldNote);
     const length = el("small", { textContent: list ? counted(list.length, "item") : counted(steps, "step") });
     const by = list && el("span", { className: "by", title: list.join(","), textContent: list.join(",") || "nothing happens" });
@@ -214,7 +226,7 @@ function endingRow(thread, differs) {
     const row = el(
         "span",
         { className: `row${thread.isStuck ? " bad" : ""}` },
-        el("b", { textContent: thread.id }),
+        el("span", {}, el("b", { textContent: thread.id }), thread.called.slice(thread.id.length)),
         el("span", { textContent: thread.state }),
         el("span", {}, ...waits, ...own),
     );

@@ -6,15 +6,17 @@ const MOST_MISSING = 200;
 const expectations = () => $("wanted").value.replace(/\n*$/, "\n");
 
 async function fillIn() {
-    const [made] = await program.perform("step", session.files(session.at), session.command("--report"));
+    const exact = await session.exact();
+    const [made] = await program.perform("step", exact.files(exact.at), exact.command("--report"));
     $("wanted").value = isFault(made) ? "" : made.out.replace(/^passed .*\n/, "");
     tellCommand(made, session.done);
 }
 
 async function judge(isOfAll) {
-    if (!isOfAll && session instanceof Trace) {
+    if (!isOfAll && (session instanceof Trace || session.part)) {
         const lines = ["The program judges runs, lists of items, and all endings."];
-        sayIn("judged", { tone: "fair", head: "A state of a trace is judged by none of its commands.", lines });
+        const head = session.part ? "A state in the middle of an item" : "A state of a trace";
+        sayIn("judged", { tone: "fair", head: `${head} is judged by none of its commands.`, lines });
         return;
     }
     const wanted = expectations();

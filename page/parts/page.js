@@ -179,6 +179,7 @@ async function addressOf() {
     const way = { n: doc.name, t: editor.text, v: doc.tab };
     if (session.text === editor.text && session.list.length) {
         Object.assign(way, { [session instanceof Trace ? "h" : "s"]: session.written(session.list), i: session.at });
+        if (session.part) way.j = session.part;
     }
     if ($("wanted").value) way.e = $("wanted").value;
     if (resting().length) way.r = $("rests").value;
@@ -215,7 +216,7 @@ async function follow() {
     $("wanted").value = way.e ?? "";
     $("rests").value = way.r ?? "";
     tab(TABS.includes(way.v) ? way.v : "steps");
-    await opened(way.t === undefined ? lesson.name : way.n ?? "linked.l4", text, sessionBy(way.h ?? way.s ?? "", text, way.i));
+    await opened(way.t === undefined ? lesson.name : way.n ?? "linked.l4", text, sessionBy(way.h ?? way.s ?? "", text, way.i, way.j));
     if (way.isDamaged) tell("This link is damaged: its text could not be read.");
     if (VERBS[asked.get("do")]) await verb(asked.get("do"));
 }
@@ -228,8 +229,9 @@ async function wayOf(asked) {
 }
 
 // A list that was typed, opened or linked: of items, or the steps of a trace.
-function sessionBy(list, text, at) {
-    return isTrace(list) ? new Trace(program, text, stepsOf(list), at) : new Schedule(program, text, listOf(list), at);
+function sessionBy(list, text, at, part = 0) {
+    const begun = isTrace(list) ? new Trace(program, text, stepsOf(list), at) : new Schedule(program, text, listOf(list), at);
+    return Object.assign(begun, { part });
 }
 
 // Shows a text at the left.
@@ -313,7 +315,8 @@ async function run() {
 // The report of the state that is shown.
 async function report() {
     if (session.text !== editor.text || !session.list.length) await run();
-    const [made] = await program.perform("long", session.files(session.at), session.command("--report", "--waits", "--counts"));
+    const exact = await session.exact();
+    const [made] = await program.perform("long", exact.files(exact.at), exact.command("--report", "--waits", "--counts"));
     print(made);
     tellCommand(made, session.done);
     tab("output");
@@ -342,9 +345,9 @@ const verb = (name) =>
 // On to rest, by items that can be stepped through.
 async function toRest() {
     const begun = session;
-    const { at } = begun;
+    const { at, part } = begun;
     const rested = await begun.rested($("turns").value);
-    if (session === begun && session.at === at) await begin(rested);
+    if (session === begun && session.at === at && session.part === part) await begin(rested);
 }
 
 async function savedChart(kind) {
@@ -436,7 +439,7 @@ function wireExamples() {
 
 function wireSteps() {
     on("first", "click", () => view(0));
-    on("back", "click", () => view(Math.max(0, session.at - 1)));
+    on("back", "click", () => view(session.part ? session.at : Math.max(0, session.at - 1)));
     on("forth", "click", () => view(session.at + 1));
     on("last", "click", () => view(session.list.length));
     on("slider", "input", () => view(Number($("slider").value)));
@@ -546,7 +549,7 @@ async function start() {
     theme = kept("l4run-colours") ?? "auto";
     colours();
     editor = new Editor($("editor"), { onChange: onTyped, onLine: tellLine });
-    chart = new Chart($("chart"), toStep);
+    chart = new Chart($("chart"), { onRow: toStep, onWays: (step) => guarded(() => openWays(step)), onScroll: waysSoon });
     new ResizeObserver(fit).observe($("pane"));
     wire();
     if (!window.DecompressionStream || !window.WebAssembly) {

@@ -21,9 +21,6 @@ function strangerOf({ threads }) {
     return number;
 }
 
-// The processor of the thread that a step names first.
-const cpuOf = (machine, step) => machine.byId.get(step.split(" ")[1].split("#")[0])?.cpu;
-
 // For each processor a tick behind all times that can stand there now.
 function ticksBehind({ cpus, threads }, list) {
     const times = threads.flatMap(({ script }) => script.filter(({ words }) => words[0] === "ipc").flatMap(({ words }) => words.slice(3, 5)));

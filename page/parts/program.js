@@ -1,11 +1,12 @@
-// The program in workers. There are four lanes, so that none waits for another: what takes long, the stepper, what may come next, and
-// lint. A lane is a worker; one that is stopped is ended, and the next question starts another.
+// The program in workers. There are six lanes, so that none waits for another: what takes long, the stepper, what may come next, what else might
+// have come (of rows that are looked at, and of one that somebody asks for), and lint. A lane is a worker; one that is stopped is ended, and the
+// next question starts another.
 
 class Stopped extends Error {}
 
 class Program {
-    // `onBusy` hears whether somebody but lint is at work, `onTold` how far a search has come; `limit` tells how many bytes of memory a call may
-    // take.
+    // `onBusy` hears whether somebody is at work but lint and the look at rows, `onTold` how far a search has come; `limit` tells how many bytes of
+    // memory a call may take.
     constructor(module, { onBusy, onTold, limit }) {
         Object.assign(this, { module, onBusy, onTold, limit });
         this.url = URL.createObjectURL(new Blob([$("worker").textContent], { type: "text/javascript" }));
@@ -53,7 +54,7 @@ class Program {
     }
 
     tellBusy() {
-        this.onBusy([...this.lanes].some(([name, { waiting }]) => name !== "lint" && waiting.size));
+        this.onBusy([...this.lanes].some(([name, { waiting }]) => !["lint", "ways"].includes(name) && waiting.size));
     }
 
     // Ends what is asked for: of one lane, or of all.

@@ -66,6 +66,9 @@ function machineOf(text) {
 }
 const placed = (labels, word) => [labels.has(word) ? `${labels.get(word)}` : word];
 
+// The processor of the thread that a step names first.
+const cpuOf = (machine, step) => machine.byId.get(step.split(" ")[1].split("#")[0])?.cpu;
+
 // What a line says: the name of an instruction in front of it, without blanks around and comments behind.
 function saidOf(line) {
     const said = line.split(";")[0].trim();
@@ -113,11 +116,11 @@ function reportOf(out) {
         const [word, ...rest] = line.split(" ");
         if (word === "thread") {
             const [id, state, code, from, actual, ...registers] = rest;
-            const thread = { id, state, code, from, actual, registers, line };
+            const thread = { id, state, code, from, actual, registers, line, called: id, heard: from };
             report.threads.push(thread);
             report.byId.set(id, thread);
         } else if (word === "waits") {
-            waits.set(rest[0], { to: rest[1], phase: rest[2] });
+            waits.set(rest[0], { to: rest[1], phase: rest[2], called: rest[1] });
         } else if (word === "circle") {
             report.circles.push(rest);
         } else if (word === "deadlock") {
@@ -143,6 +146,20 @@ function letRest(report, ids) {
     for (const thread of report.threads) {
         thread.isResting = thread.isCaught && ids.includes(thread.id);
         thread.isStuck = thread.isForever || (thread.isCaught && !thread.isResting);
+    }
+}
+
+// An id, with the name behind it that the text gives its thread.
+function calledIn({ byId }, id) {
+    const { name } = byId.get(id) ?? {};
+    return name ? `${id} (${name})` : id;
+}
+// The threads of a report are called as the text has them.
+function nameThreads(report, machine) {
+    for (const thread of report.threads) {
+        const { name } = machine.byId.get(thread.id) ?? {};
+        Object.assign(thread, { name, called: calledIn(machine, thread.id), heard: calledIn(machine, thread.from) });
+        if (thread.wait) thread.wait.called = calledIn(machine, thread.wait.to);
     }
 }
 
@@ -188,7 +205,7 @@ function endingsOf(out, rests = []) {
         const head = headOf(line);
         const [, id, steps] = line.match(/^stuck (\S+) for ever, steps (\d+)$/) ?? [];
         if (head) found.endings.push({ ...head, lines: [] });
-        else if (id) found.forever.push({ number: `${found.endings.length + found.forever.length + 1}`, id, steps: Number(steps) });
+        else if (id) found.forever.push({ number: `${found.endings.length + found.forever.length + 1}`, id, called: id, steps: Number(steps) });
         else if (line === "stuck for ever: cut") found.isForeverCut = true;
         else if (/^(states|worlds) /.test(line)) found.last = line;
         else if (line.startsWith("no ending")) found.isEndless = true;
@@ -209,7 +226,7 @@ function momentOf(out) {
     const report = reportOf(lines.join("\n"));
     for (const line of lines) {
         const [, id, to] = line.match(/^waiting (\S+)#\d+ (\S+)$/) ?? [];
-        if (id && report.byId.has(id)) report.byId.get(id).wait = { to, phase: "send" };
+        if (id && report.byId.has(id)) report.byId.get(id).wait = { to, phase: "send", called: to };
     }
     return { isMet: steps !== undefined, steps: Number(steps), isLeast: !orFewer, isCut: head === "not met: cut", report, last: lines.at(-1) ?? "" };
 }

@@ -12,7 +12,7 @@ let chartShown = ""; // which rows and columns the chart has
 function begin(begun) {
     session = begun;
     chartShown = "";
-    return view(session.at);
+    return view(session.at, session.part);
 }
 
 // Does items, or steps, behind those that are done.
@@ -23,31 +23,42 @@ function perform(...more) {
 
 // Goes on in another way: by any step that may happen, from the state that is shown, or anew by turns of the processors.
 async function goOnBy(way) {
-    const [state] = await session.statesAt(session.at);
-    await begin(way === "steps" ? new Trace(program, session.text, state.told.map(({ step }) => step)) : new Schedule(program, session.text));
+    const left = session;
+    const [{ told }] = await left.statesShown();
+    const begun = way === "steps" ? new Trace(program, left.text, told.map(({ step }) => step)) : new Schedule(program, left.text);
+    begun.left = left.list.length ? left : null;
+    await begin(begun);
 }
 
-// Shows the state behind so many items. Where several are asked for at once, the last alone is shown.
-function view(at) {
-    wanted = at;
+// Does another thing in the place of an item. The list that is left for it can be had again.
+async function doInstead(place, item) {
+    const made = session.with([item], place);
+    made.left = session;
+    await begin(made);
+}
+
+// Shows the state behind so many items, and so many steps of the next one. Where several are asked for at once, the last alone is shown.
+function view(at, part = 0) {
+    wanted = [at, part];
     nextIsOld();
+    closeWays();
     program.stop("next");
     showing ??= showWanted().finally(() => (showing = null));
     return guarded(() => showing);
 }
 async function showWanted() {
     while (wanted !== null) {
-        const at = Math.min(wanted, session.list.length);
+        const [at, part] = wanted;
         wanted = null;
-        await show(session, at);
+        await show(session, Math.min(at, session.list.length), part);
     }
     nextSoon();
     addressSoon();
 }
 
-async function show(shown, at) {
-    shown.at = at;
-    const [now, before] = await shown.statesAt(at, at - 1);
+async function show(shown, at, part) {
+    Object.assign(shown, { at, part });
+    const [now, before] = await shown.statesShown();
     const isOld = () => shown !== session || wanted !== null;
     if (isOld()) return;
     showTransport(shown);
@@ -57,9 +68,14 @@ async function show(shown, at) {
         tellCommand(now.made, shown.list);
         return;
     }
-    for (const state of [now, before]) if (state) letRest(state.report, resting());
+    for (const { report } of [now, before].filter(Boolean)) {
+        letRest(report, resting());
+        nameThreads(report, shown.machine);
+    }
     const told = before ? now.told.slice(before.told.length) : [];
-    showWhere(shown, now, told);
+    const steps = await shown.stepsOfItem();
+    if (isOld()) return;
+    showWhere(shown, steps, now.told.length);
     $("rest").disabled = now.report.ending === "quiet";
     // Lines are those of the text at the left, as long as that is the text that is stepped through.
     const places = shown.text === editor.text ? placesOf(shown.machine, now.told) : [];
@@ -83,10 +99,12 @@ function showStale(isOfText) {
 // What has come of it, in a sentence; of each who waits the line at which that is; who waits for whom, in a picture; and what one may ask.
 function showVerdict(shown, now, lines) {
     const { at, list, machine } = shown;
-    const said = verdictOf(now, at === 0, shown.isCut && at === list.length ? at : 0);
+    const said = verdictOf(now, now.told.length === 0 && at === 0, shown.isCut && at === list.length ? at : 0);
     const withPlaces = said.lines.map((line) => (typeof line === "string" ? line : [line.text, ...placeIn(machine, line.id, lines.get(line.id))]));
     sayIn("verdict", { ...said, lines: withPlaces });
-    const picture = said.circle && circlePicture(said.circle, (id) => now.report.byId.get(id).held);
+    const circle = said.circle ? circleTold(now.report, said.circle) : circleRead(now.report, machine);
+    if (circle) $("verdict").append(...readText(circle, machine));
+    const picture = circle && circlePicture(circle);
     if (picture) {
         $("verdict").append(picture);
         $("verdict").classList.add("drawn");
@@ -106,13 +124,13 @@ function placeIn(machine, id, line) {
 const lineButton = (line) => Object.assign(button(`line ${line}`, () => editor.goTo(line)), { className: "inline" });
 
 function showTransport(shown) {
-    const { list, at } = shown;
+    const { list, at, part } = shown;
     const { UNIT, NAME } = shown.constructor;
     $("slider").max = list.length;
     $("slider").value = at;
     $("slider").disabled = !list.length;
-    $("slider").setAttribute("aria-valuetext", `${at} of ${counted(list.length, UNIT)}`);
-    for (const id of ["first", "back"]) $(id).disabled = at === 0;
+    $("slider").setAttribute("aria-valuetext", `${part ? `in item ${at + 1}` : at} of ${counted(list.length, UNIT)}`);
+    for (const id of ["first", "back"]) $(id).disabled = at === 0 && !part;
     for (const id of ["forth", "last"]) $(id).disabled = at === list.length;
     $("rest").hidden = !shown.rested;
     $("way").value = `${UNIT}s`;
@@ -120,19 +138,36 @@ function showTransport(shown) {
     if (document.activeElement !== $("schedule")) $("schedule").value = shown.written(list);
 }
 
-function showWhere(shown, now, told) {
-    const { list, at } = shown;
+// Which item was done last, or is under way, and the steps that it tells; each of several leads to the state behind it. `count` steps are done.
+function showWhere(shown, steps, count) {
+    const { list, at, part, left } = shown;
     const { UNIT } = shown.constructor;
-    const item = list[at - 1];
-    const count = now.told.length;
+    const place = part ? at + 1 : at;
+    const item = list[place - 1];
+    const first = count + 1 - (part || steps.length);
     const isOfText = shown.text === editor.text;
-    const named = (text, meaning) => [el("b", { textContent: text }), meaning && ` (${meaning})`];
-    const placed = ({ step, to, line }) => [...named(withReceiver(step, to), meaningOf(step)), ...(line && isOfText ? [" ", lineButton(line)] : [])];
-    const tells = told.flatMap((it, place) => [place ? ", " : ": ", ...placed(it)]);
-    const did = !at ? [] : UNIT === "step" ? tells : [": ", ...named(item, itemText(item))];
-    const numbers = told.length > 1 ? `steps ${count - told.length + 1}–${count}` : `step ${count}`;
-    const steps = UNIT === "step" || !at ? [] : [" · ", ...(told.length ? [numbers, ...tells] : ["it tells nothing"])];
-    $("where").replaceChildren(`${UNIT} ${at} of ${list.length}`, ...did, ...steps);
+    const named = (name, meaning) => [name, meaning && ` (${meaning})`];
+    const nameOf = (said, number) => (steps.length > 1 ? stepButton(said, number, count) : el("b", { textContent: said }));
+    const placed = ({ step, to, line }, number) => {
+        const said = named(nameOf(withReceiver(step, to), number), meaningOf(step));
+        return line && isOfText ? [...said, " ", lineButton(line)] : said;
+    };
+    const tells = steps.flatMap((step, more) => [more ? ", " : ": ", ...placed(step, first + more)]);
+    const did = !place ? [] : UNIT === "step" ? tells : [": ", ...named(el("b", { textContent: item }), itemText(item))];
+    const numbers = steps.length > 1 ? `steps ${first}–${first + steps.length - 1}${part ? `, behind step ${count}` : ""}` : `step ${count}`;
+    const all = UNIT === "step" || !place ? [] : [" · ", ...(steps.length ? [numbers, ...tells] : ["it tells nothing"])];
+    const back = left ? [" ", backButton(left)] : [];
+    $("where").replaceChildren(`${part ? "in " : ""}${UNIT} ${place} of ${list.length}`, ...did, ...all, ...back);
+}
+function backButton(left) {
+    const { UNIT } = left.constructor;
+    const text = `back to the ${UNIT === "step" ? "trace" : "list"} of ${counted(left.list.length, UNIT)}`;
+    return Object.assign(button(text, () => begin(left)), { className: "inline", title: "that was left to do something else" });
+}
+function stepButton(textContent, number, count) {
+    const made = Object.assign(button(textContent, () => toStep(number)), { className: "inline step", title: `the state behind step ${number}` });
+    if (number === count) made.setAttribute("aria-current", "step");
+    return made;
 }
 
 // The text or the list has a fault.
@@ -213,10 +248,10 @@ const waitKey = ({ wait }) => (wait ? `${wait.to} ${wait.phase}` : "");
 function card(thread, was, line) {
     const tone = thread.isStuck ? "stuck" : isOver(thread) ? "ended" : thread.wait ? "wait" : "ready";
     const { cpu = "?", space = "?", name: called } = session.machine.byId.get(thread.id) ?? {};
-    const place = el("small", { textContent: `${called ? `${called}, ` : ""}cpu ${cpu}, space ${space}` });
+    const place = el("small", {}, called, el("span", { className: "place", textContent: `${called ? ", " : ""}cpu ${cpu}, space ${space}` }));
     const name = line ? button(thread.id, () => editor.goTo(line)) : thread.id;
     if (line) name.title = `${IN_ONE.includes(thread.state) ? "in" : "it did"} line ${line} of the text`;
-    const from = thread.from !== "nil" && el(was && was.from !== thread.from ? "mark" : "span", { textContent: `heard from ${thread.from}` });
+    const from = thread.from !== "nil" && el(was && was.from !== thread.from ? "mark" : "span", { textContent: `heard from ${thread.heard}` });
     return el(
         "article",
         { className: `card ${tone}${hasChanged(thread, was) ? " changed" : ""}` },
@@ -291,7 +326,7 @@ async function draw(shown, row, told, isOld) {
             return;
         }
         chartShown = wantedRows;
-        chart.draw(svg.out, steps);
+        chart.draw(svg.out, steps, new Map(shown.machine.threads.filter(({ name }) => name).map(({ id, name }) => [id, name])));
         showPager(from, to, steps.length);
     }
     fit();
@@ -321,7 +356,7 @@ function showPager(from, to, total) {
     );
 }
 
-const toStep = (step) => guarded(async () => view(await session.placeOf(step)));
+const toStep = (step) => guarded(async () => view(...(await session.partsOf(step))));
 
 // What may happen next. What is shown of another state is greyed, and can't be pressed, until the new is there.
 let nextTimer = 0;
@@ -341,28 +376,37 @@ function nextSoon() {
 
 async function showNext() {
     const shown = session;
-    const { at } = shown;
-    const state = shown.states.get(at);
-    const isOld = () => shown !== session || at !== session.at;
-    if (!state || isFault(state.made)) {
+    const { at, part } = shown;
+    const [state] = await shown.statesAt(at);
+    const isOld = () => shown !== session || at !== session.at || part !== session.part;
+    if (isOld()) return;
+    if (isFault(state.made)) {
         $("next").replaceChildren();
-        nextIsNew();
-        return;
+    } else if (part) {
+        drawRest(shown, await shown.stepsOfItem());
+    } else {
+        const found = await lookedFor(shown);
+        if (!found || isOld()) return;
+        drawNext(found, state);
     }
+    waysSoon();
+    nextIsNew();
+    document.body.dataset.next = `${at}`;
+}
+
+// What may happen next, or nothing where that was stopped. It is told if it takes long.
+async function lookedFor(shown) {
     const looking = setTimeout(() => $("next").replaceChildren(el("p", { className: "none", textContent: "looking .." })), 600);
-    let found;
+    const began = performance.now();
     try {
-        found = await shown.next();
+        return await shown.next();
     } catch (trap) {
-        if (trap instanceof Stopped) return;
+        if (trap instanceof Stopped) return null;
         throw trap;
     } finally {
         clearTimeout(looking);
+        shown.nextTook = Math.max(shown.nextTook, performance.now() - began);
     }
-    if (isOld()) return;
-    drawNext(found, state);
-    nextIsNew();
-    document.body.dataset.next = `${at}`;
 }
 
 const KINDS = {
@@ -371,6 +415,7 @@ const KINDS = {
     own: () => "takes a turn, letters wait",
     tick: () => "a clock goes on",
     silent: () => "works on",
+    rest: () => "goes on with the item",
     local: () => "an instruction of its own",
     begin: () => "a send begins",
     queue: () => "waits at its receiver",
@@ -418,12 +463,20 @@ const shortOf = (step) => step.replace(/^(deliver \S+) (\S+) .*$/, "$1 → $2");
 const withReceiver = (step, to) => (to ? `${step} → ${to}` : step);
 const shortStep = (step) => el("span", { title: `${step}: ${meaningOf(step)}`, textContent: shortOf(step) });
 
-function choiceButton(choice, number) {
+// In the middle of an item: its other steps come next, or any step.
+function drawRest({ list, at, part, machine }, steps) {
+    const rest = steps.slice(part).map(({ step }) => step);
+    const choice = { cpu: cpuOf(machine, rest[0]), item: list[at], kind: "rest", steps: rest };
+    const any = Object.assign(button("Go on by any step", () => goOnBy("steps")), { className: "inline" });
+    $("next").replaceChildren(choiceButton(choice, 1), el("p", { className: "none" }, `In the middle of item ${at + 1}. `, any));
+}
+
+function choiceButton(choice, number, work = () => perform(choice.item)) {
     const { cpu, item, kind, steps } = choice;
     const made = el(
         "button",
-        { className: `choice${steps.length ? "" : " silent"}`, title: `item ${item}`, onclick: () => perform(item) },
-        el("kbd", { textContent: number < 10 ? number : "·" }),
+        { type: "button", className: `choice${steps.length ? "" : " silent"}`, title: `item ${item}`, onclick: () => guarded(work) },
+        number > 0 && el("kbd", { textContent: number < 10 ? number : "·" }),
         el("span", { className: "told" }, ...(steps.length ? steps.map(shortStep) : [el("span", { textContent: "nothing to tell yet" })])),
         el("span", { className: "what", textContent: `${cpu === undefined ? "" : `cpu ${cpu} `}${steps[0] === item ? "· " : ""}${KINDS[kind](choice)}` }),
     );

@@ -3,14 +3,14 @@
 // A sentence of a thread that waits. The page says beside it at which line that is.
 const waitLine = (thread, end = "") => ({ text: `${waitText(thread)}${thread.isResting ? ", and may rest there" : end}`, id: thread.id });
 // Of one who waits for a message of another than it heard from last: of a lock that waits to be given back, who has it.
-const heardText = ({ from, wait }) => (wait.phase === "receive" && from !== "nil" && from !== wait.to ? `; it heard from ${from} last` : "");
-const waitText = ({ id, wait }) =>
-    wait.phase === "send" ? `${id} waits for ${wait.to} to take its message` : `${id} waits for a message from ${wait.to}`;
+const heardText = ({ from, heard, wait }) => (wait.phase === "receive" && from !== "nil" && from !== wait.to ? `; it heard from ${heard} last` : "");
+const waitText = ({ called, wait }) =>
+    wait.phase === "send" ? `${called} waits for ${wait.called} to take its message` : `${called} waits for a message from ${wait.called}`;
 // Sentences of the sends that are held, and why they are.
 const heldLines = ({ threads }) => threads.filter(({ held }) => held).map(heldText);
 const heldText = (thread) => `${thread.held} is held: a send of time zero that is not refused yet. ${heldBecause(thread)}.`;
-const heldBecause = ({ wait }) => `${wait.to} is in a call to another processor, and would accept it once that call is decided`;
-const shortWait = (wait) => (wait.phase === "send" ? `sends to ${wait.to}` : `waits for ${wait.to}`);
+const heldBecause = ({ wait }) => `${wait.called} is in a call to another processor, and would accept it once that call is decided`;
+const shortWait = (wait) => (wait.phase === "send" ? `sends to ${wait.called}` : `waits for ${wait.called}`);
 const timeText = (took) => (took < 950 ? `${took.toFixed(took < 9.5 ? 1 : 0)} ms` : `${(took / 1000).toFixed(took < 9500 ? 1 : 0)} s`);
 const sizeText = (number, one) => counted(Number(number).toLocaleString("en"), one);
 const counted = (number, one, many = `${one}s`) => `${number} ${Number(number) === 1 ? one : many}`;
@@ -30,7 +30,7 @@ function waitingOf({ report, told }, isBeginning, cutAt) {
     const isAtRest = report.ending === "quiet";
     const forever = report.threads.find((thread) => thread.isForever);
     if (forever && !isAtRest) {
-        const head = `${forever.id} can never go on from here, whatever the others do.`;
+        const head = `${forever.called} can never go on from here, whatever the others do.`;
         return { tone: "bad", head, lines: among(stuck.map((thread) => waitLine(thread)), 10), circle: report.deadlocks[0] };
     }
     if (deadlocks.length) {
@@ -45,7 +45,7 @@ function waitingOf({ report, told }, isBeginning, cutAt) {
         return { tone: "bad", head, lines: among([...stuck, ...resting].map((thread) => waitLine(thread, heardText(thread))), 8) };
     }
     if (isAtRest) {
-        const ids = among(open.map((thread) => thread.id), 6).join(", ");
+        const ids = among(open.map((thread) => thread.called), 6).join(", ");
         const servers = open.length ? [`${ids} ${open.length === 1 ? "waits" : "wait"} for anybody, as a server does.`] : [];
         const others = among(resting.map((thread) => waitLine(thread)), 8);
         return { tone: "good", head: "At rest: nothing is left to do, and nobody is stuck.", lines: [...servers, ...others] };
@@ -101,7 +101,7 @@ function momentText({ isMet, steps, isLeast, isCut, last, took }) {
     if (isCut) return { tone: "fair", head: "No such moment was found.", lines };
     return { tone: "good", head: "Never: there is no moment in which all of these lines hold.", lines };
 }
-const stuckText = (forever) => `${among(forever.map(({ id }) => id), 6).join(", ")} can get stuck for ever`;
+const stuckText = (forever) => `${among(forever.map(({ called }) => called), 6).join(", ")} can get stuck for ever`;
 function endlessText({ forever, isForeverCut, isStuckOnly }) {
     const nobody = isStuckOnly && !isForeverCut ? ", and nobody gets stuck" : "";
     return `No ending: it goes on for ever${forever.length ? `, and ${stuckText(forever)}` : nobody}.`;

@@ -7,7 +7,7 @@ const zlib = require("zlib");
 const { Chromium, Firefox, sleep } = require("./browsers.cjs");
 const { allCommands } = require("./cases.cjs");
 const { printedBy, printedOnTerminal, isSame } = require("./native.cjs");
-const { ring, loop, locksInRing, lostReply, lost, beside } = require("./texts.cjs");
+const { ring, loop, locksInRing, lostReply, lost, beside, namedLocks, lostInside } = require("./texts.cjs");
 
 const [, , name, page, program, top, pictures] = process.argv;
 let good = 0;
@@ -63,6 +63,16 @@ function hands(browser) {
         go: async (hash) => {
             await browser.go(hash);
             await it.idle();
+        },
+        // Until it is known of all rows in sight what else was possible; on a busy machine a look may end before.
+        looked: async () => {
+            for (let tries = 0; tries < 20; tries += 1) {
+                await it.idle();
+                await browser.until("!document.body.hasAttribute('data-looking')");
+                const isKnown = "const [from, to] = chart.inSight(); return [...chart.steps].every(([step, line]) => step < from || step > to || line.querySelector('.told'))";
+                if (await run(isKnown)) return;
+                await run("session.nextTook = 0; waysSoon();");
+            }
         },
         slide: async (place) => {
             await it.fill("slider", `${place}`);
@@ -317,12 +327,7 @@ async function tellsWhatIsHeld(browser, hand) {
     const below = await hand.run("return [...document.querySelectorAll('#chart .lines .state')].map((it) => it.textContent)");
     check("and so does the chart, behind the deadlock", below.slice(-2).join("; ") === "deadlock 1.1 9.1; held 9.1#1", below);
     await hand.picture("held-1200");
-    for (const isDark of [true, false]) {
-        await browser.dark(isDark);
-        await sleep(100);
-        const found = await pale(hand);
-        check(`each word of it stands out, ${isDark ? "dark" : "light"}`, found.length === 0, found);
-    }
+    await eachWordStandsOut(browser, hand);
     await hand.slide(13);
     check("it is told too where it may still be decided", isHeld.test(await hand.text("verdict")) && !/Deadlock/.test(await hand.text("verdict")), await hand.text("verdict"));
     await hand.click("#first");
@@ -397,12 +402,7 @@ async function asksForMoments(browser, hand) {
     check("such a moment is told", /hold at one moment, after 2 steps/.test(await hand.text("found")), await hand.text("found"));
     check("as a card", (await hand.count(".ending.bad")) === 1 && /1\.1\s+sending\s+sends to 11\.1/.test(await hand.text("endinglist")), await hand.text("endinglist"));
     await hand.picture("moment-1200");
-    for (const isDark of [true, false]) {
-        await browser.dark(isDark);
-        await sleep(100);
-        const found = await pale(hand);
-        check(`each word of it stands out, ${isDark ? "dark" : "light"}`, found.length === 0, found);
-    }
+    await eachWordStandsOut(browser, hand);
     await hand.click(".ending.bad");
     check("which opens there", (await hand.text("where")).startsWith("step 2 of 2"), await hand.text("where"));
     check("and says what holds", /all of these hold: waiting 1\.1#\* \* & waiting 2\.1#\* \*/.test(await hand.text("verdict")), await hand.text("verdict"));
@@ -449,7 +449,7 @@ async function stepsByAny(browser, hand) {
     await hand.click("#back");
     await hand.fill("way", "items", "change");
     await hand.idle();
-    check("turns begin anew", (await hand.text("where")).startsWith("item 0 of 0"), await hand.text("where"));
+    check("turns begin anew, and a button leads back", /^item 0 of 0 back to the trace of 13 steps$/.test(await hand.text("where")), await hand.text("where"));
 
     await hand.go("#example=timeout.l4");
     await hand.fill("way", "steps", "change");
@@ -508,6 +508,253 @@ async function steps(browser, hand) {
     check("what is said of the old text is pale", (await hand.count("#verdict.old, #pane.old")) === 2);
     await hand.click("#zero");
     check("begun anew", (await hand.text("where")).startsWith("item 0 of 0"));
+}
+
+const LOCKS = "c0,c0,c0,c0,c0,c0,c1,1:0,c1,c1,c1,c1,c1,0:1";
+const rowClick = (step) => `document.querySelector('#chart [data-step="${step}"]').dispatchEvent(new MouseEvent('click', { bubbles: true }));`;
+
+// How many other items the program tells of in front of each item of a list: by the row with which the item begins.
+function otherItemsOf(text, list) {
+    const asked = (items, ...options) => linesOf(printedBy(program, { words: ["replay", "m.l4", "--schedule", items.join(","), ...options], files: { "m.l4": text } }));
+    const rows = {};
+    list.forEach((item, place) => {
+        const before = list.slice(0, place);
+        const told = asked(before).length;
+        if (asked([...before, item]).length > told) rows[told + 1] = asked(before, "--next").filter((line) => line.startsWith("next ")).length - 1;
+    });
+    return rows;
+}
+const linesOf = ({ out }) => out.toString().split("\n").slice(0, -1);
+const FORKS = "return Object.fromEntries([...document.querySelectorAll('#chart .lines [data-step]')].map((it) => [it.dataset.step, it.querySelector('.ways').innerText.trim()]))";
+
+// Where something else was possible a row has a mark. What it was stands behind that, and is done there.
+async function marksOtherWays(browser, hand) {
+    const opens = async (body) => {
+        await hand.run(body);
+        await browser.until("document.querySelector('.over .box') !== null");
+        await hand.idle();
+    };
+    await browser.size(1200, 1400);
+    // A plain turn of the first list takes the letter that comes first, or else is the core's own.
+    let text, marks;
+    for (const [example, list] of [["hostage.l4", "1,1,0,0,1,0,0,0,0,1,1,1,1,0"], ["locks.l4", LOCKS]]) {
+        await hand.go(`#example=${example}&schedule=${list}`);
+        await hand.looked();
+        text = await hand.run("return session.text");
+        marks = await hand.run(FORKS);
+        const wanted = otherItemsOf(text, list.split(","));
+        const differ = Object.keys(marks).filter((row) => marks[row] !== (wanted[row] ? `${wanted[row]}` : ""));
+        const isWhole = Object.keys(marks).length === (await hand.run("return session.whole.length"));
+        check(`${example}: each row says how many others the program tells of`, isWhole && differ.length === 0 && Object.values(wanted).some(Boolean), [marks, wanted]);
+    }
+    const isNone = (row) => marks[row] === "";
+    check("a row where nothing else was possible has no mark, nor has one in the middle of an item", [2, 9, 11, 14, 16].every(isNone) && marks[4] === "1", marks);
+    await browser.size(1200, 800);
+    await hand.slide(3);
+    await hand.looked();
+    await hand.picture("forks-1200");
+    await opens("document.querySelector('#chart [data-step=\"8\"] .ways').click();");
+    const said = await hand.text("chart");
+    check("what else was possible is shown", /In the place of item 7, c1, one other thing was possible:\s+queue 1\.1#2\s+cpu 1 handles the letter from cpu 0/.test(said), said);
+    check("and not what was done", (await hand.count(".over .choice")) === 1);
+    check("where it was asked for nothing has changed", (await hand.text("where")).startsWith("item 3 of 14"), await hand.text("where"));
+    await hand.picture("ways-1200");
+    await eachWordStandsOut(browser, hand);
+    await browser.key("Escape");
+    check("Escape closes it", (await hand.count(".over .box")) === 0 && (await hand.focused()) === "chart", await hand.focused());
+    await browser.key("Enter");
+    await opens("");
+    check("Enter opens that of the row that is shown", /In the place of item 3, c0/.test(await hand.text("chart")), await hand.text("chart"));
+    await hand.click(".over .bar button");
+    check("one can go there", (await hand.text("where")).startsWith("item 2 of 14") && (await hand.count(".over .box")) === 0, await hand.text("where"));
+    check("where both may be done", (await hand.count("#next [data-item]")) === 2, await hand.text("next"));
+    await opens("openWays(8);");
+    await hand.click(".over .choice");
+    const where = await hand.text("where");
+    check("it is done in that place", /^item 7 of 7: 1:0 .*queue 1\.1#2/s.test(where), where);
+    const told = printedBy(program, { words: ["replay", "m.l4", "--schedule", "c0,c0,c0,c0,c0,c0,1:0"], files: { "m.l4": text } }).out.toString();
+    check("its steps are the program's", (await hand.run("return session.whole.map((it) => it.step).join('\\n') + '\\n'")) === told);
+    await hand.picture("instead-1200");
+    await hand.run("[...document.querySelectorAll('#where button')].find((it) => /back to the list of 14 items/.test(it.innerText)).click();");
+    await hand.idle();
+    const left = await hand.run("return [session.list.join(','), session.at]");
+    check("the list that was left comes back, at its place", quoted(left) === quoted([LOCKS, 2]), left);
+    check("and nothing leads back from there", !/back to/.test(await hand.text("where")), await hand.text("where"));
+
+    // Of a trace these are the steps that an audit tells of, without ticks.
+    await hand.go("#example=timeout.l4&do=run");
+    await hand.fill("way", "steps", "change");
+    await hand.looked();
+    await hand.run("document.getElementById('chart').scrollTop = 0;");
+    await sleep(200);
+    await hand.looked();
+    const steps = await hand.run("return session.list");
+    const ofTrace = await hand.run(FORKS);
+    const files = (place) => ({ "m.l4": fs.readFileSync(path.join(top, "examples", "timeout.l4")), "m.trace": [...steps.slice(0, place), "wait 77.1"].map((step) => `${step}\n`).join("") });
+    const possible = (place) => linesOf(printedBy(program, { words: ["audit", "m.l4", "m.trace", "--explain"], files: files(place) })).filter((line) => line.startsWith("possible "));
+    const others = steps.map((step, place) => possible(place).filter((line) => line !== `possible ${step}`).length);
+    const known = others.filter((count, place) => ofTrace[place + 1] === (count ? `${count}` : ""));
+    check("of a trace too", known.length >= 5 && others.every((count, place) => ["·", count ? `${count}` : ""].includes(ofTrace[place + 1])), [others, ofTrace]);
+    check("and a tick is no other way", steps.some((step) => step.startsWith("tick ")) && others.some((count) => count === 0), [steps, others]);
+
+    // What is looked for takes a while where there is much: rows that it did not come to say so, and are looked at when they are asked for.
+    await hand.go(linkOf({ n: "loop.l4", t: loop }));
+    await hand.fill("turns", "400");
+    await hand.verb("run");
+    await hand.looked();
+    const far = await hand.run("return document.querySelector('#chart [data-step=\"260\"] .ways')");
+    const first = await hand.run("return [...document.querySelectorAll('#chart .ways:not(.told)')].every((it) => it.innerText === '·' && /not looked for/.test(it.title))");
+    check("a row that was not looked at says so", first && far !== undefined && (await hand.count("#chart .ways:not(.told)")) > 0);
+    await opens("document.querySelector('#chart .ways:not(.told)').click();");
+    check("asked for, it is looked at", /In the place of item \d+, c?0, nothing else was possible, but for ticks\./.test(await hand.text("chart")), await hand.text("chart"));
+
+    await browser.size(400, 860, true);
+    await hand.go(`#example=locks.l4&schedule=${LOCKS}`);
+    await opens("openWays(8);");
+    const [right, wide] = await hand.run("return [document.querySelector('.over .box').getBoundingClientRect().right, document.documentElement.scrollWidth]");
+    check("no wider than a phone", right <= 400 && wide <= 400, [right, wide]);
+    await hand.run("document.getElementById('chart').scrollIntoView();");
+    await sleep(200);
+    await hand.picture("ways-400");
+    await browser.size(1200, 800);
+}
+
+// The states between the steps of one item.
+async function showsBetweenSteps(browser, hand) {
+    await hand.go(`#example=locks.l4&schedule=${LOCKS}`);
+    const text = await hand.run("return session.text");
+    const whole = linesOf(printedBy(program, { words: ["replay", "m.l4", "--schedule", LOCKS], files: { "m.l4": text } }));
+    const reported = (count) => {
+        const files = { "m.l4": text, "m.trace": whole.slice(0, count).map((step) => `${step}\n`).join("") };
+        return linesOf(printedBy(program, { words: ["audit", "m.l4", "m.trace", "--report", "--waits"], files }));
+    };
+    const states = () => hand.run("return [...document.querySelectorAll('.card')].map((it) => it.querySelector('b').innerText + ' ' + it.querySelector('.pill').innerText)");
+    const wanted = (count) => reported(count).filter((line) => line.startsWith("thread ")).map((line) => line.split(" ").slice(1, 3).join(" "));
+    await hand.run(rowClick(8));
+    await hand.idle();
+    const where = await hand.text("where");
+    check("a row in the middle of an item leads there", /^in item 7 of 14: c1 .*steps 8–9, behind step 8: begin 2\.1#1/s.test(where), where);
+    check("its state is that of an audit of these steps", quoted(await states()) === quoted(wanted(8)), [await states(), wanted(8)]);
+    check("which is not that of the item", quoted(wanted(8)) !== quoted(wanted(7)) && (await hand.text("status")).startsWith("l4run audit locks.l4"), await hand.text("status"));
+    check("the row is chosen, and that behind it is yet to come", quoted(await hand.run("return [chart.row, chart.since]")) === "[8,8]");
+    const next = await hand.text("next");
+    check("the item goes on", (await hand.count("#next [data-item]")) === 1 && /queue 2\.1#1\s+cpu 1 goes on with the item/.test(next), next);
+    check("and no other item comes between", (await hand.count("#next .others")) === 0 && /In the middle of item 7/.test(next), next);
+    await hand.picture("between-1200");
+    await eachWordStandsOut(browser, hand);
+    await hand.verb("report");
+    const printed = await hand.run("return printed");
+    check("its report is that of the audit", reported(8).every((line) => printed.includes(`${line}\n`)), printed);
+    await hand.click("#tab-expect");
+    await hand.click("#judge");
+    check("no command judges it, and that is told", /in the middle of an item is judged by none/.test(await hand.text("judged")), await hand.text("judged"));
+    await hand.click("#tab-steps");
+    await hand.click("#link");
+    await browser.until("document.getElementById('status').textContent.startsWith('link copied')");
+    await hand.go(await hand.run("return location.hash"));
+    check("a link leads there too", (await hand.text("where")).startsWith("in item 7 of 14"), await hand.text("where"));
+    await hand.run("document.getElementById('chart').focus();");
+    await browser.key("ArrowDown");
+    await hand.idle();
+    check("an arrow goes on by a step", (await hand.text("where")).startsWith("item 7 of 14"), await hand.text("where"));
+    await browser.key("ArrowUp");
+    await hand.idle();
+    check("and back", (await hand.text("where")).startsWith("in item 7 of 14"), await hand.text("where"));
+    await hand.run("document.activeElement.blur();");
+    await browser.key("1");
+    await hand.idle();
+    check("key 1 does the rest of the item", /^item 7 of 14/.test(await hand.text("where")) && (await hand.run("return session.list.length")) === 14, await hand.text("where"));
+    await hand.run("[...document.querySelectorAll('#where .step')][0].click();");
+    await hand.idle();
+    check("the name of a step leads behind it", (await hand.text("where")).startsWith("in item 7 of 14"), await hand.text("where"));
+    await hand.click("#back");
+    check("back leads in front of the item", (await hand.text("where")).startsWith("item 6 of 14"), await hand.text("where"));
+    await hand.run(rowClick(8));
+    await hand.idle();
+    await hand.click("#rest");
+    check("on to rest the item is done first", (await hand.run("return session.list.slice(0, 7).join(',')")) === "c0,c0,c0,c0,c0,c0,c1" && /At rest/.test(await hand.text("verdict")), await hand.text("verdict"));
+    await hand.run(rowClick(8));
+    await hand.idle();
+    await hand.click("#next .inline");
+    check("any step goes on from there", /^step 8 of 8: begin 2\.1#1.*back to the list of \d+ items$/s.test(await hand.text("where")), await hand.text("where"));
+    check("other steps than the item's are offered", (await hand.count("#next [data-item]")) > 1, await hand.text("next"));
+    await hand.run(rowClick(4));
+    await hand.idle();
+    check("each step of a trace has a state of its own", (await hand.text("where")).startsWith("step 4 of 8"), await hand.text("where"));
+}
+
+const CIRCLE = "const of = (what) => document.querySelectorAll('#verdict .circle ' + what).length; return [of('rect'), of('rect[rx=\"11\"], rect[rx=\"17\"]'), of('.read')]";
+
+// Who has a lock: the page reads it of the report and of the text, and says so. The program tells no such thing.
+async function readsWhoHasLocks(browser, hand) {
+    const read = /as this page reads/;
+    await hand.go(`#example=locks.l4&schedule=${LOCKS}`);
+    const verdict = await hand.text("verdict");
+    check("who has which lock is told", verdict.includes("Locks, as this page reads them: 1.1 waits for 21.1, which 2.1 has; 2.1 waits for 11.1, which 1.1 has."), verdict);
+    check("no word of it is said to be the program's", !/[Dd]eadlock/.test(verdict), verdict);
+    check("four stand in a circle, two of them as locks, whose arrows are dotted", quoted(await hand.run(CIRCLE)) === "[4,2,2]", await hand.run(CIRCLE));
+    await hand.run("document.querySelector('#verdict details').open = true;");
+    const why = await hand.text("verdict");
+    check("from what it is read", /The program tells no circle here\. 21\.1 heard from 2\.1 last, which would give it back at line 20; 11\.1 heard from 1\.1 last, which would give it back at line 12\./.test(why), why);
+    await hand.picture("locks-read-1200");
+    await eachWordStandsOut(browser, hand);
+    await hand.slide(9);
+    check("where nobody waits for ever nothing is read", !read.test(await hand.text("verdict")) && (await hand.count("#verdict .circle")) === 0, await hand.text("verdict"));
+    const text = await hand.run("return session.text");
+    const wanting = { "one who would never give it back": text.replace("ipc 12.1 nil never never\n", "end\n"), "one who ends instead": text.replace("ipc 21.1 nil never never\n", "end\n") };
+    for (const [what, other] of Object.entries(wanting)) {
+        await hand.go(linkOf({ n: "other.l4", t: other, s: LOCKS, i: 14 }));
+        check(`of ${what} nothing is read`, other !== text && !read.test(await hand.text("verdict")) && (await hand.count("#verdict .circle")) === 0, await hand.text("verdict"));
+    }
+    for (const hash of ["#example=callback.l4&do=run", "#example=deadlock.l4&do=run", "#example=hostage.l4&do=run", linkOf({ n: "inside.l4", t: lostInside, s: "0,0,0,0,0,0,0,0,0,0,0,0", i: 12 })]) {
+        await hand.go(hash);
+        check(`${hash.slice(0, 24)}: no lock is read where there is none`, !read.test(await hand.text("verdict")) && (await hand.run(CIRCLE))[1] === 0, await hand.text("verdict"));
+    }
+    await hand.go(linkOf({ n: "named.l4", t: namedLocks }));
+    await hand.verb("run");
+    check("a circle that the program tells has its locks too, and no dotted arrow", quoted(await hand.run(CIRCLE)) === "[4,2,0]", await hand.run(CIRCLE));
+    const named = await hand.run("document.querySelector('#verdict details').open = true; return document.getElementById('verdict').innerText");
+    check("which says what is read", /Deadlock.*reads them: 1\.1 \(ann\) waits for 21\.1 \(right\), which 2\.1 \(bartholomew\) has; .*tells the circle, and not who has what/s.test(named), named);
+}
+
+// The names of threads, which a text of version 2 gives, beside their ids.
+async function callsThreadsByName(browser, hand) {
+    await hand.go(linkOf({ n: "named.l4", t: namedLocks }));
+    await hand.verb("run");
+    const verdict = await hand.text("verdict");
+    check("a verdict has names", verdict.includes("1.1 (ann) waits for 21.1 (right) to take its message") && verdict.includes("2.1 (bartholomew)"), verdict);
+    const heads = () => hand.run("return [...document.querySelectorAll('#chart .above .name')].map((it) => it.textContent)");
+    check("heads of columns have them", quoted(await heads()) === quoted(["ann", "bartholomew", "left", "right"]), await heads());
+    const widest = await hand.run("return Math.max(...[...document.querySelectorAll('#chart .above .name')].map((it) => it.getBoundingClientRect().width))");
+    check("none is wider than its column", widest <= 72, widest);
+    const line = await hand.run("const at = document.querySelector('#chart .lines [data-step]'); return [at.innerText, at.title]");
+    check("a row has the program's words, and its title the names", /begin 1\.1#1 → 11\.1$/.test(line[0].trim()) && /^begin 1\.1#1 to 11\.1 \(line 9\)\n1\.1 is ann, 11\.1 is left$/.test(line[1]), line);
+    const nodes = await hand.run("return [...document.querySelectorAll('#verdict .circle .name')].map((it) => it.textContent)");
+    check("so has the picture of a circle, where they fit", quoted(nodes) === quoted(["ann", "right", "bartholom…", "left"]), nodes);
+    await hand.picture("named-1200");
+    await eachWordStandsOut(browser, hand);
+    await hand.verb("endings");
+    const list = await hand.text("endinglist");
+    check("cards of endings have them", /deadlock of 1\.1 \(ann\), 21\.1 \(right\)/.test(list) && /11\.1 \(left\)\s+receiving\s+waits for 1\.1 \(ann\)/.test(list), list);
+    const broken = await hand.run(`
+        const lines = (it) => {
+            const range = document.createRange();
+            range.selectNodeContents(it);
+            return new Set([...range.getClientRects()].map(({ bottom }) => Math.round(bottom / 8))).size;
+        };
+        return [...document.querySelectorAll(".ending .row > :first-child")].filter((it) => lines(it) > 1 || it.scrollWidth > it.clientWidth + 1).length;`);
+    check("in one line each", broken === 0, broken);
+    await hand.picture("named-endings-1200");
+    await hand.verb("report");
+    check("what the program prints has none", !/ann|right/.test(await hand.text("out")) && /waits 1\.1 21\.1 send/.test(await hand.text("out")), await hand.text("out"));
+    await browser.size(400, 860, true);
+    await hand.go(linkOf({ n: "named.l4", t: namedLocks, s: "0,0,0,0", i: 4 }));
+    const [wide, ...cards] = await hand.run("return [document.documentElement.scrollWidth, ...[...document.querySelectorAll('.card small')].map((it) => it.innerText)]");
+    check("on a phone a card has its name", wide <= 400 && quoted(cards) === quoted(["ann", "bartholomew", "left", "right"]), [wide, cards]);
+    await hand.picture("named-400");
+    await browser.size(1200, 800);
+    await hand.go("#example=callback.l4&do=run");
+    check("a text without names has none", (await hand.count("#chart .name, #verdict .name")) === 0 && !/\(/.test(await hand.run("return document.querySelector('#verdict ul').innerText")));
 }
 
 // All by the keyboard.
@@ -713,6 +960,16 @@ async function pale({ run }) {
         return [...found];`);
 }
 
+// Whether each word of what is shown stands out, dark and light.
+async function eachWordStandsOut(browser, hand) {
+    for (const isDark of [true, false]) {
+        await browser.dark(isDark);
+        await sleep(100);
+        const found = await pale(hand);
+        check(`each word of it stands out, ${isDark ? "dark" : "light"}`, found.length === 0, found);
+    }
+}
+
 async function standsOut(browser, hand) {
     for (const isDark of [false, true]) {
         await browser.dark(isDark);
@@ -778,6 +1035,10 @@ const PARTS = [
     asksForMoments,
     stepsByAny,
     steps,
+    marksOtherWays,
+    showsBetweenSteps,
+    readsWhoHasLocks,
+    callsThreadsByName,
     worksByKeys,
     judges,
     shares,

@@ -62,4 +62,50 @@ ipc nil 18.1 never 5
 jump 0
 `;
 
-module.exports = { ring, loop, locksInRing, lostReply, lost, beside };
+// Two locks of one script that two take in opposite order, by names. A lock that is taken waits for whoever has it.
+const namedLocks = `l4 1 64 2
+cpus 1
+name ann 1.1
+name bartholomew 2.1
+name left 11.1
+name right 21.1
+
+thread ann cpu 0 space 1
+ipc left nil never never
+ipc right nil never never
+ipc right nil never never
+ipc left nil never never
+
+thread bartholomew cpu 0 space 2
+ipc right nil never never
+ipc left nil never never
+ipc left nil never never
+ipc right nil never never
+
+thread left cpu 0 space 3
+free: ipc nil any never never
+from 32
+ipc nil mr32 never never
+jump free
+
+thread right cpu 0 space 3 as left
+`;
+
+// A server asks another one while a client waits for it, whose answer is lost: it waits for that one, which it does not have as a lock.
+const lostInside = `l4 1 64
+cpus 1
+thread 1.1 cpu 0 space 1
+ipc 9.1 nil never never
+ipc 8.1 nil never never
+thread 2.1 cpu 0 space 1
+ipc 9.1 9.1 never never
+thread 9.1 cpu 0 space 2
+ipc nil any never never
+ipc nil 8.1 never never
+thread 8.1 cpu 0 space 2
+ipc nil 7.1 never never
+thread 7.1 cpu 0 space 2
+ipc nil any never never
+`;
+
+module.exports = { ring, loop, locksInRing, lostReply, lost, beside, namedLocks, lostInside };

@@ -219,10 +219,10 @@ class Reader:
         """The script of these lines, of which each may begin with a name."""
         labels, said = {}, []
         for line in lines:
-            first, _, others = line.partition(" ")
+            first, *others = line.split(maxsplit=1)
             if first.endswith(LABEL_END):
                 labels[first.removesuffix(LABEL_END)] = len(said)
-                line = others.strip()
+                line = others[0] if others else ""
             if line:
                 said.append(line)
         return [self.instruction(line, lambda word: labels[word] if word in labels else number(word)) for line in said]

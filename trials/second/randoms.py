@@ -1,6 +1,8 @@
 """Random machine texts of several kinds, random schedules that go by what the processors have to do, and traces with one field spoilt or one retarget
 late."""
 
+import re
+
 from second import machines, traces, words
 from second.processors import OwnTurn, Replay, TakeLetter, Tick, TickTo, Turn
 
@@ -435,93 +437,9 @@ class GoingRound(Text):
         return [instruction() for _ in range(self.dice.randint(1, 4))]
 
 
-class Serving(Text):
-    """Machines with scripts of version 2: servers that dispatch by labels, words and senders and keep whom they answer later, clients that look into what
-    they got, and threads that have the script of another."""
-
-    version = " 2"
-
-    def __init__(self, dice):
-        cpus, threads = dice.choice([1, 1, 2, 2, 3]), dice.choice([2, 3, 3, 4, 4, 5])
-        super().__init__(dice, dice.choice(FORMATS), cpus, range(cpus), range(1, threads + 1), FEW_VERSIONS, dice.choice(FEW_SPACES))
-        self.profile = dice.choice([1, 1, machines.RETARGETING])
-        self.named = {thread: f"{dice.choice(['ann', 'Bob-', 'c_'])}{number}" for number, thread in enumerate(self.threads) if self.chance(0.7)}
-        self.periods = dice.choice([["never"], ["never", "never", "zero"], ["never", "zero", "5us", "1ms"]])
-        self.own = set()
-
-    def declared_names(self):
-        return [f"name {name} {words.spelled(thread)}" for thread, name in self.named.items()]
-
-    def declared(self, line):
-        others = [thread for thread in self.threads if thread in self.own]
-        if others and self.chance(0.25):
-            return [f"{line} as {self.spelled(self.dice.choice(others))}"]
-        self.own.add(self.me)
-        return [line, *map(self.adorned, self.script())]
-
-    def adorned(self, line):
-        """Now and then with blanks in front and a comment behind."""
-        return f"{self.dice.choice(['', '', '  '])}{line}{self.dice.choice(['', '', ' ; so'])}"
-
-    def spelled(self, thread):
-        return self.named[thread] if thread in self.named and self.chance(0.8) else words.spelled(thread)
-
-    def to(self):
-        return self.spelled(self.anybody())
-
-    def register(self):
-        return self.dice.choice([1, 1, 2, 32, 33])
-
-    def operand(self):
-        """Most often an id, else where one is from."""
-        return self.dice.choices([self.to(), "last", f"mr{self.register()}"], [5, 2, 4])[0]
-
-    def period(self):
-        return self.dice.choice(self.periods)
-
-    def ipc(self, to, source):
-        return f"ipc {to} {source} {self.period()} {self.period()}"
-
-    def tag(self):
-        flags = words.PROPAGATED if self.chance(0.1) else 0
-        return f"tag {self.dice.randint(0, 3) << words.LABEL_SHIFT | flags | self.dice.randint(0, 2):#x}"
-
-    def test(self, label):
-        return self.dice.choice([
-            f"onlabel {self.dice.randint(0, 3)} {label}", f"onword {self.register()} {self.dice.randint(0, 2)} {label}",
-            f"onfrom {self.dice.choice([self.to(), 'nil'])} {label}", f"onerr {label}",
-        ])
-
-    def script(self):
-        lines = self.dice.choice([self.dispatches, self.keeps, self.calls, self.calls, self.looks, self.mixture])()
-        return lines + ["jump 0"] if self.chance(0.5) else lines
-
-    def dispatches(self):
-        first = [self.ipc("nil", "any"), f"heard: {self.test('other')}", self.tag(), self.ipc("last", self.dice.choice(["any", "nil"]))]
-        return [*first, self.test("heard"), "jump 0", "other: add 1 1", self.ipc(self.operand(), "nil")]
-
-    def keeps(self):
-        kept = self.register()
-        return [self.ipc("nil", "any"), f"from {kept}", self.ipc("nil", self.dice.choice(["any", self.to()])), self.ipc(f"mr{kept}", "nil")]
-
-    def calls(self):
-        to = self.to()
-        return [f"set 1 {self.dice.randint(0, 2)}", self.tag(), self.ipc(to, self.dice.choice([to, to, "any"])), self.test("done"), "add 2 1", "done:"]
-
-    def looks(self):
-        """Takes an id for a word, and back."""
-        thread = self.dice.choice(self.threads)
-        return [f"set 32 {self.format.word(thread):#x}", self.ipc("mr32", self.dice.choice(["nil", "mr32", "any"])), f"vs mr{self.register()}", self.tag()]
-
-    def mixture(self):
-        def instruction():
-            orders = [f"exregs {self.operand()} {self.dice.choice(BITS)}", f"delete {self.dice.choice([self.to(), 'mr32'])}"]
-            own = [f"from {self.register()}", f"vs {self.operand()}", self.tag(), f"set {self.register()} {self.value()}", self.test("here")]
-            ipcs = [self.ipc(self.operand(), "nil"), self.ipc("nil", self.operand()), self.ipc("nil", "any"), self.ipc(self.operand(), self.operand())]
-            return self.dice.choices([*ipcs, *orders, *own], [4, 2, 4, 4, 2, 1, 2, 2, 2, 2, 4])[0]
-
-        lines = [instruction() for _ in range(self.dice.randint(2, 6))]
-        return [*lines, "here:"] if self.chance(0.5) else ["here:", *lines]
+def ending_more(text):
+    """A text whose threads go back only behind an error, so that more of them end."""
+    return re.sub(r"\bjump ", "onerr ", text)
 
 
 # Habits of schedules: which of the processors that have something to do may be next.

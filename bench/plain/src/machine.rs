@@ -95,6 +95,14 @@ impl Hasher for IdHasher {
 /// The line that has a fault, counted from 1, or 0 for a text that is too long.
 pub struct Fault(pub usize);
 
+/// Whether the first line that says something asks for scripts of version 2.
+pub fn has_second_scripts(text: &[u8]) -> bool {
+    let said = |line: &[u8]| line.split(|&byte| byte == b';').next().unwrap_or_default().trim_ascii().to_vec();
+    let first = text.split(|&byte| byte == b'\n').map(said).find(|said| !said.is_empty());
+    let words = String::from_utf8(first.unwrap_or_default()).unwrap_or_default();
+    matches!(words.split(' ').collect::<Vec<_>>()[..], ["l4", _, _, version] if number(version) == Some(2))
+}
+
 impl Machine {
     /// The machine of a text.
     pub fn read(text: &[u8]) -> Result<Machine, Fault> {

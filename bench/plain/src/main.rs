@@ -110,6 +110,9 @@ fn read(file: &str) -> Result<Vec<u8>, Stop> {
 }
 
 fn machine_of(text: &[u8]) -> Result<Machine, Stop> {
+    if machine::has_second_scripts(text) {
+        return Err(not_done("scripts of version 2"));
+    }
     Machine::read(text).map_err(|machine::Fault(line)| fault(format!("line {line}")))
 }
 

@@ -26,7 +26,7 @@ use Rattle.l4_commands.specs.declared.job.Colours.TheVariants.{Auto, Always, Nev
 use Rattle.l4_commands.specs.declared.job.EndingsJob.{EndingsJob}
 use Rattle.l4_commands.specs.declared.job.Extras.{Extras}
 use Rattle.l4_commands.specs.declared.job.Job.{Job}
-use Rattle.l4_commands.specs.declared.job.Job.TheVariants.{Run, Replay, Next, Audit, Chart, Endings, Lint}
+use Rattle.l4_commands.specs.declared.job.Job.TheVariants.{Run, Replay, Next, Audit, Chart, Endings, Lint, Step}
 use Rattle.l4_commands.specs.declared.job.Judged.{Judged}
 use Rattle.l4_commands.specs.declared.job.LintJob.{LintJob}
 use Rattle.l4_commands.specs.declared.job.NextJob.{NextJob}
@@ -34,11 +34,12 @@ use Rattle.l4_commands.specs.declared.job.Printed.{Printed}
 use Rattle.l4_commands.specs.declared.job.ReplayJob.{ReplayJob}
 use Rattle.l4_commands.specs.declared.job.RunJob.{RunJob}
 use Rattle.l4_commands.specs.declared.job.Scheduler.{Scheduler}
+use Rattle.l4_commands.specs.declared.job.StepJob.{StepJob}
 use Rattle.l4_commands.specs.declared.job.Scheduler.TheVariants.{Any, Placed}
 use Rattle.l4_commands.specs.declared.job.TextChart.{TextChart}
 use Rattle.l4_commands.specs.declared.job.Wanted.{Wanted}
 use Rattle.l4_commands.specs.declared.job.Wanted.TheVariants.{Whatever, NoEnding, AnEnding}
-use Rattle.l4_commands.specs.declared.texts.TheConstants.{INPUT_TWICE, SCHEDULE_OF_RUN, RECORD_AND_EXPECT, TURNS_ALONE, NEXT_BESIDE, OVER_ITS_FILE, TWO_FORMS, UNKNOWN_LINE, DELETED_LINE, NUMBER_LINE, NONE_AND_SOME, RESTS_ALONE, ALWAYS_BESIDE, TRACE_BESIDE, CHART_AND_JSON, CHART_BESIDE, COLOUR_WORDS, REGISTERS_ALONE}
+use Rattle.l4_commands.specs.declared.texts.TheConstants.{INPUT_TWICE, INPUT_OF_STEPS, SCHEDULE_OF_RUN, RECORD_AND_EXPECT, TURNS_ALONE, NEXT_BESIDE, OVER_ITS_FILE, TWO_FORMS, UNKNOWN_LINE, DELETED_LINE, NUMBER_LINE, NONE_AND_SOME, RESTS_ALONE, ALWAYS_BESIDE, TRACE_BESIDE, CHART_AND_JSON, CHART_BESIDE, COLOUR_WORDS, REGISTERS_ALONE}
 use Rattle.l4_commands.specs.declared.words.WordsFault.{WordsFault}
 use Rattle.l4_commands.specs.declared.words.WordsFault.TheVariants.{Help, Usage, NoMemory}
 
@@ -73,8 +74,11 @@ extras_in rows = record {
 
 -- The chart that is drawn of a run, a replay or an ending is for a terminal that shows lines, until the
 -- output is known.
+abbrev pub lines_chart : (registers : Bool) → TextChart
+lines_chart registers = record { shows_lines = true; width = 0; registers = registers }
+
 abbrev pub text_chart : (asked registers : Bool) → Option TextChart
-text_chart true registers = Some (record { shows_lines = true; width = 0; registers = registers })
+text_chart true registers = Some (lines_chart registers)
 text_chart false registers = None
 
 abbrev pub chart_in : List Row → Option TextChart
@@ -211,6 +215,10 @@ pub record IsLintOf (rows : List Row) (lint : LintJob) : Type 0 where
   pub unnamed : lint.is_named ≡ false
   pub json : lint.json ≡ has_flag (codes "json") rows
 
+pub record IsStepOf (rows : List Row) (step : StepJob) : Type 0 where
+  pub file : Some step.file.now ≡ first_of (codes "file") rows
+  pub chart : step.chart ≡ lines_chart (has_flag (codes "registers") rows)
+
 -- The job that the matches ask for, by the name of the subcommand.
 abbrev pub IsJobOf : (verb : Text) → List Row → Job → Type 0
 IsJobOf verb rows (Run run) = (verb ≡ codes "run") × IsRunOf rows run
@@ -222,6 +230,7 @@ IsJobOf verb rows (Audit audit) = (verb ≡ codes "audit") × IsAuditOf rows aud
 IsJobOf verb rows (Chart chart) = (verb ≡ codes "chart") × IsChartOf rows chart
 IsJobOf verb rows (Endings search) = (verb ≡ codes "endings") × IsSearchOf rows search
 IsJobOf verb rows (Lint lint) = (verb ≡ codes "lint") × IsLintOf rows lint
+IsJobOf verb rows (Step step) = (verb ≡ codes "step") × IsStepOf rows step
 
 abbrev pub IsJobIn : Option (Text × List Row) → Job → Type 0
 IsJobIn found job = IsSomeAnd found (λ p. IsJobOf p.0 p.1 job)
@@ -396,6 +405,10 @@ names_input_twice rows =
     are_two (names_input (codes "file") rows)
     (names_input (codes "trace") rows || lists_input rows) (names_input (codes "expect") rows)
 
+-- A session reads its lines from the standard input, so no text can come from there.
+abbrev pub step_told : List Row → Option Text
+step_told rows = if names_input (codes "file") rows then Some INPUT_OF_STEPS.now else None
+
 -- What is told where the arguments of a subcommand ask for no job, though clap accepts them.
 abbrev pub told_in : Text × List Row → Option Text
 told_in p =
@@ -405,7 +418,8 @@ told_in p =
     else (if bytes_eq p.0 (codes "replay") then replay_told p.1
     else (if bytes_eq p.0 (codes "chart") then chart_told p.1
     else (if bytes_eq p.0 (codes "endings") then endings_told p.1
-    else None)))))
+    else (if bytes_eq p.0 (codes "step") then step_told p.1
+    else None))))))
 
 abbrev pub excluded_by : Option Text → Kinds
 excluded_by None = []

@@ -121,6 +121,9 @@ abbrev pub lint_rules : List Rule
 lint_rules =
     place (codes "file") ∷ value (codes "schedule") ∷ flag (codes "json") ∷ value (codes "color") ∷ []
 
+abbrev pub step_rules : List Rule
+step_rules = place (codes "file") ∷ flag (codes "registers") ∷ value (codes "color") ∷ []
+
 abbrev pub command : (name : Text) → List Rule → App
 command name rules = fold with_rule (new_app name) rules
 
@@ -132,6 +135,7 @@ commands =
     ∷ command (codes "chart") chart_rules
     ∷ command (codes "endings") endings_rules
     ∷ command (codes "lint") lint_rules
+    ∷ command (codes "step") step_rules
     ∷ []
 
 -- The program itself takes `--version` and needs a command.

@@ -9,7 +9,7 @@ use Rattle.l4_commands.specs.declared.job.Job.{Job}
 use Rattle.l4_commands.specs.declared.job.LintJob.{LintJob}
 use Rattle.l4_commands.specs.declared.job.Printed.{Printed}
 use Rattle.l4_commands.specs.declared.job.TextChart.{TextChart}
-use Rattle.l4_commands.specs.declared.job.Job.TheVariants.{Run, Replay, Next, Audit, Chart, Endings, Lint}
+use Rattle.l4_commands.specs.declared.job.Job.TheVariants.{Run, Replay, Next, Audit, Chart, Endings, Lint, Step}
 
 -- The name that stands for the standard input: `-`. A file of that name is `./-`.
 abbrev pub is_input : (name : List ℕ) → Bool
@@ -31,6 +31,7 @@ file_of (Audit audit) = audit.file.now
 file_of (Chart chart) = chart.file.now
 file_of (Endings search) = search.file.now
 file_of (Lint lint) = lint.file.now
+file_of (Step step) = step.file.now
 
 abbrev pub list_name_in : Option (Bor (List ℕ)) → Option (List ℕ)
 list_name_in None = None
@@ -44,6 +45,7 @@ second_file_of (Audit audit) = Some audit.trace.now
 second_file_of (Chart chart) = Some chart.trace.now
 second_file_of (Endings search) = None
 second_file_of (Lint lint) = list_name_in lint.schedule
+second_file_of (Step step) = Some (codes "-")
 
 abbrev pub expected_of : Job → Option (List ℕ)
 expected_of (Run run) = option_copied run.expected
@@ -71,6 +73,7 @@ may_be_painted (Audit audit) = not audit.json
 may_be_painted (Chart chart) = is_text chart.form
 may_be_painted (Endings search) = not search.json
 may_be_painted (Lint lint) = false
+may_be_painted (Step step) = true
 
 -- The job without a record, and of which nothing is expected.
 abbrev pub alone : Job → Job
@@ -88,10 +91,14 @@ form_on false form = form
 abbrev pub width_on : (columns width : ℕ) → ℕ
 width_on columns width = if width == 0 then columns else width
 
+abbrev pub text_chart_on : (shows_lines : Bool) → (columns : ℕ) → TextChart → TextChart
+text_chart_on shows_lines columns chart =
+    record chart { shows_lines = shows_lines; width = columns }
+
 abbrev pub chart_on : (shows_lines : Bool) → (columns : ℕ) → Option TextChart → Option TextChart
 chart_on shows_lines columns None = None
 chart_on shows_lines columns (Some chart) =
-    Some (record chart { shows_lines = shows_lines; width = columns })
+    Some (text_chart_on shows_lines columns chart)
 
 abbrev pub printed_on : (shows_lines : Bool) → (columns : ℕ) → Printed → Printed
 printed_on shows_lines columns p =
@@ -111,4 +118,6 @@ on_output shows_lines columns (Endings search) = Endings (record search {
 })
 on_output shows_lines columns (Lint lint) =
     Lint (record lint { is_named = shows_lines && not lint.json })
+on_output shows_lines columns (Step step) =
+    Step (record step { chart = text_chart_on shows_lines columns step.chart })
 on_output shows_lines columns job = job

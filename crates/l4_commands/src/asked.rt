@@ -12,20 +12,20 @@ ghost use Rattle.l4_commands.specs.Asked.{is_next_beside};
 ghost use Rattle.l4_commands.specs.Asked.{chart_in, drawn_told, has_registers_alone};
 ghost use Rattle.l4_commands.specs.Asked.{is_always_beside, is_chart_beside};
 ghost use Rattle.l4_commands.specs.Asked.{is_chart_and_json, is_none_and_some, is_over_file, is_same};
-ghost use Rattle.l4_commands.specs.Asked.{is_trace_beside, judged_in, line_told, lines_told};
+ghost use Rattle.l4_commands.specs.Asked.{is_trace_beside, judged_in, line_told, lines_chart, lines_told};
 ghost use Rattle.l4_commands.specs.Asked.{lists_input, names_input, names_input_twice, number_in};
 ghost use Rattle.l4_commands.specs.Asked.{printed_in, record_told, replay_told, rest_in, rows_in};
 ghost use Rattle.l4_commands.specs.Asked.{run_told, scheduler_by, text_chart, told_in, traced_in, usage_text};
-ghost use Rattle.l4_commands.specs.Asked.{wanted_by};
+ghost use Rattle.l4_commands.specs.Asked.{IsStepOf, step_told, wanted_by};
 
 use crate::job::{
     AuditJob, ChartForm, ChartJob, Colours, EndingsJob, Extras, INPUT, Job, Judged, LintJob,
-    NextJob, Printed, ReplayJob, RunJob, Scheduler, TextChart, Wanted, list_name,
+    NextJob, Printed, ReplayJob, RunJob, Scheduler, StepJob, TextChart, Wanted, list_name,
 };
 use crate::texts::{
-    ALWAYS_BESIDE, CHART_AND_JSON, CHART_BESIDE, COLOUR_WORDS, INPUT_TWICE, NEXT_BESIDE,
-    NONE_AND_SOME, OVER_ITS_FILE, RECORD_AND_EXPECT, REGISTERS_ALONE, RESTS_ALONE, SCHEDULE_OF_RUN,
-    TRACE_BESIDE, TURNS_ALONE, TWO_FORMS,
+    ALWAYS_BESIDE, CHART_AND_JSON, CHART_BESIDE, COLOUR_WORDS, INPUT_OF_STEPS, INPUT_TWICE,
+    NEXT_BESIDE, NONE_AND_SOME, OVER_ITS_FILE, RECORD_AND_EXPECT, REGISTERS_ALONE, RESTS_ALONE,
+    SCHEDULE_OF_RUN, TRACE_BESIDE, TURNS_ALONE, TWO_FORMS,
 };
 use clap::ArgMatches;
 use l4_lines::lines::{LineFault, line_fault};
@@ -72,15 +72,22 @@ fn extras(matches: &ArgMatches<'_>) -> Extras
     }
 }
 
-// The chart that is drawn, for a terminal that shows lines.
-fn text_chart(asked: bool, registers: bool) -> Option<TextChart>
-    ensures { result ≡ text_chart asked registers }
+// A chart for a terminal that shows lines.
+fn lines_chart(registers: bool) -> TextChart
+    ensures { result ≡ lines_chart registers }
 {
-    asked.then_some(TextChart {
+    TextChart {
         shows_lines: true,
         width: 0,
         registers,
-    })
+    }
+}
+
+// The chart that is drawn, if one is.
+fn text_chart(asked: bool, registers: bool) -> Option<TextChart>
+    ensures { result ≡ text_chart asked registers }
+{
+    asked.then_some(lines_chart(registers))
 }
 
 // The chart that these words ask for.
@@ -296,6 +303,15 @@ fn lint_job<'a>(matches: &ArgMatches<'a>) -> Option<LintJob<'a>>
     })
 }
 
+fn step_job<'a>(matches: &ArgMatches<'a>) -> Option<StepJob<'a>>
+    ensures { IfSome result (IsStepOf (rows_in matches.now)) }
+{
+    Some(StepJob {
+        file: text(matches, "file")?,
+        chart: lines_chart(has_flag(matches, "registers")),
+    })
+}
+
 // The job of the command that was named, whose arguments do not exclude each other.
 pub fn job_of_matches<'a>(matches: &ArgMatches<'a>) -> Option<Job<'a>>
     ensures { IfSome result (IsJobIn (subcommand_rows_of matches.now)) }
@@ -309,6 +325,7 @@ pub fn job_of_matches<'a>(matches: &ArgMatches<'a>) -> Option<Job<'a>>
         "chart" => Some(Job::Chart(chart_job(matches)?)),
         "endings" => Some(Job::Endings(endings_job(matches)?)),
         "lint" => Some(Job::Lint(lint_job(matches)?)),
+        "step" => Some(Job::Step(step_job(matches)?)),
         _ => None,
     }
 }
@@ -606,6 +623,16 @@ fn names_input_twice(matches: &ArgMatches<'_>) -> bool
     )
 }
 
+// Why there can be no session on the text that is named.
+fn step_conflict<'a>(matches: &ArgMatches<'a>) -> Option<Conflict<'a>>
+    ensures { option_map usage_text result ≡ step_told (rows_in matches.now) }
+{
+    if names_input(matches, "file") {
+        return Some(Conflict::Arguments(INPUT_OF_STEPS));
+    }
+    None
+}
+
 // Why the arguments of this command ask for no job.
 fn conflict_of<'a>(name: &str, matches: &ArgMatches<'a>) -> Option<Conflict<'a>>
     ensures { option_map usage_text result ≡ told_in (name.now, rows_in matches.now) }
@@ -621,6 +648,7 @@ fn conflict_of<'a>(name: &str, matches: &ArgMatches<'a>) -> Option<Conflict<'a>>
         "replay" => replay_conflict(matches),
         "chart" => chart_conflict(matches),
         "endings" => endings_conflict(matches),
+        "step" => step_conflict(matches),
         _ => None,
     }
 }

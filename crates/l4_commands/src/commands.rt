@@ -73,5 +73,6 @@ pub fn l4run_command<'a>(alloc: Global) -> Result<Command<'a>, AllocError>
     let three = with_verb(alloc, two, &options::audit())?;
     let four = with_verb(alloc, three, &options::chart())?;
     let five = with_verb(alloc, four, &options::endings())?;
-    with_verb(alloc, five, &options::lint())
+    let six = with_verb(alloc, five, &options::lint())?;
+    with_verb(alloc, six, &options::step())
 }

@@ -3,7 +3,7 @@ ghost use Rattle.std.specs.Prelude.{◌≡◌, ◌||◌};
 ghost use Rattle.std.specs.Option.{option_copied};
 ghost use Rattle.l4_commands.specs.Files.{alone, chart_on, expected_of, file_of, is_text, list_name};
 ghost use Rattle.l4_commands.specs.Files.{may_be_painted, on_output, printed_on, second_file_of};
-ghost use Rattle.l4_commands.specs.Files.{shown_name};
+ghost use Rattle.l4_commands.specs.Files.{shown_name, text_chart_on};
 
 /// The name that stands for the standard input. A file of that name is `./-`.
 pub const INPUT: &str = "-";
@@ -270,6 +270,15 @@ impl<'a> LintJob<'a> {
     }
 }
 
+/// A session on the machine text in a file, by the lines of the standard input.
+#[derive(Clone, Copy, Debug, PartialEq, Eq)]
+pub struct StepJob<'a> {
+    /// The name of the file with the machine text.
+    pub file: &'a str,
+    /// How a chart is drawn where a line asks for one.
+    pub chart: TextChart,
+}
+
 /// Where lines are painted, of a job whose lines may be painted.
 #[derive(Clone, Copy, Debug, PartialEq, Eq)]
 pub enum Colours {
@@ -298,6 +307,8 @@ pub enum Job<'a> {
     Endings(EndingsJob<'a>),
     /// Report all that is wrong in a machine text.
     Lint(LintJob<'a>),
+    /// Go through a machine step by step.
+    Step(StepJob<'a>),
 }
 
 impl<'a> Job<'a> {
@@ -313,11 +324,12 @@ impl<'a> Job<'a> {
             Job::Chart(chart) => chart.file,
             Job::Endings(search) => search.file,
             Job::Lint(lint) => lint.file,
+            Job::Step(step) => step.file,
         }
     }
 
-    /// The name of the file with the trace, or with the schedule where that is in a file. None
-    /// where the job reads neither.
+    /// The name of the file with the trace, with the schedule where that is in a file, or with the
+    /// lines of a session. None where the job reads none of these.
     pub fn second_file(&self) -> Option<&'a str>
         ensures { option_copied result ≡ second_file_of self.now }
     {
@@ -328,6 +340,7 @@ impl<'a> Job<'a> {
             Job::Audit(audit) => Some(audit.trace),
             Job::Chart(chart) => Some(chart.trace),
             Job::Lint(lint) => list_name(lint.schedule?),
+            Job::Step(_) => Some(INPUT),
         }
     }
 
@@ -356,6 +369,7 @@ impl<'a> Job<'a> {
             Job::Chart(chart) => chart.form.is_text(),
             Job::Endings(search) => !search.json,
             Job::Lint(_) => false,
+            Job::Step(_) => true,
         }
     }
 
@@ -418,21 +432,31 @@ impl<'a> Job<'a> {
                 is_named: shows_lines && !lint.json,
                 ..lint
             }),
+            Job::Step(step) => Job::Step(StepJob {
+                chart: text_chart_on(shows_lines, columns, step.chart),
+                ..step
+            }),
             other => other,
         }
     }
 }
 
-// A chart for an output that may show lines, and is so many columns wide, where one is drawn.
+// A chart for an output that may show lines, and is so many columns wide.
+fn text_chart_on(shows_lines: bool, columns: u64, chart: TextChart) -> TextChart
+    ensures { result ≡ text_chart_on shows_lines columns chart }
+{
+    TextChart {
+        shows_lines,
+        width: columns,
+        ..chart
+    }
+}
+
+// The same, where one is drawn.
 fn chart_on(shows_lines: bool, columns: u64, chart: Option<TextChart>) -> Option<TextChart>
     ensures { result ≡ chart_on shows_lines columns chart }
 {
-    let asked = chart?;
-    Some(TextChart {
-        shows_lines,
-        width: columns,
-        ..asked
-    })
+    Some(text_chart_on(shows_lines, columns, chart?))
 }
 
 // What is printed of a run or a replay, with its chart for such an output.

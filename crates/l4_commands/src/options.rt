@@ -4,9 +4,11 @@
 ghost use Rattle.std.specs.Prelude.{◌≡◌, codes};
 ghost use Rattle.l4_commands.specs.Commands.{command, command_of, run_rules, replay_rules};
 ghost use Rattle.l4_commands.specs.Commands.{audit_rules, chart_rules, endings_rules, lint_rules};
+ghost use Rattle.l4_commands.specs.Commands.{step_rules};
 
 use crate::texts::{
     AUDIT_EXAMPLE, CHART_EXAMPLE, ENDINGS_EXAMPLE, LINT_EXAMPLE, REPLAY_EXAMPLE, RUN_EXAMPLE,
+    STEP_EXAMPLE,
 };
 
 /// What an argument takes. The text in it is what help calls the value.
@@ -430,5 +432,18 @@ pub fn lint() -> Verb
         about: "Tells all that is wrong in a machine text",
         arguments: LINT_ARGUMENTS,
         example: LINT_EXAMPLE,
+    }
+}
+
+const STEP_ARGUMENTS: &[Argument] = &[FILE, REGISTERS, COLOURS];
+
+pub fn step() -> Verb
+    ensures { command_of result ≡ command (codes "step") step_rules }
+{
+    Verb {
+        name: "step",
+        about: "Goes through a machine text step by step, by the lines of the standard input",
+        arguments: STEP_ARGUMENTS,
+        example: STEP_EXAMPLE,
     }
 }

@@ -2,7 +2,7 @@
 
 /// The version of the program and of the kit that proves it, and the profiles and formats that it
 /// reads.
-pub const VERSION: &str = "0.45
+pub const VERSION: &str = "0.46
 rattle-kit-13f logic dac8208d650f15bf
 profiles 1 and 2, words of 64 and 32 bits";
 
@@ -203,6 +203,30 @@ Kinds: BadLine, BadNumber, BadId, BadName, BadCpu, TypedItems, DoubleId, TooMany
 TooManyInstructions,
 BadTarget, TooLong. docs/FORMATS.md tells what each of them is.";
 
+pub const STEP_EXAMPLE: &str =
+    "Example: `l4run step ping.l4`, with the machine text that `l4run help run` shows, tells what is \
+possible at the
+opening: each entry with a number, its item, and the steps that it would tell. A line of the standard \
+input is one of
+these, and each is answered as soon as it is there:
+
+  NUMBER  does the entry of this number, as it was told last
+  ITEM    does the entry of this item: cP, P:Q, tP or tP:V, as in a schedule
+  back    goes an entry back, back N goes N entries back
+  next    tells what is possible
+  state   tells the report of the replay so far, as `replay --report` does
+  chart   draws the history so far, as `replay --chart` does
+  record  tells the list of the entries so far, as `replay --schedule` takes it
+  help    tells these lines
+  quit    ends, as the end of the input does
+
+What is no such line, or not possible now, is told by a line that begins with `refused`, and changes \
+nothing. So
+`printf '1\\n1\\nstate\\nrecord\\n' | l4run step ping.l4` prints what the first entry does, twice, the \
+report, and last the
+list by which `l4run replay` does that again. The status is 0, 1 with a fault as of `run`, 2 with \
+wrong usage.";
+
 pub const TWO_FORMS: &str =
     "error: only one of '--ascii', '--svg', '--html' and '--mermaid' can be given
 
@@ -215,6 +239,12 @@ For more information, try '--help'.
 ";
 
 pub const INPUT_TWICE: &str = "error: the standard input '-' can be named only once
+
+For more information, try '--help'.
+";
+
+pub const INPUT_OF_STEPS: &str =
+    "error: the standard input has the lines of 'step', so FILE cannot be '-'
 
 For more information, try '--help'.
 ";

@@ -18,7 +18,7 @@ use Rattle.l4_questions.specs.declared.teller.TellFault.TheVariants.{NoAnswer, N
 use Rattle.l4_commands.specs.Files.{second_file_of}
 use Rattle.l4_commands.specs.declared.job.EndingsJob.{EndingsJob}
 use Rattle.l4_commands.specs.declared.job.Job.{Job}
-use Rattle.l4_commands.specs.declared.job.Job.TheVariants.{Run, Replay, Next, Audit, Chart, Endings, Lint}
+use Rattle.l4_commands.specs.declared.job.Job.TheVariants.{Run, Replay, Next, Audit, Chart, Endings, Lint, Step}
 use Rattle.l4_commands.specs.declared.job.Scheduler.{Scheduler}
 use Rattle.l4_commands.specs.declared.job.Scheduler.TheVariants.{Any, Placed}
 use Rattle.l4_jobs.specs.Expectations.{IsExpected, scope_of}
@@ -81,6 +81,7 @@ streamed_is (Next next) search is = absurd (let bad = is in cc)
 streamed_is (Audit audit) search is = absurd (let bad = is in cc)
 streamed_is (Chart chart) search is = absurd (let bad = is in cc)
 streamed_is (Lint lint) search is = absurd (let bad = is in cc)
+streamed_is (Step step) search is = absurd (let bad = is in cc)
 
 -- What was told was taken
 

@@ -25,7 +25,7 @@ use Rattle.l4_questions.specs.Limits.{question_fault}
 use Rattle.l4_questions.specs.Walked.{IsAnyTrace}
 use Rattle.l4_questions.specs.declared.question.Question.{Question}
 use Rattle.l4_commands.specs.declared.job.Job.{Job}
-use Rattle.l4_commands.specs.declared.job.Job.TheVariants.{Run, Replay, Next, Audit, Chart, Endings, Lint}
+use Rattle.l4_commands.specs.declared.job.Job.TheVariants.{Run, Replay, Next, Audit, Chart, Endings, Lint, Step as Session}
 use Rattle.l4_jobs.specs.Audits.{IsAudited, IsFaultOfTrace, IsPassed, IsTraceFault, tells_refusals}
 use Rattle.l4_jobs.specs.ChartJobs.{fault_of_threads}
 use Rattle.l4_jobs.specs.Expectations.{IsExpected, scope_of}
@@ -74,7 +74,8 @@ answered_right : (scheduler : Scheduler) (q : Question) (m : Machine) (shown : S
     IsAnswerBy scheduler m q shown expected lines unmet status → question_fault q ≡ None
 answered_right Any q m shown expected lines unmet status (inl is) = is.lawful
 answered_right Any q m shown expected lines unmet status (inr is) = is.walked.lawful
-answered_right Placed q m shown expected lines unmet status is = is.lawful
+answered_right Placed q m shown expected lines unmet status (inl is) = is.lawful
+answered_right Placed q m shown expected lines unmet status (inr is) = is.walked.lawful
 
 searched_right : (trace : Option ℕ) (search : EndingsJob) (text : List ℕ) (m : Machine) (expected : Option (List Expected)) (o : Output) →
     IsDoneBy trace search text m expected o → question_fault (question_of search) ≡ None
@@ -150,6 +151,7 @@ right_on (Chart chart) text m read expected o f (trace, given, s) (inr (right, i
 right_on (Endings search) text m read expected o f s is =
     absurd (let bad : None ≡ Some f = sym (search_right search.always search text m expected o s) ∙ is in cc)
 right_on (Lint lint) text m read expected o f s is = unread (list_name_in lint.schedule) read f is
+right_on (Session step) text m read expected o f s (kind, given, failed) = never_unread read kind given
 
 -- By what is expected
 

@@ -6,6 +6,7 @@ pub mod Charted
 pub mod Drawing
 pub mod Drawn
 pub mod Faults
+pub mod Holding
 pub mod Making
 pub mod Judged
 pub mod Linting
@@ -15,6 +16,7 @@ mod Opening
 pub mod ReadAs
 pub mod Records
 pub mod Running
+pub mod Sessions
 pub mod Spelled
 pub mod Statuses
 pub mod Telling

@@ -10,7 +10,7 @@ use Rattle.l4_script.specs.Versions.{machine_of_text}
 use Rattle.l4_script.specs.declared.text.fault.TextFault.{TextFault}
 use Rattle.l4_commands.specs.Files.{file_of}
 use Rattle.l4_commands.specs.declared.job.Job.{Job}
-use Rattle.l4_commands.specs.declared.job.Job.TheVariants.{Run, Replay, Next, Audit, Chart, Endings, Lint}
+use Rattle.l4_commands.specs.declared.job.Job.TheVariants.{Run, Replay, Next, Audit, Chart, Endings, Lint, Step}
 use Rattle.l4_commands.specs.declared.job.Printed.{Printed}
 use Rattle.l4_jobs.specs.Expectations.{is_met_by}
 use Rattle.l4_jobs.specs.Inputs.{FailsWith, Gives}
@@ -155,6 +155,7 @@ true_on (Audit audit) text m second expected o declares is = tt
 true_on (Chart chart) text m second expected o declares is = tt
 true_on (Endings search) text m second expected o declares is = tt
 true_on (Lint lint) text m second expected o declares is = tt
+true_on (Step step) text m second expected o declares is = tt
 
 of_lint : (job : Job) (text lines : List ℕ) (status : ℕ) → is_lint job ≡ true → IsTrueFor job text lines status
 of_lint job text lines status is = subst (λ printed. IsTrueBy printed text lines status) (sym (prints_none job is)) tt
@@ -167,6 +168,7 @@ of_lint job text lines status is = subst (λ printed. IsTrueBy printed text line
     prints_none (Chart chart) is = refl
     prints_none (Endings search) is = refl
     prints_none (Lint lint) is = refl
+    prints_none (Step step) is = refl
 
 true_for : (job : Job) (text : List ℕ) (d : Result Machine TextFault) (second expects : Gives) (o : Output) → machine_of_text text ≡ d →
     IsInLinesFor job text d second expects o → IsTrueFor job text o.lines o.status
@@ -183,6 +185,7 @@ unchanged (Audit audit) text lines others status is shown = tt
 unchanged (Chart chart) text lines others status is shown = tt
 unchanged (Endings search) text lines others status is shown = tt
 unchanged (Lint lint) text lines others status is shown = tt
+unchanged (Step step) text lines others status is shown = tt
 
 true_told : (job : Job) (text : List ℕ) (second expects : Gives) (o : Output) → IsDoneFor job text (machine_of_text text) second expects o →
     IsTrueFor job text o.lines o.status

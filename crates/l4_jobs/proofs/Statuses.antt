@@ -25,7 +25,7 @@ use Rattle.l4_commands.specs.Files.{expected_of}
 use Rattle.l4_commands.specs.declared.job.EndingsJob.{EndingsJob}
 use Rattle.l4_commands.specs.declared.job.Job.{Job}
 use Rattle.l4_commands.specs.declared.job.Judged.{Judged}
-use Rattle.l4_commands.specs.declared.job.Job.TheVariants.{Run, Replay, Next, Audit, Chart, Endings, Lint}
+use Rattle.l4_commands.specs.declared.job.Job.TheVariants.{Run, Replay, Next, Audit, Chart, Endings, Lint, Step}
 use Rattle.l4_commands.specs.declared.job.Scheduler.{Scheduler}
 use Rattle.l4_commands.specs.declared.job.Scheduler.TheVariants.{Any, Placed}
 use Rattle.l4_commands.specs.declared.job.Wanted.{Wanted as Asked}
@@ -125,7 +125,8 @@ answer_status Any search text m expected lines unmet status same (inl is) =
     stuck_arm search (wanted_of search.wanted) (is_any is.stuck) is.is_stuck_whole is.told_status status refl is.status_is
     (search_status search expected _ _ is.told_status same is.told.status_is)
 answer_status Any search text m expected lines unmet status same (inr is) = search_status search expected _ _ status same is.told.status_is
-answer_status Placed search text m expected lines unmet status same is = search_status search expected _ _ status same is.told.status_is
+answer_status Placed search text m expected lines unmet status same (inl is) = search_status search expected _ _ status same is.told.status_is
+answer_status Placed search text m expected lines unmet status same (inr is) = search_status search expected _ _ status same is.told.status_is
 
 trace_status : (search : EndingsJob) (trace : Option (List ℕ)) (o : Output) → IsTraceOut trace o → IsStatusOf (Endings search) o.status
 trace_status search (Some lines) o (printed, said, is) = inl is
@@ -181,6 +182,7 @@ status_on (Audit audit) text m second expected o same (trace, given, is) =
 status_on (Chart chart) text m second expected o same (trace, given, is) = chart_status (Chart chart) _ o.status is.charted.status_is
 status_on (Endings search) text m second expected o same is = done_for search.always search text m expected o refl same is
 status_on (Lint lint) text m second expected o same (list, reads, is) = list_status (Lint lint) _ o.status is.status_is
+status_on (Step step) text m second expected o same (input, given, is) = inl is.status_is
 
 status_for : (job : Job) (text : List ℕ) (d : Result Machine TextFault) (second expects : Gives) (o : Output) → IsInLinesFor job text d second expects o →
     IsStatusOf job o.status

@@ -10,7 +10,7 @@ use Rattle.l4_script.specs.declared.text.fault.TextFaultKind.{TextFaultKind}
 use Rattle.l4_script.specs.declared.text.fault.TextFaultKind.TheVariants.{NoMemory as NoMemoryKind}
 use Rattle.l4_commands.specs.Files.{expected_of, file_of, list_name, list_name_in, shown_name}
 use Rattle.l4_commands.specs.declared.job.Job.{Job}
-use Rattle.l4_commands.specs.declared.job.Job.TheVariants.{Run, Replay, Next, Audit, Chart, Endings, Lint}
+use Rattle.l4_commands.specs.declared.job.Job.TheVariants.{Run, Replay, Next, Audit, Chart, Endings, Lint, Step}
 use Rattle.l4_commands.specs.declared.job.Printed.{Printed}
 use Rattle.l4_commands.specs.declared.job.Wanted.TheVariants.{NoEnding, AnEnding}
 use Rattle.l4_jobs.specs.Audits.{IsAuditDone, IsTraceFault, tells_refusals}
@@ -24,6 +24,7 @@ use Rattle.l4_jobs.specs.Outputs.{Output}
 use Rattle.l4_jobs.specs.Runs.{IsReplayJobDone, IsRunJobDone, IsWritten, status_of_ending}
 use Rattle.l4_jobs.specs.Schedules.{IsReplayFault, fault_of_turns}
 use Rattle.l4_jobs.specs.Searches.{IsSearchDone, fault_of_search}
+use Rattle.l4_jobs.specs.Steps.{IsStepDone, IsStepFault}
 use Rattle.l4_jobs.specs.declared.fault.Fault.{Fault}
 use Rattle.l4_jobs.specs.declared.fault.Fault.TheVariants as fault
 
@@ -46,6 +47,8 @@ IsDoneOn (Endings search) text m second expected o = IsSearchDone search text m 
 IsDoneOn (Lint lint) text m second expected o =
     (list : List ℕ) × IsRead (list_name_in lint.schedule) second list
     × IsListLinted (shown_name lint) text m lint.schedule list o
+IsDoneOn (Step step) text m second expected o =
+    (input : List ℕ) × second (Ok input) × IsStepDone step text m input o
 
 -- Only a lint comes to anything for a text with a fault.
 abbrev pub is_lint : Job → Bool
@@ -97,6 +100,7 @@ IsFaultOn (Chart chart) m second f = IsChartFault chart m second f
 IsFaultOn (Endings search) m second f = fault_of_search m search ≡ Some f
 IsFaultOn (Lint lint) m second f =
     IsSomeAnd (list_name_in lint.schedule) (λ name. FailsWith name second f)
+IsFaultOn (Step step) m second f = IsStepFault second f
 
 -- The fault of a text, which a lint prints.
 abbrev pub IsTextFault : Job → TextFault → Fault → Type 0

@@ -18,6 +18,7 @@ pub mod Rounds
 pub mod Runs
 pub mod Schedules
 pub mod Searches
+pub mod Steps
 pub mod Streaming
 pub mod Streams
 pub mod Traces

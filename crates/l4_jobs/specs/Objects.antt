@@ -8,7 +8,7 @@ use Rattle.l4_json.specs.Scripts.{script_lines}
 use Rattle.l4_json.specs.Steps.{steps_text}
 use Rattle.l4_trace.specs.Lines.{trace_of}
 use Rattle.l4_commands.specs.declared.job.Job.{Job}
-use Rattle.l4_commands.specs.declared.job.Job.TheVariants.{Run, Replay, Next, Audit, Chart, Endings, Lint}
+use Rattle.l4_commands.specs.declared.job.Job.TheVariants.{Run, Replay, Next, Audit, Chart, Endings, Lint, Step as Session}
 use Rattle.l4_jobs.specs.Outputs.{Output}
 
 -- Lines as they are, or the object of each.
@@ -30,6 +30,7 @@ is_retold (Audit audit) = audit.json
 is_retold (Chart chart) = false
 is_retold (Endings search) = search.json
 is_retold (Lint lint) = lint.json
+is_retold (Session step) = false
 
 -- The lines of an output are these, which are those of such an output, or the objects of these.
 pub record IsTold (json : Bool) (IsInLines : Output → Type 0) (o : Output) : Type 0 where

@@ -1,15 +1,19 @@
 -- What is written of a job.
 use Rattle.std.specs.Prelude.{◌≡◌, ◌⊎◌, ℕ, Bool, true, false, Option, Some, None, IsSomeAnd, Result, Ok, Err, List, [], ◌∷◌}
 use Rattle.std.specs.declared.io.ErrorKind.{ErrorKind}
+use Rattle.l4_model.specs.Machine.{Machine}
 use Rattle.l4_script.specs.Versions.{machine_of_text}
 use Rattle.l4_commands.specs.Files.{expected_of, file_of, second_file_of}
 use Rattle.l4_commands.specs.declared.job.EndingsJob.{EndingsJob}
 use Rattle.l4_commands.specs.declared.job.Job.{Job}
+use Rattle.l4_commands.specs.declared.job.Job.TheVariants.{Step}
+use Rattle.l4_commands.specs.declared.job.StepJob.{StepJob}
 use Rattle.l4_jobs.specs.FaultLines.{IsReported}
 use Rattle.l4_jobs.specs.Explanations.{IsExplained}
-use Rattle.l4_jobs.specs.Inputs.{FailsWith, Gives, IsUnread}
+use Rattle.l4_jobs.specs.Inputs.{FailsWith, Gives, IsUnread, gives_nothing}
 use Rattle.l4_jobs.specs.Jobs.{IsDone, IsFaultFor, IsTrueFor}
 use Rattle.l4_jobs.specs.Outputs.{Output}
+use Rattle.l4_jobs.specs.Steps.{IsHeld, IsHeldUpTo, session_of}
 use Rattle.l4_jobs.specs.Streaming.{IsCutOff, fault_of_stop, streamed_of}
 use Rattle.l4_jobs.specs.Streams.{GivenGives}
 use Rattle.l4_jobs.specs.declared.fault.Fault.{Fault}
@@ -183,3 +187,33 @@ abbrev pub IsTrulyDoneOn : {File : Type 0} → (opens : List ℕ → Result File
 IsTrulyDoneOn {File} opens gives job out status =
     (machine : Given File) × IsOpened opens (Some (file_of job)) machine
     × IsTrulyDone job (GivenGives gives machine) out status
+
+-- Sessions
+
+-- A session was held to its end, with status 0; or a fault ended it, which was reported with status
+-- 1. What was told before that stays.
+abbrev pub IsHeldOut : (tells : List (List ℕ) → List ℕ) → (known : Option (List ℕ)) → Sinks →
+    (status : ℕ) → Type 0
+IsHeldOut tells known s status =
+    (IsHeld tells known s.out × s.keeps_faults × (status ≡ 0))
+    ⊎ ((f : Fault) × IsHeldUpTo tells known s.out f × IsReported s.faults f × (status ≡ 1))
+
+-- It was held on the machine that a text declares.
+abbrev pub IsHeldBy : StepJob → (machine : Gives) → (known : Option (List ℕ)) → Sinks →
+    (status : ℕ) → Type 0
+IsHeldBy step machine known s status =
+    (text : List ℕ) × (m : Machine) × machine (Ok text) × (machine_of_text text ≡ Ok m)
+    × IsHeldOut (session_of step text m) known s status
+
+-- It was held on the machine text in a file, or the fault of that was told. A job of its kind that
+-- is given no input comes to nothing but a fault.
+abbrev pub IsHeldOn : {File : Type 0} → (opens : List ℕ → Result File ErrorKind → Type 0) →
+    (gives : File → Gives) → (explains : Bool) → StepJob → (known : Option (List ℕ)) → Sinks →
+    (status : ℕ) → Type 0
+IsHeldOn {File} opens gives explains step known s status =
+    ((f : Fault) × ((f ≡ fault.NoMemory) ⊎ IsUnopened opens (Some step.file.now) f)
+    × IsFaultTold explains step.file.now [] f s status)
+    ⊎ ((machine : Given File) × IsOpened opens (Some step.file.now) machine
+    × (IsPerformed explains (Step step) (GivenGives gives machine) gives_nothing gives_nothing s
+    status
+    ⊎ IsHeldBy step (GivenGives gives machine) known s status))

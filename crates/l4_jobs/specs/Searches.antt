@@ -11,7 +11,7 @@ use Rattle.l4_expect.specs.declared.expectations.ExpectFault.{ExpectFault}
 use Rattle.l4_expect.specs.declared.expectations.ExpectFault.TheVariants as expect_fault
 use Rattle.l4_questions.specs.Always.{IsAlwaysAnswer, IsAlwaysTrace}
 use Rattle.l4_questions.specs.Limits.{question_fault}
-use Rattle.l4_questions.specs.Placed.{IsPlacedAnswer}
+use Rattle.l4_questions.specs.PlacedWalked.{IsAnyPlacedAnswer}
 use Rattle.l4_questions.specs.Beside.{AskedChart, Shown}
 use Rattle.l4_questions.specs.Walked.{IsAnyAnswer, IsAnyTrace}
 use Rattle.l4_questions.specs.declared.question.Question.{Question}
@@ -67,7 +67,7 @@ shown_of text e = record { chart = option_map (asked_chart text) e.chart; waits 
 abbrev pub IsAnswerBy : Scheduler → Machine → Question → Shown →
     Option (List Expected) → (lines unmet : List ℕ) → (status : ℕ) → Type 0
 IsAnswerBy Any = IsAnyAnswer
-IsAnswerBy Placed = IsPlacedAnswer
+IsAnswerBy Placed = IsAnyPlacedAnswer
 
 -- It is printed, and with each ending a chart and who waits for whom, where these are asked for, of the
 -- machine that a text declares. Each ending that is printed has to meet what is expected.

@@ -24,6 +24,7 @@ use crate::objects::told_done;
 use crate::reading::{read_all, read_text};
 use crate::runs::{replay_done, run_done};
 use crate::searches::search_done;
+use crate::steps::step_done;
 use crate::streams::Source;
 use l4_expect::expectations::Expectations;
 use l4_expect::judging::Scope;
@@ -67,6 +68,7 @@ fn done_on<
         Job::Chart(chart) => chart_done(alloc, text, machine, &chart, second),
         Job::Endings(search) => search_done(alloc, text, machine, &search, expected, progress),
         Job::Lint(lint) => list_lint_done(alloc, text, machine, &lint, second),
+        Job::Step(step) => step_done(alloc, text, machine, &step, second),
     }
 }
 

@@ -39,6 +39,7 @@ pub mod rounds;
 mod runs;
 mod schedules;
 mod searches;
+mod steps;
 mod streaming;
 pub mod streams;
 mod trace_lines;

@@ -21,6 +21,7 @@ fn is_retold(job: &Job<'_>) -> bool
         Job::Chart(_) => false,
         Job::Endings(search) => search.json,
         Job::Lint(lint) => lint.json,
+        Job::Step(_) => false,
     }
 }
 

@@ -3,11 +3,12 @@ ghost use Rattle.std.specs.Prelude.{◌≡◌, ◌≢◌, ◌⊎◌, IfErr, IfOk
 ghost use Rattle.std.specs.Option.{option_copied};
 ghost use Rattle.l4_commands.specs.Files.{alone, expected_of, file_of, second_file_of};
 ghost use Rattle.l4_commands.specs.declared.job.Job.TheVariants.{Endings};
+ghost use Rattle.l4_jobs.specs.Inner.Holding.{IsTextHeld};
 ghost use Rattle.l4_jobs.specs.Inputs.{gives_nothing};
 ghost use Rattle.l4_jobs.specs.Jobs.{IsDone, IsStatusOf};
 ghost use Rattle.l4_jobs.specs.Outputs.{Output, output_of};
 ghost use Rattle.l4_jobs.specs.Performing.{AreOpened, AreUnopened, IsLinesOut, IsOpened};
-ghost use Rattle.l4_jobs.specs.Performing.{IsPerformed, IsPerformedOn, IsSaid, IsStopped};
+ghost use Rattle.l4_jobs.specs.Performing.{IsHeldOn, IsPerformed, IsPerformedOn, IsSaid, IsStopped};
 ghost use Rattle.l4_jobs.specs.Performing.{IsTrulyDone, IsTrulyDoneOn, IsUnopened, IsWrittenOut};
 ghost use Rattle.l4_jobs.specs.Performing.{asks_none, keeps_none, sinks};
 ghost use Rattle.l4_jobs.specs.Streaming.{is_streamed};
@@ -16,13 +17,16 @@ ghost use Rattle.l4_jobs.specs.Streams.{GivenGives, IsWrittenApart};
 use crate::done::Done;
 use crate::explanations::tell;
 use crate::fault::{Fault, read_fault, report};
-use crate::job::{EndingsJob, Job};
+use crate::job::{EndingsJob, Job, StepJob};
 use crate::jobs::done_for_text;
 use crate::reading::read_text;
+use crate::steps::hold;
 use crate::streaming::{Stop, streamed, written_done};
 use crate::streams::{Folder, Given, InFolder, NoRecords, Records, Sink, Source};
 use l4_explore::progress::{Progress, Unheard};
+use l4_script::machine::Machine;
 use std::alloc::Global;
+use std::io::BufRead;
 use std::thread::Threads;
 
 // Says what is said behind the lines.
@@ -231,6 +235,71 @@ fn perform_streamed<F: Source, W: Sink, E: Sink, P: Progress>(
         Err(Stop::Faulty(fault)) => tell(alloc, explains, file, text, faults, &fault),
         Err(Stop::NoMemory) => report(alloc, faults, &Fault::NoMemory),
         Err(Stop::NotWritten) => report(alloc, faults, &Fault::Write),
+    }
+}
+
+// Holds a session on a text, and returns the exit status.
+fn perform_text_steps<R: BufRead, W: Sink, E: Sink>(
+    alloc: Global,
+    explains: bool,
+    step: &StepJob<'_>,
+    text: &[u8],
+    input: &mut R,
+    out: &mut W,
+    faults: &mut E,
+) -> u8
+    ensures { IsTextHeld explains step.now text.now (R.remaining input.old)
+        (sinks asks_none (Unit {0}) (W.takes out.old out.new) (out.new ≡ out.old)
+        (E.takes faults.old faults.new) (faults.new ≡ faults.old)) result }
+{
+    let machine = match Machine::parse(alloc, text) {
+        Ok(machine) => machine,
+        Err(fault) => {
+            return tell(
+                alloc,
+                explains,
+                step.file,
+                text,
+                faults,
+                &Fault::from(fault),
+            );
+        }
+    };
+    match hold(alloc, text, &machine, step, input, out) {
+        Ok(()) => 0,
+        Err(fault) => report(alloc, faults, &fault),
+    }
+}
+
+/// Holds a session on the machine text in a file by the lines of an input, each of which is answered
+/// before the next is read. Returns the exit status: 0, or 1 where a fault was reported. What was
+/// told before that stays. With `explains` what explains a fault of the text stands behind its line.
+///
+/// `perform_on_files` comes to the same where the whole input is read first.
+pub fn perform_steps<F: Folder, R: BufRead, W: Sink, E: Sink>(
+    alloc: Global,
+    folder: &F,
+    explains: bool,
+    step: &StepJob<'_>,
+    input: &mut R,
+    out: &mut W,
+    faults: &mut E,
+) -> u8
+    ensures { IsHeldOn (F.opens folder.now) F.File.gives explains step.now
+        (R.remaining input.old)
+        (sinks asks_none (Unit {0}) (W.takes out.old out.new) (out.new ≡ out.old)
+        (E.takes faults.old faults.new) (faults.new ≡ faults.old)) result }
+{
+    let file = step.file;
+    let mut machine = match given_file(folder, Some(file)) {
+        Ok(machine) => machine,
+        Err(fault) => return tell(alloc, explains, file, b"", faults, &fault),
+    };
+    match read_text(alloc, file, &mut machine) {
+        Ok(text) => {
+            perform_text_steps(alloc, explains, step, text.as_slice(), input, out, faults)
+        }
+        Err(fault) => tell(alloc, explains, file, b"", faults, &fault),
     }
 }
 

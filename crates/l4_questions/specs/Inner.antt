@@ -2,6 +2,7 @@ pub mod AllTold
 pub mod Counted
 pub mod Faults
 pub mod Found
+pub mod PlacedWalked
 pub mod Telling
 pub mod Tellings
 pub mod ToldLaws

@@ -7,6 +7,7 @@ pub mod Inner
 pub mod Limits
 pub mod Met
 pub mod Placed
+pub mod PlacedWalked
 pub mod Printed
 pub mod Quiet
 pub mod Resting

@@ -5,10 +5,11 @@ use Rattle.l4_model.specs.Machine.{Machine, Declaration}
 use Rattle.l4_model.specs.Steps.{Step}
 use Rattle.l4_futures.specs.Endings.{length_of}
 use Rattle.l4_futures.specs.Traces.{trace_along}
-use Rattle.l4_stuck.specs.Stuck.{stuck_from, AreStuckThreads, IsStuck, Stuck}
+use Rattle.l4_stuck.specs.Stuck.{stuck_from, AreStuckThreads, IsCutOff, IsStuck, Stuck}
 use Rattle.l4_stuck.specs.declared.search.StuckThread.{StuckThread}
 use Rattle.l4_words.specs.Lines.{line_of_words}
 use Rattle.l4_words.specs.Threads.{thread_word}
+use Rattle.l4_questions.specs.Limits.{most_looked}
 use Rattle.l4_questions.specs.Resting.{counts}
 use Rattle.l4_questions.specs.declared.question.Question.{Question}
 use Rattle.l4_questions.specs.declared.question.Wanted.{Wanted}
@@ -18,7 +19,8 @@ use Rattle.l4_questions.specs.declared.question.Wanted.TheVariants.{Whatever, No
 abbrev pub asks_who_is_stuck : Question → Bool
 asks_who_is_stuck q = q.stuck && is_none q.with_line && is_none q.never
 
--- Of the threads that may get stuck for ever, those that may rest are not told.
+-- Of the threads that may get stuck for ever, those that may rest are not told. The search for them is
+-- cut only where it has gone as far as the question lets it.
 
 abbrev pub counts_one : Question → Option Declaration → Bool
 counts_one q None = true
@@ -31,6 +33,7 @@ pub record AreTold (m : Machine) (q : Question) (stuck : List Stuck) (is_whole :
     Type 0 where
   pub all : List Stuck
   pub all_are : AreStuckThreads m all is_whole
+  pub cut : is_whole ≡ false → IsCutOff m q.depth (most_looked m q)
   pub told : stuck ≡ filter (λ s. counts_at m q s.thread) all
 
 -- Where they are asked for, these are told.

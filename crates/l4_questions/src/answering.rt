@@ -1,20 +1,21 @@
 //! The answer to a question about all histories.
-ghost use Rattle.std.specs.Prelude.{◌≡◌, ◌⊎◌, ◌++◌, ◌<◌, min, IfErr, IfOk, List, None, Option, Some};
+ghost use Rattle.std.specs.Prelude.{◌≡◌, ◌⊎◌, ◌++◌, ◌∷◌, ◌<◌, [], min, false, true, IfErr, IfOk, List};
+ghost use Rattle.std.specs.Prelude.{None, Option, Some};
 ghost use Rattle.std.specs.Option.{option_copied};
 ghost use Rattle.l4_expect.specs.Expected.{Expected};
 ghost use Rattle.l4_explore.specs.Tries.{deepest};
 ghost use Rattle.l4_model.specs.Steps.{Step};
 ghost use Rattle.l4_questions.specs.Answers.{endings_after, whole_word, AreFound};
 ghost use Rattle.l4_questions.specs.Answers.{IsAnswer};
+ghost use Rattle.l4_questions.specs.Asked.{is_asked};
 ghost use Rattle.l4_questions.specs.Beside.{Shown, shown_as};
 ghost use Rattle.l4_questions.specs.Inner.Counted.{has_any, last_lines_if, IsCounted};
-ghost use Rattle.l4_questions.specs.Inner.Walked.{IsWalkedBy};
 ghost use Rattle.l4_questions.specs.Limits.{most_looked, question_fault};
-ghost use Rattle.l4_questions.specs.Printed.{endings_text};
+ghost use Rattle.l4_questions.specs.Printed.{endings_text, IsTold};
 ghost use Rattle.l4_questions.specs.Stuck.{stuck_lines, AreAllStuck};
 ghost use Rattle.l4_questions.specs.Told.{BreaksOff, HasBegun, IsToldFirst};
 ghost use Rattle.l4_questions.specs.Inner.AllTold.{AreAllTold};
-ghost use Rattle.l4_questions.specs.Walked.{IsAnyAnswer, IsWalkAnswer, walk_line};
+ghost use Rattle.l4_questions.specs.Walked.{IsAnyAnswer, walk_line};
 ghost use Rattle.l4_questions.specs.declared.question.QuestionFault.TheVariants.{NoMemory as OutOfMemory};
 ghost use Rattle.l4_stuck.specs.Stuck.{stuck_of};
 
@@ -33,8 +34,8 @@ use l4_stuck::FoundThreads;
 use l4_types::errors::NoMemory;
 use std::alloc::Global;
 
-// What stands behind the ending that a walk came to.
-fn walk_line() -> &'static [u8]
+/// What stands behind the ending that a walk came to.
+pub(crate) fn walk_line() -> &'static [u8]
     ensures { result.now ≡ walk_line }
 {
     b"found by a walk, perhaps not the shortest; no others were looked for\n"
@@ -97,6 +98,8 @@ fn answer_behind<P: Progress>(
     told: Told,
 ) -> Result<Answer, NoMemory>
     requires lawful { question_fault question.now ≡ None }
+    requires depth { min depth deepest ≡ question.now.depth }
+    requires most { most ≡ most_looked machine.now question.now }
     requires some { 0 < most }
     ensures { IfOk result (λ answer. (shown : Shown) (expected : Option (List Expected))
         (traces : List (List Step)) → told.is_any ≡ has_any traces →
@@ -189,18 +192,21 @@ fn searched_answer<P: Progress, T: Teller>(
     Ok(answer)
 }
 
-// The answer by a walk to an ending.
-fn walk_answer(
+/// The answer by a walk to an ending.
+///
+/// `NoMemory`: memory was refused.
+pub(crate) fn walk_answer<L: Listed>(
     alloc: Global,
     machine: &Machine,
     question: &Question<'_>,
     beside: Beside<'_, '_>,
-    entries: Vec<u32>,
+    entries: &L,
 ) -> Result<Answer, NoMemory>
-    requires { IsWalkedBy machine.now question.now entries }
-    ensures { IfOk result (λ answer. IsWalkAnswer machine.now question.now
-        (shown_as beside.entry.shown) (option_copied beside.entry.expected) answer.lines.items
-        answer.unmet.items answer.status) }
+    requires leads { L.leads machine.now entries.now }
+    requires asked { is_asked question.now (L.ending machine.now entries.now) ≡ true }
+    ensures { IfOk result (λ answer. IsTold question.now (shown_as beside.entry.shown)
+        (option_copied beside.entry.expected) (L.ending machine.now entries.now ∷ []) walk_line false
+        answer.lines.items answer.unmet.items answer.status) }
 {
     let found = entries.ending(alloc, machine)?;
     let mut told = Told::new(alloc);
@@ -242,7 +248,7 @@ pub fn told_answer<P: Progress, T: Teller>(
 {
     let (depth, most) = question.limits(machine)?;
     match walked_ending(alloc, machine, question, depth, most, progress)? {
-        Some(entries) => Ok(walk_answer(alloc, machine, question, beside, entries)?),
+        Some(entries) => Ok(walk_answer(alloc, machine, question, beside, &entries)?),
         None => searched_answer(
             alloc, machine, question, beside, depth, most, progress, teller,
         ),

@@ -22,7 +22,7 @@ ghost use Rattle.l4_proc.specs.declared.processor.Processor.{Processor};
 ghost use Rattle.l4_machine.specs.Gathered.{IsGathered};
 ghost use Rattle.l4_machine.specs.Outcomes.{Findings, IsFoundFor, IsOutcomeOf};
 ghost use Rattle.l4_futures.specs.Endings.{AreAllEndings as AreAllWorldEndings};
-ghost use Rattle.l4_questions.specs.Placed.{IsPlacedAnswer};
+ghost use Rattle.l4_questions.specs.PlacedWalked.{IsAnyPlacedAnswer};
 ghost use Rattle.l4_questions.specs.Quiet.{QuietIsListed, QuietIsNotAsked};
 ghost use Rattle.l4_forever.specs.Moves.{IsNeverStuck};
 ghost use Rattle.l4_questions.specs.Stuck.{asks_who_is_stuck, counts_at};
@@ -110,5 +110,5 @@ pub fn law_none_is_asked()
     ensures { (m : Machine) (q : AskedQuestion) (shown : Shown)
         (expected : Option (List Expected)) (lines unmet : List ℕ) → IsMachine m →
         AsksForLines q → q.wanted ≡ NoEnding →
-        IsPlacedAnswer m q shown expected lines unmet 0 → NoneIsAsked m q }
+        IsAnyPlacedAnswer m q shown expected lines unmet 0 → NoneIsAsked m q }
 {}

@@ -31,6 +31,7 @@ pub mod laws;
 mod listed;
 pub mod met;
 mod placed_answering;
+mod placed_walked;
 mod printed;
 pub mod question;
 mod resting;

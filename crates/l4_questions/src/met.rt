@@ -21,6 +21,7 @@ ghost use Rattle.l4_machine.specs.Outcomes.{Findings, IsFoundFor, IsOutcomeOf};
 ghost use Rattle.l4_questions.specs.Answers.{IsAnswer};
 ghost use Rattle.l4_questions.specs.Met.{EachIsMet, EachRunIsMet, QuietIsMet};
 ghost use Rattle.l4_questions.specs.Placed.{IsPlacedAnswer};
+ghost use Rattle.l4_questions.specs.PlacedWalked.{IsAnyPlacedAnswer};
 ghost use Rattle.l4_questions.specs.Runs.{AsksForLines};
 ghost use Rattle.l4_questions.specs.declared.question.Question.{Question as AskedQuestion};
 ghost use Rattle.l4_questions.specs.declared.question.Wanted.TheVariants.{Whatever};
@@ -62,7 +63,7 @@ pub fn law_each_placed_is_met()
     ensures by_status { (m : Machine) (q : AskedQuestion) (shown : Shown)
         (expected : List Expected) (lines unmet : List ℕ) → IsMachine m → AsksForLines q →
         may_be_asked expected ≡ true → q.wanted ≡ Whatever →
-        IsPlacedAnswer m q shown (Some expected) lines unmet 0 → EachRunIsMet m q expected }
+        IsAnyPlacedAnswer m q shown (Some expected) lines unmet 0 → EachRunIsMet m q expected }
     ensures whole { (m : Machine) (q : AskedQuestion) (shown : Shown)
         (expected : List Expected) (lines : List ℕ) (status : ℕ) → IsMachine m →
         AsksForLines q → may_be_asked expected ≡ true →

@@ -1,7 +1,9 @@
 //! Threads that are stuck for ever, as an answer tells them.
-ghost use Rattle.std.specs.Prelude.{◌≡◌, ◌<◌, ◌++◌, IfOk, OnOk, codes, false, filter, slice_get};
-ghost use Rattle.std.specs.Prelude.{true};
+ghost use Rattle.std.specs.Prelude.{◌≡◌, ◌<◌, ◌++◌, IfOk, OnOk, codes, false, filter, min};
+ghost use Rattle.std.specs.Prelude.{slice_get, true};
 ghost use Rattle.std.specs.String.{string_bytes};
+ghost use Rattle.l4_explore.specs.Tries.{deepest};
+ghost use Rattle.l4_questions.specs.Limits.{most_looked};
 ghost use Rattle.l4_stuck.specs.Stuck.{stuck_from, stuck_of, AreStuckThreads, IsStuck};
 ghost use Rattle.l4_questions.specs.Stuck.{asks_who_is_stuck, counts_at, cut_status, declared_word};
 ghost use Rattle.l4_questions.specs.Stuck.{is_any};
@@ -36,7 +38,9 @@ pub(crate) fn asked_stuck<P: Progress>(
     most: u32,
     progress: &mut P,
 ) -> Result<FoundThreads, NoMemory>
-    requires { 0 < most }
+    requires depth { min depth deepest ≡ question.now.depth }
+    requires most { most ≡ most_looked machine.now question.now }
+    requires some { 0 < most }
     ensures { IfOk result (λ r. AreAskedStuck machine.now question.now (stuck_of r.threads.items)
         r.is_whole) }
 {

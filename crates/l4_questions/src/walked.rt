@@ -17,25 +17,28 @@ use l4_types::errors::NoMemory;
 use l4_walks::Walks;
 use std::alloc::Global;
 
-// A search looks at so many worlds before walks are tried, so that what is small is answered by it.
-const NEAREST: u32 = 10_000;
+/// A search looks at so many worlds before walks are tried, so that what is small is answered by it.
+/// Of placed threads it looks at so many states.
+pub(crate) const NEAREST: u32 = 10_000;
 
-// So many walks are tried, or fewer where so many are too long: then the machine seems to have no
-// ending. None takes more than so many steps but ticks.
-const WALKS: u32 = 100;
+/// So many walks are tried, or fewer where so many are too long: then the machine seems to have no
+/// ending. None takes more than so many steps but ticks, and of placed threads, than so many events.
+pub(crate) const WALKS: u32 = 100;
 
-const MOST_TOO_LONG: u32 = 20;
+pub(crate) const MOST_TOO_LONG: u32 = 20;
 
-const MOST_STEPS: u32 = 2_000;
+pub(crate) const MOST_STEPS: u32 = 2_000;
 
-// Whether one of these endings is asked for.
-fn is_any_asked(
+/// Whether one of these endings is asked for.
+///
+/// `NoMemory`: memory was refused.
+pub(crate) fn is_any_asked<L: Listed>(
     alloc: Global,
     machine: &Machine,
     question: &Question<'_>,
-    endings: &[Vec<u32>],
+    endings: &[L],
 ) -> Result<bool, NoMemory>
-    requires { AllByRecursion (IsLed machine.now) endings.now }
+    requires { AllByRecursion (L.leads machine.now) endings.now }
 {
     for entries in endings {
         if is_asked(question, &entries.ending(alloc, machine)?) {

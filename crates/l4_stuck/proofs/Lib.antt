@@ -1,3 +1,4 @@
+mod Cut
 pub mod Growing
 pub mod Marking
 pub mod Placing

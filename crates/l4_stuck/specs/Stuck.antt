@@ -1,9 +1,11 @@
 -- Threads that may get stuck for ever.
-use Rattle.std.specs.Prelude.{ℕ, ◌≡◌, ◌<◌, Bool, true, Some, List, length, map, slice_get}
+use Rattle.std.specs.Prelude.{ℕ, ◌≡◌, ◌<◌, ◌+◌, ◌⊎◌, Bool, true, Some, List, length, map, slice_get}
 use Rattle.l4_model.specs.Machine.{Machine}
 use Rattle.l4_model.specs.World.{opening}
+use Rattle.l4_model.specs.Steps.{Step}
 use Rattle.l4_explore.specs.Search.{Seen}
 use Rattle.l4_forever.specs.Inner.Graph.{StandsAt}
+use Rattle.l4_futures.specs.Endings.{AreWorlds, IsCutByDepth, IsCutByWorlds}
 use Rattle.l4_futures.specs.Traces.{trace_along}
 use Rattle.l4_forever.specs.Forever.{IsStuckForEver}
 use Rattle.l4_forever.specs.Moves.{IsNeverStuck}
@@ -48,3 +50,12 @@ pub record AreStuckBelow (m : Machine) (found : List Stuck) (is_whole : Bool) (b
 -- may be more.
 abbrev pub AreStuckThreads : Machine → List Stuck → (is_whole : Bool) → Type 0
 AreStuckThreads m found is_whole = AreStuckBelow m found is_whole (length m.threads)
+
+-- Why a search of at most `asked` steps but ticks and `most` worlds was cut: a history that it looked
+-- at has as many steps as it may take, or there is one world more than it may keep.
+pub record IsCutOff (m : Machine) (asked most : ℕ) : Type 0 where
+  pub histories : List (List Step)
+  pub depth : ℕ
+  pub are : AreWorlds m histories (depth + 1)
+  pub cut :
+      IsCutByDepth histories asked depth ⊎ IsCutByWorlds m (length histories) asked most depth

@@ -1,6 +1,8 @@
 //! The search for threads that may get stuck for ever.
-ghost use Rattle.std.specs.Prelude.{◌≡◌, ◌⊎◌, ◌<◌, ◌≤◌, IfNone, IfOk, IfSome, length, true, ℕ};
+ghost use Rattle.std.specs.Prelude.{◌≡◌, ◌⊎◌, ◌<◌, ◌≤◌, IfNone, IfOk, IfSome, false, length, min};
+ghost use Rattle.std.specs.Prelude.{true, ℕ};
 ghost use Rattle.l4_explore.specs.Search.{seen_at, IsGoneOn as IsSearchedOn};
+ghost use Rattle.l4_explore.specs.Tries.{deepest};
 ghost use Rattle.l4_worlds.specs.Histories.{IsTimed};
 ghost use Rattle.l4_model.specs.World.{World};
 ghost use Rattle.l4_forever.specs.Forever.{WaitsForEver};
@@ -10,7 +12,7 @@ ghost use Rattle.l4_forever.specs.Moves.{IsNeverStuck};
 ghost use Rattle.l4_forever.specs.Inner.Walks.{AreWalked};
 ghost use Rattle.l4_model.specs.World.{opening};
 ghost use Rattle.l4_stuck.specs.Inner.Going.{IsGraphOf};
-ghost use Rattle.l4_stuck.specs.Stuck.{stuck_of, AreStuckThreads, IsFirst};
+ghost use Rattle.l4_stuck.specs.Stuck.{stuck_of, AreStuckThreads, IsCutOff, IsFirst};
 
 use crate::graph::{Graph, graph_of};
 use crate::moves::{first_free, moves_of};
@@ -91,7 +93,8 @@ fn stuck_place(
 ///
 /// It looks at no more than `most` worlds, and goes no deeper than `depth` steps that are no ticks,
 /// nor than 1,000,000. Where that cuts it off, worlds from which it has not gone on count as worlds
-/// where every thread may yet do something.
+/// where every thread may yet do something. It is cut only there: a history takes as many steps as it
+/// may go deep, or there is one world more.
 ///
 /// `NoMemory`: memory was refused.
 pub fn stuck_threads<P: Progress>(
@@ -102,8 +105,10 @@ pub fn stuck_threads<P: Progress>(
     progress: &mut P,
 ) -> Result<FoundThreads, NoMemory>
     requires { 0 < most }
-    ensures { IfOk result (λ r.
+    ensures threads { IfOk result (λ r.
         AreStuckThreads machine.now (stuck_of r.threads.items) r.is_whole) }
+    ensures cut { IfOk result (λ r.
+        r.is_whole ≡ false → IsCutOff machine.now (min depth deepest) most) }
 {
     know_times(machine);
     let mut walks = Walks::new(alloc, machine)?;

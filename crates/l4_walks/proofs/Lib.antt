@@ -1,2 +1,4 @@
+mod Choosing
 mod Comings
 mod Picks
+mod Resting

@@ -3,7 +3,8 @@
 //! A search goes through all worlds, the nearer ones first, so it takes long to come to an ending that
 //! is far away. A walk goes on by one choice in each world. Where it comes to an ending, that is one
 //! of the endings that a search would find, but perhaps not by a shortest history; and a walk that
-//! comes to none says nothing.
+//! comes to none says nothing. `PlacedWalks` walks so through the runs that processors make by
+//! schedules.
 //!
 //! Which choices a walk takes is always the same for a machine: the generator has a fixed seed.
 //!
@@ -15,6 +16,8 @@
 //! ```
 #![tactic(auto)]
 
+mod placed;
 mod walks;
 
+pub use placed::PlacedWalks;
 pub use walks::Walks;

@@ -12,9 +12,9 @@ use std::alloc::Global;
 use std::marker::Model;
 
 // The seed and the stream of the demonstration program of PCG.
-const SEED: u64 = 42;
+pub(crate) const SEED: u64 = 42;
 
-const STREAM: u64 = 54;
+pub(crate) const STREAM: u64 = 54;
 
 /// Walks through the worlds of a machine.
 #[derive(Drop)]

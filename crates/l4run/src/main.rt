@@ -23,14 +23,15 @@ use crate::progress::{BesideLine, LinePlace, ProgressLine};
 use l4_colours::outputs::{Output, PaintedOutput, is_painted};
 use l4_explore::progress::Progress;
 use l4_jobs::fault::{Fault, report};
-use l4_jobs::perform::perform_on_files;
+use l4_jobs::job::{Job, StepJob};
+use l4_jobs::perform::{perform_on_files, perform_steps};
 use l4_jobs::refusal::refuse;
-use l4_jobs::streams::{STANDARD_INPUT, Sink, Source, WithInput};
+use l4_jobs::streams::{STANDARD_INPUT, Sink, WithInput};
 use l4_jobs::words::asked_of;
 use std::alloc::{AllocError, Global};
 use std::cell::Cell;
 use std::env::VarError;
-use std::io::{IsTerminal, Write};
+use std::io::{BufReader, IsTerminal, Read, Write};
 use std::process::ExitCode;
 use std::rt::{Env, Files};
 use std::thread::Threads;
@@ -64,10 +65,25 @@ fn output<R: Env + AllocGlobal>(rt: &R, is_terminal: bool) -> Output {
     }
 }
 
+// Holds a session over the lines of an input, as they come.
+fn perform_lines<R: Files + AllocGlobal, I: Read + Drop, W: Sink, E: Sink>(
+    rt: &R,
+    explains: bool,
+    step: &StepJob<'_>,
+    input: I,
+    out: &mut W,
+    faults: &mut E,
+) -> u8 {
+    match BufReader::new(rt.alloc(), input) {
+        Ok(mut lines) => perform_steps(rt.alloc(), rt, explains, step, &mut lines, out, faults),
+        Err(_) => report(rt.alloc(), faults, &Fault::NoMemory),
+    }
+}
+
 // Does what the words ask for.
 fn on_words<
     R: Files + Env + AllocGlobal + Threads + Sync,
-    I: Source + Copy + Drop,
+    I: Read + Copy + Drop,
     W: Write,
     T: Sink + Drop,
     E: Sink,
@@ -92,6 +108,9 @@ fn on_words<
                 out: PaintedOutput::new(alloc, out, is_painted(&asked, output)),
                 line,
             };
+            if let Job::Step(step) = job {
+                return perform_lines(rt, explains, &step, input, &mut out, faults);
+            }
             let folder = WithInput {
                 folder: rt,
                 input,
@@ -111,7 +130,7 @@ fn texts<'a>(alloc: Global, words: &'a [String]) -> Result<Vec<&'a str>, AllocEr
 
 fn run_program<
     R: Files + Env + AllocGlobal + Threads + Sync,
-    I: Source + Copy + Drop,
+    I: Read + Copy + Drop,
     W: Write,
     T: Sink + Drop,
     E: Sink,

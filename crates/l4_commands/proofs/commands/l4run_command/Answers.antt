@@ -14,4 +14,5 @@ returns c =
     let three = then two c.audit.ensures c.in_ok-three.ensures in
     let four = then three c.chart.ensures c.in_ok-four.ensures in
     let five = then four c.endings.ensures c.in_ok-five.ensures in
-    IfOk-weaker c.with_verb-6.result _ _ (λ r h. then five c.lint.ensures h) c.with_verb-6.ensures
+    let six = then five c.lint.ensures c.in_ok-six.ensures in
+    IfOk-weaker c.with_verb-7.result _ _ (λ r h. then six c.step.ensures h) c.with_verb-7.ensures

@@ -2,6 +2,7 @@ use Rattle.std.proofs.Common.{◌≡◌, inl, inr, refl, rules, List, ℕ, []}
 use Rattle.std.specs.Prelude.{IfErr}
 use Rattle.std.specs.Option.{option_copied}
 use Rattle.std.proofs.lemmas.Result.{IfOk-weaker}
+use Rattle.l4_futures.specs.Traces.{trace_along}
 use Rattle.l4_questions.specs.Beside.{shown_as}
 use Rattle.l4_questions.specs.Told.{BreaksOff, HasBegun}
 use Rattle.l4_questions.specs.declared.question.QuestionFault.TheVariants.{NoMemory}
@@ -60,5 +61,9 @@ pub returns-in_ok-walk_answer-in-Some-clause-ok : goal.returns-in_ok-walk_answer
 returns-in_ok-walk_answer-in-Some-clause-ok g c = record {
   told = [];
   taken = g.met.T.Teller.nothing c.args.teller.now;
-  answer = inr c.in_ok-walk_answer-in-Some.ensures;
+  answer = inr (record {
+    trace = trace_along c.args.machine.now c.in-Some.entries.items;
+    walked = (c.in_ok-entries.ensures c.in-Some.entries c.in-Some.is).walked;
+    told = c.in_ok-walk_answer-in-Some.ensures;
+  });
 }

@@ -4,12 +4,14 @@ use Rattle.l4_questions.specs.Placed.{ending_of_run, placed_endings}
 use Rattle.l4_questions.proofs.Asking.{each_met}
 use Rattle.l4_questions.proofs.OfAll.{placed_found}
 use Rattle.l4_questions.proofs.Statuses.{all_told, met_by_status}
+use Rattle.l4_questions.proofs.Walks.{placed_by_search}
 use Rattle.l4_questions.proofs.met.law_each_placed_is_met.Goals as goal
 
 pub returns-clause-by_status : goal.returns-clause-by_status
-returns-clause-by_status c = λ m q shown expected lines unmet machine may asked any a r run.
+returns-clause-by_status c = λ m q shown expected lines unmet machine may asked whatever any r run.
+    let a = placed_by_search any in
     let endings = placed_endings m a.endings in
-    let is = met_by_status q (Some expected) endings a.is_whole a.told.status_is any in
+    let is = met_by_status q (Some expected) endings a.is_whole a.told.status_is whatever in
     let all = subst (AreAllEndings m a.endings a.depth) is.1 a.searched.all in
     each_met q may endings (ending_of_run m r)
     (placed_found m a.endings a.depth machine all r run) expected asked is.0

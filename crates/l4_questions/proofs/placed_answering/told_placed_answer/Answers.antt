@@ -1,57 +1,74 @@
-use Rattle.std.proofs.Common.{◌≡◌, inl, inr, refl, rules, subst, ◌∙◌, ℕ, List, ◌++◌}
+use Rattle.std.proofs.Common.{◌≡◌, inl, inr, refl, rules, []}
 use Rattle.std.specs.Prelude.{IfErr}
-use Rattle.std.specs.Option.{option_copied}
+use Rattle.std.proofs.lemmas.Result.{IfOk-weaker}
+use Rattle.l4_endings.specs.Inner.Tried.{entries_from}
 use Rattle.l4_questions.specs.Beside.{shown_as}
-use Rattle.l4_questions.specs.Placed.{placed_endings}
-use Rattle.l4_questions.specs.Printed.{endings_text, IsTold}
 use Rattle.l4_questions.specs.Told.{BreaksOff, PlacedHasBegun}
 use Rattle.l4_questions.specs.declared.question.QuestionFault.TheVariants.{NoMemory}
 use Rattle.l4_questions.specs.declared.teller.TellFault.TheVariants.{NoAnswer}
-use Rattle.l4_questions.proofs.Begun.{placed_begun_all}
+use Rattle.l4_questions.proofs.Begun.{placed_not_begun}
 use Rattle.l4_questions.proofs.Some.{if_err}
 use Rattle.l4_questions.proofs.placed_answering.told_placed_answer.Goals as goal
 
--- Memory was refused when all endings were told.
-pub returns-in_err-last-clause-err : goal.returns-in_err-last-clause-err
-returns-in_err-last-clause-err g c =
+-- The question is out of range.
+pub returns-in_err-depth-clause-err : goal.returns-in_err-depth-clause-err
+returns-in_err-depth-clause-err g c =
+    let m = c.args.machine.now in
+    let q = c.args.question.now in
+    let teller = c.args.teller.now in
+    let takes = g.T.Teller.takes teller teller in
+    let fault = c.in_err-depth.field-0.0 in
+    let is : IfErr c.from_residual.result (λ f. f ≡ NoAnswer fault) = search rules in
+    if_err c.from_residual.result (NoAnswer fault)
+    (BreaksOff takes q (PlacedHasBegun takes m q (shown_as c.args.beside.shown))) is
+    (inr (c.in_err-depth.ensures.err, g.met.T.Teller.nothing teller))
+
+pub returns-in_err-entries-clause-err : goal.returns-in_err-entries-clause-err
+returns-in_err-entries-clause-err g c =
     let m = c.args.machine.now in
     let q = c.args.question.now in
     let shown = shown_as c.args.beside.shown in
-    let takes = g.T.Teller.takes c.args.teller.now c.told_endings.new.teller in
-    let all = c.in_ok-looked.ensures.ok in
-    let is : IfErr c.from_residual-in_err-last.result (λ f. f ≡ NoAnswer NoMemory) = search rules in
-    if_err c.from_residual-in_err-last.result (NoAnswer NoMemory)
+    let teller = c.args.teller.now in
+    let takes = g.T.Teller.takes teller teller in
+    let is : IfErr c.from_residual-in_err-entries.result (λ f. f ≡ NoAnswer NoMemory) = search rules in
+    if_err c.from_residual-in_err-entries.result (NoAnswer NoMemory)
     (BreaksOff takes q (PlacedHasBegun takes m q shown)) is (
     inl (
       refl,
-      placed_begun_all takes m q shown (option_copied c.args.beside.expected) c.in_ok-looked.told
-          c.in_ok-depth.ensures.ok.0 c.in_ok-looked.looked all,
+      placed_not_begun takes m q shown c.in_ok-depth.ensures.ok.0 (g.met.T.Teller.nothing teller),
     )
     )
 
-pub returns-clause-ok : goal.returns-clause-ok
-returns-clause-ok g c =
+pub returns-in_err-walk_answer-in-Some-clause-err : goal.returns-in_err-walk_answer-in-Some-clause-err
+returns-in_err-walk_answer-in-Some-clause-err g c =
     let m = c.args.machine.now in
     let q = c.args.question.now in
     let shown = shown_as c.args.beside.shown in
-    let expected = option_copied c.args.beside.expected in
-    let looked = c.in_ok-looked.looked in
-    let all = c.in_ok-looked.ensures.ok in
-    let endings = placed_endings m all.endings in
-    let answer = c.into_answer.result in
-    record {
-      told = endings_text shown q endings;
-      taken = all.taken;
-      answer = record {
-        lawful = c.in_ok-depth.ensures.ok.0;
-        endings = all.endings;
-        states = looked.states;
-        depth = looked.depth;
-        is_whole = looked.is_whole;
-        searched = all.found;
-        told =
-            subst (λ (last : List ℕ). IsTold q shown expected endings last looked.is_whole
-            (endings_text shown q endings ++ answer.lines.items) answer.unmet.items answer.status)
-            c.in_ok-last.ensures (c.into_answer.ensures shown expected endings all.counted);
-      };
-    }
+    let teller = c.args.teller.now in
+    let takes = g.T.Teller.takes teller teller in
+    let is : IfErr c.from_residual-in_err-walk_answer-in-Some.result (λ f. f ≡ NoAnswer NoMemory)
+    = search rules in
+    if_err c.from_residual-in_err-walk_answer-in-Some.result (NoAnswer NoMemory)
+    (BreaksOff takes q (PlacedHasBegun takes m q shown)) is (
+    inl (
+      refl,
+      placed_not_begun takes m q shown c.in_ok-depth.ensures.ok.0 (g.met.T.Teller.nothing teller),
+    )
+    )
+
+pub returns-in_ok-walk_answer-in-Some-clause-ok : goal.returns-in_ok-walk_answer-in-Some-clause-ok
+returns-in_ok-walk_answer-in-Some-clause-ok g c = record {
+  told = [];
+  taken = g.met.T.Teller.nothing c.args.teller.now;
+  answer = inr (record {
+    entries = entries_from c.in-Some.entries.items;
+    walked = c.in_ok-entries.ensures c.in-Some.entries c.in-Some.is;
+    told = c.in_ok-walk_answer-in-Some.ensures;
+  });
+}
+
+pub returns-in-None-clause-ok : goal.returns-in-None-clause-ok
+returns-in-None-clause-ok g c =
+    IfOk-weaker c.searched_answer.result _ _
+    (λ answer t. record { told = t.told; taken = t.taken; answer = inl t.answer })
+    c.searched_answer.ensures.ok

@@ -1,8 +1,8 @@
-use Rattle.std.proofs.Common.{◌≡◌, ◌≤◌, ◌<◌, ◌∷◌, [], length, refl, subst, sym, ap, ◌∙◌, arith}
+use Rattle.std.proofs.Common.{◌≡◌, ◌≤◌, ◌<◌, ◌∷◌, [], false, length, min, refl, subst, sym, ap, ◌∙◌, arith}
 use Rattle.std.proofs.lemmas.List.{map-append}
 use Rattle.std.specs.Prelude.{IfNone, IfSome}
 use Rattle.l4_model.specs.World.{World}
-use Rattle.l4_explore.specs.Search.{seen_at, IsExplored}
+use Rattle.l4_explore.specs.Search.{seen_at, IsCut, IsExplored}
 use Rattle.l4_explore.specs.Tries.{deepest}
 use Rattle.l4_futures.specs.Inner.Search.{state_after}
 use Rattle.l4_forever.specs.Forever.{WaitsForEver}
@@ -11,6 +11,7 @@ use Rattle.l4_forever.specs.Moves.{IsNeverStuck}
 use Rattle.l4_forever.specs.Inner.Walks.{AreWalked}
 use Rattle.l4_all_endings.proofs.Leading.{low}
 use Rattle.l4_stuck.specs.Stuck.{stuck_from, stuck_of, AreStuckBelow}
+use Rattle.l4_stuck.proofs.Cut.{cut_off}
 use Rattle.l4_stuck.proofs.Telling.{first_found, none_told, not_told, one_told, stuck_by}
 use Rattle.l4_stuck.proofs.search.stuck_threads.Goals as goal
 
@@ -75,11 +76,32 @@ loop-thread-preserved g c =
     c.in_ok-entries.ensures (omega (arith, near, low_enough, as_long)) waits.1)
     c.loop-thread.invariant
 
-pub returns : goal.returns
-returns g c =
+pub returns-clause-threads : goal.returns-clause-threads
+returns-clause-threads g c =
     let m = c.args.machine.now in
     let all : c.loop-thread.thread ≡ length c.threads-thread-end.result.now
     = omega (arith, c.loop-thread-test.false, c.loop-thread.auto.thread-end) in
     subst (λ n. AreStuckBelow m (stuck_of c.loop-thread.threads.items)
     c.in_ok-explored.explored.is_whole n) (all ∙ ap length c.threads-thread-end.ensures.value)
     c.loop-thread.invariant
+
+-- It was cut where the search of worlds was.
+pub returns-clause-cut : goal.returns-clause-cut
+returns-clause-cut g c = λ cut.
+    let m = c.args.machine.now in
+    let x = c.in_ok-explored.explored in
+    let e = c.in_ok-explored.ensures in
+    let n = c.in_ok-walks.walks.machine.now in
+    let few : c.min.result ≤ deepest = omega (arith, c.min.ensures) in
+    let low_enough : x.depth ≤ deepest
+    = low (state_after n) (AreWalked n) x.found c.min.result c.args.most x.depth x.is_whole few
+    e.whole e.cut in
+    let explored = subst (λ k. IsExplored (state_after k) (AreWalked k) x.found x.depth x.is_whole)
+    c.in_ok-walks.ensures e.explored in
+    let asked : min c.min.result deepest ≡ min c.args.depth deepest
+    = omega (arith, c.min.ensures) in
+    cut_off m x.found (min c.args.depth deepest) c.args.most x.depth x.is_whole c.know_times.ensures
+    low_enough explored
+    (subst (λ a. IsCut (state_after m) (AreWalked m) x.found a c.args.most x.depth) asked
+    (subst (λ k. IsCut (state_after k) (AreWalked k) x.found (min c.min.result deepest) c.args.most
+    x.depth) c.in_ok-walks.ensures (e.cut cut)))

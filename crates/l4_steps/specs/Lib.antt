@@ -1,0 +1,4 @@
+pub mod Commands
+pub mod Possible
+pub mod Replies
+pub mod Sessions

@@ -13,5 +13,5 @@ loop-place-preserved c =
     let cores = map (λ (x : Bor Core). x.now) c.args.cores.now in
     c.in_ok-push.ensures.items
     ∙ ap₂ (λ ss s. ss ++ s ∷ []) c.loop-place.invariant
-    (send_there m cores place c.home-core.result.now c.begun.result c.destination.result c.home-core.ensures.core c.begun.ensures c.destination.ensures)
+    (send_there m cores place c.home-core.result.now c.last_send.result c.home-core.ensures.core c.last_send.ensures)
     ∙ sym (map-range_with_len_more (λ (i : ℕ). last_send (home_thread m (locals_of cores) i)) 0 place place (omega arith))

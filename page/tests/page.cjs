@@ -299,9 +299,7 @@ async function letsOneRest(browser, hand) {
     await hand.click(".ending:nth-of-type(2)");
     const verdict = await hand.text("verdict");
     check("and where it is opened", /nobody is stuck.*1\.1 waits for a message from 9\.1, and may rest there/s.test(verdict) && (await hand.count(".card.stuck")) === 0, verdict);
-    await hand.click("#link");
-    await browser.until("document.getElementById('status').textContent.startsWith('link copied')");
-    await hand.go(await hand.run("return location.hash"));
+    await goesByItsLink(browser, hand);
     check("a link has who may rest", /1\.1 waits .* and may rest there/.test(await hand.text("verdict")), await hand.text("verdict"));
     await hand.fill("rests", "", "change");
     await hand.idle();
@@ -439,9 +437,7 @@ async function stepsByAny(browser, hand) {
     check("the reply is lost by hand", /1 thread waits for ever/.test(await hand.text("verdict")), await hand.text("verdict"));
     check("nothing is next there", /Nothing/.test(await hand.text("next")), await hand.text("next"));
     await hand.click("#back");
-    await hand.click("#link");
-    await browser.until("document.getElementById('status').textContent.startsWith('link copied')");
-    await hand.go(await hand.run("return location.hash"));
+    await goesByItsLink(browser, hand);
     check("a link has the trace and the place", (await hand.text("where")).startsWith("step 12 of 13: local 9.1"), await hand.text("where"));
     await hand.run("document.querySelector('.others').open = true; document.querySelector('.others input').value = 'local 1.1'; document.querySelector('.others form').requestSubmit();");
     await hand.idle();
@@ -649,9 +645,7 @@ async function showsBetweenSteps(browser, hand) {
     await hand.click("#judge");
     check("no command judges it, and that is told", /in the middle of an item is judged by none/.test(await hand.text("judged")), await hand.text("judged"));
     await hand.click("#tab-steps");
-    await hand.click("#link");
-    await browser.until("document.getElementById('status').textContent.startsWith('link copied')");
-    await hand.go(await hand.run("return location.hash"));
+    await goesByItsLink(browser, hand);
     check("a link leads there too", (await hand.text("where")).startsWith("in item 7 of 14"), await hand.text("where"));
     await hand.run("document.getElementById('chart').focus();");
     await browser.key("ArrowDown");
@@ -828,9 +822,7 @@ async function shares(browser, hand) {
     check("the address has what was typed", (await hand.run("return editor.text")) === "l4 1 64\ncpus 1\nthread 1.1 cpu 0 space 1\nend\n");
     await hand.go("#example=locks.l4&schedule=c0,c0,c1");
     await hand.click("#back");
-    await hand.click("#link");
-    await browser.until("document.getElementById('status').textContent.startsWith('link copied')");
-    await hand.go(await hand.run("return location.hash"));
+    await goesByItsLink(browser, hand);
     check("a link has the list and the place", (await hand.text("where")).startsWith("item 2 of 3"), await hand.text("where"));
     check("and the text", /Two locks/.test(await hand.run("return editor.text")));
     await hand.go("#text=l4%201%2064%0Acpus%201%0Athread%201.1%20cpu%200%20space%201%0Aend%0A&do=run");
@@ -958,6 +950,13 @@ async function pale({ run }) {
             if (ratio < 4.5) found.set(at.className?.baseVal ?? at.className, node.data.trim().slice(0, 20) + " " + ratio.toFixed(1));
         }
         return [...found];`);
+}
+
+// Copies the link to what is shown, and opens the page by it.
+async function goesByItsLink(browser, hand) {
+    await hand.click("#link");
+    await browser.until("document.getElementById('status').textContent.startsWith('link copied')");
+    await hand.go(await hand.run("return location.hash"));
 }
 
 // Whether each word of what is shown stands out, dark and light.

@@ -24,6 +24,8 @@ MOST_WORLDS = 2_000
 # So many worlds may the search of every step find.
 MOST_PLAIN = 400
 LINES = ("waiting ..", "waiting 1.1#* *", "thread 1.1 ended ..", "thread * receiving ..", "thread 2.1 sending 0 * * *", "thread 1.1 * ..", "ending quiet")
+# No report has one of these.
+FAULTY = ("thread 1.1 reciving ..", "ending over", "waiting 1.1#* 2.1 2.1", "thread 1.1 .. ended")
 EXPECTED = "never thread * sending ..\nthread 1.1 ended ..\nending quiet\n"
 NUMBERS = ("1", "1", "2", "3", "9")
 # Of so many machines one is searched by memory alone, and each that has an ending among so many worlds. Then it is crowded by so many threads, with numbers from this one on.
@@ -41,7 +43,7 @@ def question(dice, expected, threads):
     """What is asked of the endings of a machine with these threads: a trace now and then."""
     words = ["--stuck"] if dice.random() < 0.3 else []
     words += [f"--rests={endings.some_of(dice, threads)}"] if words and dice.random() < 0.5 else []
-    words += [f"{name}={dice.choice(LINES)}" for name in ("--with", "--never") if dice.random() < 0.3]
+    words += [f"{name}={dice.choice(LINES if dice.random() < 0.9 else FAULTY)}" for name in ("--with", "--never") if dice.random() < 0.3]
     if dice.random() < 0.4:
         return limited(*words, f"--trace={dice.choice(NUMBERS)}")
     words += dice.choice([[], ["--none"], ["--some"]])

@@ -172,7 +172,16 @@ def whole_answer(text, asked):
     return lines, status
 
 
+def faulty_line(asked):
+    """The fault of the first line that is asked for which no report of an ending can have, or None."""
+    lines = [line for line in (asked.with_line, asked.never) if line is not None]
+    kinds = [(number, expectations.kind_of(line.split(" "), of_endings=True)) for number, line in enumerate(lines, 1)]
+    return next((f"l4run: condition line {number}: {kind}\n" for number, kind in kinds if kind), None)
+
+
 def answer_of(found, asked, expected):
+    if fault := faulty_line(asked):
+        return "", fault, FAULT
     endings, stuck = [ending for ending in found.endings if is_asked(asked, ending)], found.stuck_by(asked)
     if asked.trace is not None:
         return trace_answer([ending.history for ending in endings] + [place.history() for _, place in stuck.threads], asked.trace)

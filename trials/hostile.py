@@ -17,7 +17,7 @@ TURNS = "300"
 # How far it is is told after so many of each.
 PROGRESS = 5_000
 KINDS = "BadLine|BadNumber|BadId|BadName|BadCpu|TypedItems|DoubleId|TooManyThreads|TooManyInstructions|BadTarget|TooLong"
-FAULTS = re.compile(rf"l4run: (line \d+: (?:{KINDS})|schedule item \d+|(?:turns|depth|states|memory|ending) out of range|expectation line \d+: (?:BadLine|Unknown|BadWord|Deleted|Number)|trace line \d+|threads item \d+|refused at step \d+)\n")
+FAULTS = re.compile(rf"l4run: (line \d+: (?:{KINDS})|schedule item \d+|(?:turns|depth|states|memory|ending) out of range|(?:expectation|condition) line \d+: (?:BadLine|Unknown|BadWord|Deleted|Number)|trace line \d+|threads item \d+|refused at step \d+)\n")
 # A line for each fault of a text, or for each doubt, and one for each thread that waits, each circle, each held send and each thread's counts.
 LINT = re.compile(rf"line (\d+) column \d+: ({KINDS})(?:: `[ -~]*`)?: [ -~]+".encode())
 DOUBT = re.compile(rb"line \d+ column \d+: (?:always|perhaps): `[ -~]*`: [ -~]+")

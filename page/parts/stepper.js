@@ -187,7 +187,7 @@ function showFault(made) {
 function sayFault(id, made, text) {
     const mark = faultMarkOf(made);
     const because = [...(made.out.match(/^because .*/m) ?? [])];
-    if (/condition line/.test(made.faults)) because.push("A line is one of a report that says `thread` or `waiting`, as the choice above writes it.");
+    if (/condition line/.test(made.faults)) because.push(...linesOf(made.faults).slice(1), "A line is one of a report, as the choice above writes it.");
     sayIn(id, { tone: "bad", head: mark ? `Line ${mark.line}: ${markText(mark)}` : faultOf(made) || "a fault", lines: because.map(withCode) });
     $(id).firstChild.replaceChildren(...withCode($(id).firstChild.textContent));
     if (!mark) return;

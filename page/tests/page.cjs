@@ -416,7 +416,13 @@ async function asksForMoments(browser, hand) {
     check("asked again of another text", /Never: there is no moment/.test(await hand.text("found")) && (await hand.count("#found.old")) === 0, await hand.text("found"));
     await hand.fill("together", "ending quiet");
     await asks();
-    check("what can't be asked for is a fault", /condition line 1/.test(await hand.text("found")), await hand.text("found"));
+    check("what can't be asked for is a fault", /condition line 1: BadWord.*no line that may be asked for/s.test(await hand.text("found")), await hand.text("found"));
+    await hand.fill("with", "thread 1.1 reciving ..");
+    await hand.run("delete document.body.dataset.searched; document.getElementById('only').requestSubmit();");
+    await browser.until("document.body.dataset.searched !== undefined");
+    await hand.idle();
+    check("so is a line of an ending", /condition line 1: BadWord.*no line that may be asked for/s.test(await hand.text("found")), await hand.text("found"));
+    await hand.fill("with", "");
 }
 
 // Any step that may happen, whatever scheduler takes it: the reply is lost by hand. A link has the trace, and a file has one.

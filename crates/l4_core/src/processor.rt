@@ -187,12 +187,24 @@ impl<'m> Core<'m> {
     pub fn busy(&self) -> bool
         ensures { result ≡ is_busy self.now.machine self.now.cpu self.now.local }
     {
-        let mut duties = self.duties.copy();
-        let mut zeros = self.zeros.copy();
-        if first_duty(&self.known, &mut duties, &mut zeros).is_some() {
+        if self.next_duty().is_some() {
             return true;
         }
         self.known.has_due() || self.known.first_ready().is_some()
+    }
+
+    // The first place with a duty. Mostly no place may have one, and then no set is copied.
+    fn next_duty(&self) -> Option<(usize, Duty)>
+        ensures { IsFound result self.now }
+    {
+        match self.duties.first() {
+            None => None,
+            Some(_) => {
+                let mut duties = self.duties.copy();
+                let mut zeros = self.zeros.copy();
+                first_duty(&self.known, &mut duties, &mut zeros)
+            }
+        }
     }
 
     /// The report of the thread at this place, as far as it is known here: of a thread of this

@@ -2,7 +2,7 @@
 use Rattle.std.proofs.Common.{◌≡◌, ℕ, zero, suc, ◌+◌, ◌*◌, ◌/◌, ◌%◌, ◌<◌, ◌≤◌, ◌⊎◌, inl, inr, Bool, true, false, cond, ◌&&◌, ◌==◌, not, Option, None, Some, List, [], ◌∷◌, ◌++◌, length, get_or, take, refl, ap, sym, subst, ◌∙◌, arith, Result, Ok, Err, OnOk, Global}
 use Rattle.std.specs.Prelude.{IfOk, IsSome, Vec, is_some, nat_eq, slice_get, slice_set}
 use Rattle.std.specs.Option.{option_map}
-use Rattle.std.proofs.lemmas.Bool.{cases_lt, lt-ltb, le-ltb, ne_eqb}
+use Rattle.std.proofs.lemmas.Bool.{and_parts, cases_lt, lt-ltb, le-ltb, ne_eqb, not-true}
 use Rattle.std.proofs.lemmas.List.{append-nil, length-set, take_more}
 use Rattle.l4_endings.proofs.Walking.{is_choice}
 use Rattle.std.proofs.lemmas.Option.{slice_get_within}
@@ -13,8 +13,9 @@ use Rattle.l4_core_model.specs.Letters.{Letter}
 use Rattle.l4_core_model.specs.Local.{Local}
 use Rattle.std.specs.List.{AllByRecursion}
 use Rattle.l4_core_model.specs.Mail.{handle}
-use Rattle.l4_core_model.specs.Schedules.{CoreOf, LetterOf, TickOf}
-use Rattle.l4_core_model.specs.Runs.{Happened, IsMachine, Run, System, done, is_empty, letters, local_at_rest, opening_system, taken}
+use Rattle.l4_core_model.specs.Turns.{is_busy, turn}
+use Rattle.l4_core_model.specs.Schedules.{least_deadline, CoreOf, LetterOf, TickOf}
+use Rattle.l4_core_model.specs.Runs.{Happened, IsMachine, Run, System, Ticks, done, happens, is_empty, letters, local_at_rest, opening_system, taken}
 use Rattle.l4_bisimilar.specs.Alike.{contents}
 use Rattle.l4_core.specs.Processor.{Processor}
 use Rattle.l4_explore.specs.Tries.{deepest}
@@ -23,11 +24,11 @@ use Rattle.l4_states.specs.Inner.Codes.{chained, content_code, local_code, numbe
 use Rattle.l4_states.specs.Choices.{after_choices, after_entry, choice, state_after, state_in, IsEarly, IsNear, IsReached, LeadsEarly}
 use Rattle.l4_states.specs.Inner.Remembered.{cpu_of, known_of, local_at, pair_place, part_code, poster_at, poster_of, receiver_at, rests_at}
 use Rattle.l4_states.proofs.Following.{after-append, has_reached}
-use Rattle.l4_states.proofs.Places.{likely, near_same, pair_below, pair_rests, rests_same}
+use Rattle.l4_states.proofs.Places.{likely, local_rest_is, near_same, pair_below, pair_rests, rests_same}
 use Rattle.l4_states.proofs.Reached.{reached_within}
 use Rattle.l4_states.proofs.Remembered.{own_code, pair_code, pair_is}
 use Rattle.l4_codes.specs.Inner.Written.{unwritten, with_numbers, Written, Writes}
-use Rattle.l4_rounds.proofs.Possible.{number_below}
+use Rattle.l4_rounds.proofs.Possible.{number_below, tick_impossible, turn_possible}
 use Rattle.l4_sets.specs.Inner.Contacts.{AreContacts}
 use Rattle.l4_sets.specs.declared.contacts.Contacts.{Contacts}
 use Rattle.l4_sets.proofs.Alike.{contacts_like}
@@ -41,7 +42,7 @@ use Rattle.l4_parts.specs.Inner.Known.{number_at, written, AreEvents, AreKnown, 
 use Rattle.l4_parts.specs.Inner.Events.{Matches}
 use Rattle.l4_parts.specs.Inner.Rows.{letters_code, AreNumbers, IsRowIn}
 use Rattle.l4_parts.proofs.Knowing.{at_same, event_is, events_longer, events_more, found_none, found_out, has_longer, led_of, own_place, stands}
-use Rattle.l4_endings.specs.Inner.Learned.{DoesAs, IsEventAt, IsEventFrom, IsFound, IsGone, Reads, TakesNone}
+use Rattle.l4_endings.specs.Inner.Learned.{DoesAs, IsEventAt, IsEventFrom, IsFound, IsGone, IsIdle, Reads}
 use Rattle.l4_endings.specs.Inner.Walked.{AreChoices, IsWalked}
 
 -- A part that was met
@@ -189,6 +190,47 @@ module _ (m : Machine) (r : Run) (w : UnderWay) (is : IsRun m r w) where
       all_ok _ _ (λ n h. has_at m r.system new place n b
       (letters_write place from to ls a b past of_from of_to are none writes) h) o has
 
+-- A processor that has nothing to do and nothing armed
+
+no_system : (o : Option System) → is_some o ≡ false → o ≡ None
+no_system None is = refl
+no_system (Some g) is = cc
+
+none_first : (es : List (ℕ × ℕ)) → is_empty es ≡ true → option_map (λ e. e.0) (slice_get es 0) ≡ None
+none_first [] empty = refl
+none_first (e ∷ es) empty = cc
+
+module _ (m : Machine) (g : System) (cpu : ℕ) (rests : local_at_rest m g cpu ≡ true) where
+  resting : (l : Local) → slice_get g.locals cpu ≡ Some l →
+      (not (is_busy m cpu l) ≡ true) × (is_empty l.lists.armed ≡ true)
+  resting l there =
+      and_parts (not (is_busy m cpu l)) (is_empty l.lists.armed)
+      (sym (local_rest_is m g cpu l there) ∙ rests)
+
+  no_turn : after_entry m g (CoreOf cpu) ≡ None
+  no_turn = by (slice_get g.locals cpu) refl
+    where
+      by : (o : Option Local) → slice_get g.locals cpu ≡ o → after_entry m g (CoreOf cpu) ≡ None
+      by None none =
+          ap (λ (o : Option Local). option_map (λ (h : Happened). h.system) (o >>=
+          λ l. option_map (done cpu g) (turn m cpu l))) none
+      by (Some l) there =
+          no_system (after_entry m g (CoreOf cpu))
+          (turn_possible m g cpu l there ∙ not-true (is_busy m cpu l) (resting l there).0)
+
+  no_tick : after_entry m g (TickOf cpu) ≡ None
+  no_tick = by (slice_get g.locals cpu) refl
+    where
+      by : (o : Option Local) → slice_get g.locals cpu ≡ o → after_entry m g (TickOf cpu) ≡ None
+      by None none =
+          let here : least_deadline g cpu ≡ None
+          = ap (λ (o : Option Local). o >>= λ l. option_map (λ e. e.0) (slice_get l.lists.armed 0)) none in
+          ap (λ (o : Option ℕ). option_map (Ticks cpu) o >>=
+          λ e. option_map (λ h. h.system) (happens m g e)) here
+      by (Some l) there =
+          no_system (after_entry m g (TickOf cpu))
+          (tick_impossible m g cpu l there (none_first l.lists.armed (resting l there).1))
+
 -- The choice behind a walk
 
 after_walk : (m : Machine) (s : List ℕ) (w : UnderWay) (e : ℕ) (walked : IsWalked m s w) →
@@ -335,22 +377,40 @@ module _ (m : Machine) (machine : IsMachine m) (s : List ℕ) (parts : List Part
     };
   }
 
-  -- No letter is there to be taken.
-  pub none_taken : (cpus : ℕ) → cpus ≡ m.cpus → AreTrue m parts → TakesNone parts row cpus number →
+  -- Its parts say that it can't be made.
+  pub idle_none : (cpus : ℕ) → cpus ≡ m.cpus → AreTrue m parts → IsIdle parts row cpus number →
       state_after m (s ++ number ∷ []) ≡ None
-  none_taken cpus same true_ none =
+  idle_none cpus same true_ idle =
       ap (option_map (state_in m)) (after-append m (opening_system m) s number
       ∙ ap (λ (o : Option System). o >>= λ h. after_entry m h (choice m number)) r.leads
-      ∙ by (subst (λ n. TakesNone parts row n number) same none))
+      ∙ by (subst (λ n. IsIdle parts row n number) same idle))
     where
+      own : cpu_of m number < m.cpus
+      own = own_place m number below
+
       empty_none : (ls : List Letter) → is_empty ls ≡ true → slice_get ls 0 ≡ None
       empty_none [] e = refl
       empty_none (l ∷ ls) e = cc
 
-      by : TakesNone parts row m.cpus number → after_entry m r.system (choice m number) ≡ None
-      by t =
-          let own = own_place m number below in
-          let poster = poster_of m number in
+      no_letter : (o : Option Local) → slice_get (letters r.system.mail (poster_of m number) (cpu_of m number)) 0 ≡ None →
+          option_map (λ (h : Happened). h.system) (o >>= λ l.
+          slice_get (letters r.system.mail (poster_of m number) (cpu_of m number)) 0 >>= λ letter.
+          option_map (done (cpu_of m number)
+          (taken (poster_of m number) (cpu_of m number) r.system))
+          (handle m (cpu_of m number) l letter)) ≡ None
+      no_letter None none = refl
+      no_letter (Some l) none = ap (λ (p : Option Letter). option_map (λ (h : Happened). h.system) (p >>= λ letter.
+          option_map (done (cpu_of m number)
+          (taken (poster_of m number) (cpu_of m number) r.system))
+          (handle m (cpu_of m number) l letter))) none
+
+      by_itself : (b : Bool) → local_at_rest m r.system (cpu_of m number) ≡ true →
+          after_entry m r.system (cond b (CoreOf (cpu_of m number)) (TickOf (cpu_of m number))) ≡ None
+      by_itself true rests = no_turn m r.system (cpu_of m number) rests
+      by_itself false rests = no_tick m r.system (cpu_of m number) rests
+
+      by : IsIdle parts row m.cpus number → after_entry m r.system (choice m number) ≡ None
+      by (inl t) =
           let place = pair_place m.cpus (poster_of m number) (cpu_of m number) in
           let has = r.row_is.at place (pair_below m (poster_of m number) (cpu_of m number) t.takes own) in
           let known = true_ (number_at row place) has.inside in
@@ -366,18 +426,35 @@ module _ (m : Machine) (machine : IsMachine m) (s : List ℕ) (parts : List Part
           (cond (nat_eq (poster_of m number) m.cpus) (CoreOf (cpu_of m number))
           (TickOf (cpu_of m number))))) (lt-ltb (poster_of m number) m.cpus t.takes)
           ∙ no_letter (slice_get r.system.locals (cpu_of m number)) (empty_none _ empty)
-        where
-          no_letter : (o : Option Local) → slice_get (letters r.system.mail (poster_of m number) (cpu_of m number)) 0 ≡ None →
-              option_map (λ (h : Happened). h.system) (o >>= λ l.
-              slice_get (letters r.system.mail (poster_of m number) (cpu_of m number)) 0 >>= λ letter.
-              option_map (done (cpu_of m number)
-              (taken (poster_of m number) (cpu_of m number) r.system))
-              (handle m (cpu_of m number) l letter)) ≡ None
-          no_letter None none = refl
-          no_letter (Some l) none = ap (λ (p : Option Letter). option_map (λ (h : Happened). h.system) (p >>= λ letter.
-              option_map (done (cpu_of m number)
-              (taken (poster_of m number) (cpu_of m number) r.system))
-              (handle m (cpu_of m number) l letter))) none
+      by (inr t) =
+          let has = r.row_is.at (cpu_of m number) (omega (arith, own)) in
+          let known = true_ (number_at row (cpu_of m number)) has.inside in
+          let rests : local_at_rest m r.system (cpu_of m number) ≡ true
+          = sym (ap (λ (b : Bool). cond b (local_at_rest m r.system (cpu_of m number))
+          (is_empty (letters r.system.mail (poster_at m (cpu_of m number)) (receiver_at m (cpu_of m number)))))
+          (lt-ltb (cpu_of m number) m.cpus own))
+          ∙ ap (rests_at m r.system) (sym has.at.place_is)
+          ∙ known.rests r.system (has_reached m s r.system r.leads)
+          (subst (λ n. IsAt m r.system n (part_at parts (number_at row (cpu_of m number))))
+          (sym has.at.place_is) has.at)
+          ∙ t.rests in
+          ap (λ (b : Bool). after_entry m r.system (cond b (LetterOf (cpu_of m number) (poster_of m number))
+          (cond (nat_eq (poster_of m number) m.cpus) (CoreOf (cpu_of m number))
+          (TickOf (cpu_of m number))))) (le-ltb (poster_of m number) m.cpus t.takes_none)
+          ∙ by_itself (nat_eq (poster_of m number) m.cpus) rests
+
+-- That it can't be made is remembered.
+pub ruled_out : (m : Machine) (machine : IsMachine m) (s : List ℕ) (parts : List Part) (row : List ℕ)
+    (r : IsRowBehind m s parts row) (number : ℕ) → number < m.cpus * (m.cpus + 2) → (w : UnderWay)
+    (walked : IsWalked m s w) → length s < deepest → (read : ℕ × ℕ) (e : Event) →
+    Reads row m.cpus number read → is_some (after_entry m walked.run.system (choice m number)) ≡ false →
+    IsEventFrom number read row None e → (old new : List Event) →
+    (new ≡ old) ⊎ (new ≡ old ++ e ∷ []) → AreKnown m parts old → AreKnown m parts new
+ruled_out m machine s parts row r number below w walked short read e reads impossible from old new kept known =
+    known_more m parts old new e known
+    (event_true m machine s parts row r number below read None e known.parts_are short reads
+    (none_after m s w number walked impossible) from)
+    kept
 
 -- Above the last choice there is none.
 pub none_past : (m : Machine) (s : List ℕ) (parts : List Part) (row : List ℕ) (e : ℕ) → IsMachine m →

@@ -1,19 +1,24 @@
 //! What choices do, found out once for the parts that they read.
-ghost use Rattle.std.specs.Prelude.{◌≡◌, ◌<◌, ◌+◌, ◌*◌, ◌/◌, ◌%◌, ◌++◌, ◌∷◌, [], true, IfOk, OnOk};
+ghost use Rattle.std.specs.Prelude.{◌≡◌, ◌<◌, ◌+◌, ◌*◌, ◌/◌, ◌%◌, ◌==◌, ◌++◌, ◌∷◌, [], true, IfOk};
+ghost use Rattle.std.specs.Prelude.{OnOk};
 ghost use Rattle.std.specs.Prelude.{Some, length, slice_get};
-ghost use Rattle.l4_core_model.specs.Runs.{opening_system};
+ghost use Rattle.l4_model.specs.Machine.{Machine};
+ghost use Rattle.l4_core_model.specs.Runs.{opening_system, IsMachine};
 ghost use Rattle.l4_explore.specs.Tries.{deepest};
 ghost use Rattle.l4_states.specs.Inner.Remembered.{pair_place};
 ghost use Rattle.l4_endings.specs.Inner.Learned.{IsEventAt, IsEventFrom, IsGone, IsFound, Reads};
-ghost use Rattle.l4_endings.specs.Inner.Walked.{AreChoices};
+ghost use Rattle.l4_endings.specs.Inner.Walked.{AreChoices, IsWalked};
+ghost use Rattle.l4_machine.specs.UnderWay.{HasRun};
+ghost use Rattle.l4_parts.specs.declared.parts.Part.{Part};
 ghost use Rattle.l4_parts.specs.declared.events.Event.{Event as EventOfParts};
 ghost use Rattle.std.specs.Prelude.{ℕ, List};
 ghost use Rattle.std.specs.Option.{option_map};
-ghost use Rattle.l4_parts.specs.Inner.Known.{number_at, AreKnown, AreTrue, Fit, IsRow, IsRowBehind};
+ghost use Rattle.l4_parts.specs.Inner.Known.{number_at, AreKnown, Fit, IsRow, IsRowBehind};
 ghost use Rattle.l4_parts.specs.Inner.Numbers.{AreLonger};
 
 use crate::states::row_of;
 use crate::walks::{make, walk_to};
+use l4_machine::Walk;
 use l4_parts::events::{Event, Events, apply, writes_of};
 use l4_parts::parts::Parts;
 use l4_parts::rows::pair_place;
@@ -41,25 +46,74 @@ fn parts_read(row: &[u32], cpus: u8, number: u32) -> (u32, u32)
     }
 }
 
-// The row of the state behind one more choice. None if it can't be made.
+// Whether a choice is the turn of a processor. The choice behind it is the tick of that processor.
+fn is_turn(cpus: u8, number: u32) -> bool
+    requires most { cpus < 17 }
+    requires number { number < cpus * (cpus + 2) }
+    ensures value { result ≡ (number % (cpus + 2) == cpus) }
+    ensures more { result ≡ true → number + 1 < cpus * (cpus + 2) }
+{
+    number % (u32::from(cpus) + 2) == u32::from(cpus)
+}
+
+// Behind a turn: remembers that the tick of its processor can't be made where a walk has come to,
+// in the state of this row. If it can be made, or that is known, nothing is remembered.
+fn rule_out_tick(
+    alloc: Global,
+    events: &mut Events,
+    walk: &Walk<'_>,
+    row: &[u32],
+    cpus: u8,
+    number: u32,
+) -> Result<(), NoMemory>
+    requires run { HasRun walk.now }
+    requires cpus { cpus ≡ walk.now.machine.cpus }
+    requires most { cpus < 17 }
+    requires long { length row.now ≡ cpus + cpus * cpus }
+    requires number { number < cpus * (cpus + 2) }
+    ensures { (m : Machine) (s : List ℕ) (parts : List Part) → IsMachine m →
+        IsWalked m s walk.now → IsRowBehind m s parts row.now → length s < deepest →
+        AreKnown m parts events.old.events.items → AreKnown m parts events.new.events.items }
+{
+    if !is_turn(cpus, number) {
+        return Ok(());
+    }
+    let tick = number + 1;
+    if is_possible(walk, cpus, tick) {
+        return Ok(());
+    }
+    let read = parts_read(row, cpus, tick);
+    if events.find(row, tick, read.0, read.1).is_some() {
+        return Ok(());
+    }
+    let event = event_from(alloc, tick, read, row, None)?;
+    events.add(event)?;
+    Ok(())
+}
+
+// The row of the state behind one more choice. None if it can't be made. Behind a turn the tick of
+// its processor is ruled out too, if that can't be made either, which saves a replay.
 fn row_after(
     alloc: Global,
     aims: &Aims<'_>,
     parts: &mut Parts,
+    events: &mut Events,
     schedule: &[u32],
+    row: &[u32],
     number: u32,
 ) -> Result<Option<Vec<u32>>, NoMemory>
-    requires leads { AreChoices aims.now schedule.now }
+    requires known { AreKnown aims.now parts.old.parts.items events.old.events.items }
+    requires row { IsRowBehind aims.now schedule.now parts.old.parts.items row.now }
     requires short { length schedule.now < deepest }
     requires number { number < aims.now.cpus * (aims.now.cpus + 2) }
     ensures longer { AreLonger parts.old.parts.items parts.new.parts.items }
-    ensures are { AreTrue aims.now parts.old.parts.items →
-        AreTrue aims.now parts.new.parts.items }
+    ensures known { AreKnown aims.now parts.new.parts.items events.new.events.items }
     ensures found { IfOk result
         (IsFound aims.now schedule.now number parts.new.parts.items) }
 {
     let cpus = aims.cpus();
     let mut walk = walk_to(alloc, aims, schedule)?;
+    rule_out_tick(alloc, events, &walk, row, cpus, number)?;
     if !is_possible(&walk, cpus, number) {
         return Ok(None);
     }
@@ -118,7 +172,7 @@ fn learn(
     ensures event { IfOk result (IsEventAt aims.now events.new.events.items row.now number) }
 {
     let read = parts_read(row, aims.cpus(), number);
-    let new = row_after(alloc, aims, parts, schedule, number)?;
+    let new = row_after(alloc, aims, parts, events, schedule, row, number)?;
     let event = event_from(alloc, number, read, row, new)?;
     Ok(events.add(event)?)
 }

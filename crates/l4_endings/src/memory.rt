@@ -4,7 +4,7 @@ ghost use Rattle.std.specs.Prelude.{◌/◌, length, map};
 ghost use Rattle.l4_explore.specs.Tries.{deepest, LeadOn};
 ghost use Rattle.l4_explore.specs.Inner.Views.{next_from, state_from};
 ghost use Rattle.l4_states.specs.Choices.{choice_count, state_after};
-ghost use Rattle.l4_endings.specs.Inner.Learned.{TakesNone};
+ghost use Rattle.l4_endings.specs.Inner.Learned.{IsIdle};
 ghost use Rattle.l4_endings.specs.Inner.Tried.{AreOffered, AreUpTo, is_of};
 ghost use Rattle.l4_parts.specs.Inner.Known.{AreKnown, IsRowBehind};
 ghost use Rattle.l4_parts.specs.Inner.Numbers.{AreLonger};
@@ -17,7 +17,7 @@ use crate::walks::walk_to;
 use l4_explore::tries::{Choice, Reached};
 use l4_parts::events::Events;
 use l4_parts::parts::{Part, Parts};
-use l4_parts::rows::{pair_place, state_of};
+use l4_parts::rows::{pair_place, part, state_of};
 use l4_rounds::choices::choice_count;
 use l4_script::machine::Machine;
 use l4_sets::{Aims, Processors};
@@ -219,7 +219,7 @@ fn list_choice(
     if !set.has(cpu_of(cpus, number)) {
         return Ok(());
     }
-    if takes_none(&parts.parts, row, cpus, number) {
+    if is_idle(&parts.parts, row, cpus, number) {
         return Ok(());
     }
     let event = event_of(alloc, aims, parts, events, schedule, row, number)?;
@@ -235,15 +235,20 @@ fn list_choice(
     Ok(())
 }
 
-// Whether a choice takes a letter, and there is none.
-fn takes_none(parts: &[Part], row: &[u32], cpus: u8, number: u32) -> bool
+// Whether a choice can't be made, as a part says: it takes a letter, and there is none, or it is
+// that of a processor that has nothing to do and nothing armed.
+fn is_idle(parts: &[Part], row: &[u32], cpus: u8, number: u32) -> bool
     requires most { cpus < 17 }
     requires number { number < cpus * (cpus + 2) }
     requires numbers { AreNumbers parts.now row.now cpus }
-    ensures { result ≡ true → TakesNone parts.now row.now cpus number }
+    ensures { result ≡ true → IsIdle parts.now row.now cpus number }
 {
     let width = u32::from(cpus) + 2;
     let cpu = (number / width) as u8;
     let poster = (number % width) as u8;
-    poster < cpus && parts[row[pair_place(cpus, poster, cpu)] as usize].rests
+    if poster < cpus {
+        part(parts, row, pair_place(cpus, poster, cpu)).rests
+    } else {
+        part(parts, row, cpu as usize).rests
+    }
 }

@@ -36,6 +36,16 @@ wrong_asked scope asked =
     if has_early_rest (words_in asked) then Some BadLine
     else wrong_by scope (may_be_line (words_in asked)) (line_fault asked)
 
+-- A line that stands alone has words, as one of a text of expectations.
+
+abbrev pub wrong_of_words : Judged (Option (List (List ℕ))) → (asked : List ℕ) → Option Wrong
+wrong_of_words (Ok (Some words)) asked = wrong_asked Endings asked
+wrong_of_words (Ok None) asked = Some BadLine
+wrong_of_words (Err kind) asked = Some BadLine
+
+abbrev pub wrong_of_ending : (asked : List ℕ) → Option Wrong
+wrong_of_ending asked = wrong_of_words (line_of asked) asked
+
 -- So it is of a line of a condition, which asks for one that a world on the way tells.
 
 abbrev pub wrong_in_world : (asked : List ℕ) → Option Wrong

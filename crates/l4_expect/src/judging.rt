@@ -2,7 +2,7 @@
 ghost use Rattle.std.specs.Prelude.{◌≡◌};
 ghost use Rattle.l4_words.specs.Words.{words_in};
 ghost use Rattle.l4_expect.specs.Judging.{has_early_rest, wrong_asked, wrong_by, wrong_in_world};
-ghost use Rattle.l4_expect.specs.Judging.{wrong_told};
+ghost use Rattle.l4_expect.specs.Judging.{wrong_of_ending, wrong_told};
 
 use crate::columns::{may_be_line, may_be_told};
 use l4_lines::lines::{LineFault, fault_of_line, is_rest};
@@ -43,6 +43,18 @@ pub(crate) fn wrong_asked(scope: Scope, asked: &[u8]) -> Option<Wrong>
         return Some(Wrong::BadLine);
     }
     wrong_by(scope, may_be_line(asked), fault_of_line(asked))
+}
+
+/// What is wrong with a line that stands alone, and is asked of the reports of endings. None where
+/// endings may be asked for it.
+pub fn wrong_of_ending(asked: &[u8]) -> Option<Wrong>
+    ensures { result ≡ wrong_of_ending asked.now }
+{
+    match words_of(asked) {
+        Ok(Some(_)) => wrong_asked(Scope::Endings, asked),
+        Ok(None) => Some(Wrong::BadLine),
+        Err(_) => Some(Wrong::BadLine),
+    }
 }
 
 /// What is wrong with a line of a condition. None where a world on the way may tell such a line.

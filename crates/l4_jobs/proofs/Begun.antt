@@ -6,9 +6,11 @@ use Rattle.std.specs.Option.{option_copied, option_map}
 use Rattle.std.specs.declared.io.ErrorKind.{ErrorKind}
 use Rattle.l4_model.specs.Machine.{Machine}
 use Rattle.l4_expect.specs.Expected.{Expected, expectations_of}
+use Rattle.l4_expect.specs.Judging.{wrong_of_ending}
+use Rattle.l4_expect.specs.declared.judging.Wrong.{Wrong}
 use Rattle.l4_script.specs.Versions.{machine_of_text}
 use Rattle.l4_questions.specs.Beside.{Shown}
-use Rattle.l4_questions.specs.Limits.{is_out_of_range, most_deep, most_memory, most_states, question_fault}
+use Rattle.l4_questions.specs.Limits.{first_fault as judged_first, is_out_of_range, line_fault_at, lines_fault, most_deep, most_memory, most_states, question_fault}
 use Rattle.l4_questions.specs.Told.{BreaksOff, IsToldFirst, Takes}
 use Rattle.l4_questions.specs.declared.question.Question.{Question}
 use Rattle.l4_questions.specs.declared.question.QuestionFault.{QuestionFault}
@@ -104,13 +106,33 @@ begun_as Placed takes out m q shown all onto begun = record {
 
 -- Refused memory is no fault of a question.
 never_memory : (q : Question) → question_fault q ≡ Some question.NoMemory → ⊥
-never_memory q is = by (is_out_of_range most_deep q.depth) (is_out_of_range most_states q.states) (is_out_of_range most_memory q.memory) is
+never_memory q is =
+    by (lines_fault (option_copied q.with_line) (option_copied q.never)) (of_lines (option_copied q.with_line) (option_copied q.never)) (is_out_of_range most_deep q.depth)
+    (is_out_of_range most_states q.states) (is_out_of_range most_memory q.memory) is
   where
-    by : (a b c : Bool) → (if a then Some question.Depth else if b then Some question.States else if c then Some question.Memory else None) ≡ Some question.NoMemory → ⊥
-    by true b c is = absurd (let bad = is in cc)
-    by false true c is = absurd (let bad = is in cc)
-    by false false true is = absurd (let bad = is in cc)
-    by false false false is = absurd (let bad = is in cc)
+    of_line : (number : ℕ) (wrong : Option Wrong) → option_map (question.Line number) wrong ≡ Some question.NoMemory → ⊥
+    of_line number None is = absurd (let bad = is in cc)
+    of_line number (Some wrong) is = absurd (let bad = is in cc)
+
+    line_at : (number : ℕ) (asked : Option (List ℕ)) → line_fault_at number asked ≡ Some question.NoMemory → ⊥
+    line_at number None is = absurd (let bad = is in cc)
+    line_at number (Some asked) is = of_line number (wrong_of_ending asked) is
+
+    first : (one other : Option QuestionFault) → (one ≡ Some question.NoMemory → ⊥) → (other ≡ Some question.NoMemory → ⊥) → judged_first one other ≡ Some question.NoMemory → ⊥
+    first None other not_one not_other is = not_other is
+    first (Some fault) other not_one not_other is = not_one is
+
+    of_lines : (with_line never : Option (List ℕ)) → lines_fault with_line never ≡ Some question.NoMemory → ⊥
+    of_lines None never is = line_at 1 never is
+    of_lines (Some asked) never is = first (line_fault_at 1 (Some asked)) (line_fault_at 2 never) (line_at 1 (Some asked)) (line_at 2 never) is
+
+    by : (lines : Option QuestionFault) → (lines ≡ Some question.NoMemory → ⊥) → (a b c : Bool) →
+        judged_first lines (if a then Some question.Depth else if b then Some question.States else if c then Some question.Memory else None) ≡ Some question.NoMemory → ⊥
+    by (Some fault) none a b c is = none is
+    by None none true b c is = absurd (let bad = is in cc)
+    by None none false true c is = absurd (let bad = is in cc)
+    by None none false false true is = absurd (let bad = is in cc)
+    by None none false false false is = absurd (let bad = is in cc)
 
 limits_fault : (search : EndingsJob) (m : Machine) (f : QuestionFault) → fault_of_rests m search ≡ None → question_fault (question_of search) ≡ Some f →
     fault_of_endings m search ≡ Some (fault_of_question f)
@@ -128,6 +150,8 @@ broken_off search text m takes out keeps_out shown f rests is onto kept broken =
     by NotTold has = (rests, begun false has)
     by (NoAnswer question.NoMemory) (inl (none, has)) = (rests, begun true has)
     by (NoAnswer question.NoMemory) (inr (faulty, none)) = elim (never_memory (question_of search) faulty) [ ]
+    by (NoAnswer (question.Line line wrong)) (inl (none, has)) = absurd (let bad = none in cc)
+    by (NoAnswer (question.Line line wrong)) (inr (faulty, none)) = (inr (limits_fault search m (question.Line line wrong) rests faulty), kept none)
     by (NoAnswer question.Depth) (inl (none, has)) = absurd (let bad = none in cc)
     by (NoAnswer question.Depth) (inr (faulty, none)) = (inr (limits_fault search m question.Depth rests faulty), kept none)
     by (NoAnswer question.States) (inl (none, has)) = absurd (let bad = none in cc)

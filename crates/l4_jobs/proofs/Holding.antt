@@ -11,7 +11,7 @@ use Rattle.l4_steps.specs.Replies.{Reply, reply_to}
 use Rattle.l4_steps.specs.Sessions.{IsSession, lines_of, told_of, told_then, with_byte}
 use Rattle.l4_jobs.specs.Inner.Holding.{GivesLine, HasLines, IsBehind}
 use Rattle.l4_jobs.specs.Performing.{Takes}
-use Rattle.l4_jobs.specs.Steps.{AreLines, IsHeld, IsHeldUpTo}
+use Rattle.l4_jobs.specs.Steps.{AreLines, EndsSession, IsHeld, IsHeldUpTo, IsInputUnread}
 use Rattle.l4_jobs.specs.declared.fault.Fault.{Fault}
 use Rattle.l4_jobs.specs.declared.fault.Fault.TheVariants as fault
 
@@ -104,10 +104,6 @@ went_on m l form known left new before out es line b gives s more onto =
       wrote = onto b.told b.wrote;
     }
 
-pub any_err : {A : Type 0} (r : Result A Fault) (P : Fault → Type 0) → ((f : Fault) → P f) → IfErr r P
-any_err (Ok _) P h = tt
-any_err (Err f) P h = h f
-
 -- To an end
 
 pub ended : (m : Machine) (l : Listing) (form : TextForm) (known left : Option (List ℕ)) (out : Takes) (es : List Entry) → IsBehind m l form known left out es → IsAtEnd left →
@@ -127,10 +123,14 @@ quits m l form known left new before out es line b gives last onto =
     ((b.read ++ line ∷ []) ++ all.0, all.1, subst (λ text. out text true) (sym same) (onto b.told b.wrote))
 
 pub broke : (m : Machine) (l : Listing) (form : TextForm) (known left : Option (List ℕ)) (out : Takes) (es : List Entry) (f : Fault) → IsBehind m l form known left out es →
-    IsHeldUpTo (λ lines. told_of m l form lines []) known out f
-broke m l form known left out es f b =
+    EndsSession known f → IsHeldUpTo (λ lines. told_of m l form lines []) known out f
+broke m l form known left out es f b ends =
     let all = all_lines known left b.read b.has in
-    (b.read ++ all.0, all.1, (b.told, told_of m l form all.0 es, b.goes_on all.0, inl b.wrote))
+    (b.read ++ all.0, all.1, (b.told, told_of m l form all.0 es, b.goes_on all.0, inl (ends, b.wrote)))
+
+-- A reader does not tell whether a read fails, so what is left of its bytes says nothing of it.
+pub unread : (known left : Option (List ℕ)) (f : Fault) → IsInputUnread left f → EndsSession known f
+unread known left f (kind, gives, is) = inr (kind, tt, is)
 
 pub broke_off : (m : Machine) (l : Listing) (form : TextForm) (known left new : Option (List ℕ)) (before out : Takes) (es : List Entry) (line : List ℕ) (f : Fault) → IsBehind m l form known left before es →
     GivesLine left new line → f ≡ fault.Write →
@@ -146,8 +146,8 @@ broke_off m l form known left new before out es line f b gives is onto =
 pub broke_reply : (m : Machine) (l : Listing) (form : TextForm) (known left new : Option (List ℕ)) (Now : Type 0) (before now out : Takes) (es : List Entry) (line : List ℕ) (f : Fault) → IsBehind m l form known left before es →
     GivesLine left new line → ((told : List ℕ) → before told true → Now → out told true) →
     ((told : List ℕ) → before told true → now (reply_to m l form es line).text false → out (told ++ (reply_to m l form es line).text) false) →
-    Now ⊎ ((f ≡ fault.Write) × now (reply_to m l form es line).text false) → IsHeldUpTo (λ lines. told_of m l form lines []) known out f
-broke_reply m l form known left new Now before now out es line f b gives same onto (inl none) =
+    ((f ≡ fault.NoMemory) × Now) ⊎ ((f ≡ fault.Write) × now (reply_to m l form es line).text false) → IsHeldUpTo (λ lines. told_of m l form lines []) known out f
+broke_reply m l form known left new Now before now out es line f b gives same onto (inl (is, none)) =
     broke m l form known left out es f (record {
       session = b.session;
       read = b.read;
@@ -155,7 +155,7 @@ broke_reply m l form known left new Now before now out es line f b gives same on
       has = b.has;
       goes_on = b.goes_on;
       wrote = same b.told b.wrote none;
-    })
+    }) (inl is)
 broke_reply m l form known left new Now before now out es line f b gives same onto (inr (is, wrote)) =
     broke_off m l form known left new before out es line f b gives is (λ told h. onto told h wrote)
 
@@ -171,14 +171,14 @@ held_behind front tells known before out onto (lines, are, wrote) = (lines, are,
 pub broke_behind : (front : List ℕ) (tells : List (List ℕ) → List ℕ) (known : Option (List ℕ)) (before out : Takes) (f : Fault) →
     ((text : List ℕ) (all : Bool) → before text all → out (front ++ text) all) → IsHeldUpTo tells known before f →
     IsHeldUpTo (λ lines. front ++ tells lines) known out f
-broke_behind front tells known before out f onto (lines, are, (told, left, same, inl wrote)) =
-    (lines, are, (front ++ told, left, ap (λ text. front ++ text) same ∙ sym (append_assoc front told left), inl (onto told true wrote)))
+broke_behind front tells known before out f onto (lines, are, (told, left, same, inl (ends, wrote))) =
+    (lines, are, (front ++ told, left, ap (λ text. front ++ text) same ∙ sym (append_assoc front told left), inl (ends, onto told true wrote)))
 broke_behind front tells known before out f onto (lines, are, (told, left, same, inr (is, wrote))) =
     (lines, are, (front ++ told, left, ap (λ text. front ++ text) same ∙ sym (append_assoc front told left), inr (is, onto told false wrote)))
 
-pub nothing_told : (tells : List (List ℕ) → List ℕ) (known : Option (List ℕ)) (out : Takes) (f : Fault) → out [] true → IsHeldUpTo tells known out f
-nothing_told tells known out f none =
-    let all = all_lines known known [] (no_lines known) in (all.0, all.1, ([], tells all.0, refl, inl none))
+pub nothing_told : (tells : List (List ℕ) → List ℕ) (known : Option (List ℕ)) (out : Takes) (f : Fault) → out [] true → f ≡ fault.NoMemory → IsHeldUpTo tells known out f
+nothing_told tells known out f none is =
+    let all = all_lines known known [] (no_lines known) in (all.0, all.1, ([], tells all.0, refl, inl (inl is, none)))
 
 pub front_cut : (front : List ℕ) (tells : List (List ℕ) → List ℕ) (known : Option (List ℕ)) (out : Takes) (f : Fault) → f ≡ fault.Write → out front false →
     IsHeldUpTo (λ lines. front ++ tells lines) known out f

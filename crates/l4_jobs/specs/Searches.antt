@@ -132,10 +132,12 @@ abbrev pub IsSearchDone : EndingsJob → (text : List ℕ) → Machine → Optio
     Output → Type 0
 IsSearchDone search text m expected o = IsSearchDoneBy search.always search text m expected o
 
--- The faults of a search: of its condition or of the threads that may rest, and then of its limits.
+-- The faults of a search: of its condition or of the threads that may rest, and then of the lines that
+-- are asked for and of its limits.
 
 abbrev pub fault_of_question : QuestionFault → Fault
 fault_of_question question.NoMemory = fault.NoMemory
+fault_of_question (question.Line line wrong) = fault.Condition line wrong
 fault_of_question question.Depth = fault.Depth
 fault_of_question question.States = fault.States
 fault_of_question question.Memory = fault.Memory

@@ -7,6 +7,7 @@ use Rattle.l4_steps.specs.Sessions.{lines_of, session_text}
 use Rattle.l4_jobs.specs.Inputs.{FailsWith, Gives}
 use Rattle.l4_jobs.specs.Outputs.{Output}
 use Rattle.l4_jobs.specs.Searches.{text_form}
+use Rattle.l4_jobs.specs.Streams.{MayGive}
 use Rattle.l4_jobs.specs.declared.fault.Fault.{Fault}
 use Rattle.l4_jobs.specs.declared.fault.Fault.TheVariants as fault
 
@@ -24,14 +25,23 @@ abbrev pub IsHeld : (tells : List (List ℕ) → List ℕ) → (known : Option (
     (out : List ℕ → Bool → Type 0) → Type 0
 IsHeld tells known out = (lines : List (List ℕ)) × AreLines known lines × out (tells lines) true
 
+-- Its input can't be read, whose bytes may be known.
+abbrev pub IsInputUnread : (known : Option (List ℕ)) → Fault → Type 0
+IsInputUnread known f = FailsWith (codes "-") (MayGive known) f
+
+-- What ends a session before its end, while its output takes all: no memory, or an input that can't
+-- be read.
+abbrev pub EndsSession : (known : Option (List ℕ)) → Fault → Type 0
+EndsSession known f = (f ≡ fault.NoMemory) ⊎ IsInputUnread known f
+
 -- A fault ended it, and a beginning of that was written. What the output does not take may break off
--- anywhere.
+-- anywhere, and then that is the fault.
 abbrev pub IsHeldUpTo : (tells : List (List ℕ) → List ℕ) → (known : Option (List ℕ)) →
     (out : List ℕ → Bool → Type 0) → Fault → Type 0
 IsHeldUpTo tells known out f =
     (lines : List (List ℕ)) × AreLines known lines
     × ((told left : List ℕ) × (tells lines ≡ told ++ left)
-    × (out told true ⊎ ((f ≡ fault.Write) × out told false)))
+    × ((EndsSession known f × out told true) ⊎ ((f ≡ fault.Write) × out told false)))
 
 -- What a session comes to whose input is there.
 pub record IsStepDone (step : StepJob) (text : List ℕ) (m : Machine) (input : List ℕ) (o : Output) :

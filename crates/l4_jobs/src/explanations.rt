@@ -1,10 +1,12 @@
 //! What is told of a fault on a terminal: behind its line, what explains it.
 ghost use Rattle.std.specs.Prelude.{◌≡◌, ◌⊎◌, IfOk, true};
 ghost use Rattle.l4_jobs.specs.Explanations.{IsExplained, explanation, reason_text, told_line};
+ghost use Rattle.l4_jobs.specs.Explanations.{wrong_text};
 ghost use Rattle.l4_jobs.specs.declared.fault.Fault.TheVariants.{NoMemory as OutOfMemory};
 
 use crate::fault::{Fault, Reason, line_of, report};
 use crate::streams::Sink;
+use l4_expect::judging::Wrong;
 use l4_lint::excerpts::fault_shown;
 use l4_types::errors::NoMemory;
 use std::alloc::Global;
@@ -25,6 +27,27 @@ fn reason_text(alloc: Global, name: &str, reason: Reason) -> Result<Vec<u8>, NoM
     Ok(text)
 }
 
+// Why a line can't be asked for, where its kind alone does not say it.
+fn wrong_text(alloc: Global, wrong: Wrong) -> Result<Vec<u8>, NoMemory>
+    ensures { IfOk result (λ text. text.items ≡ wrong_text wrong) }
+{
+    let mut text = Vec::new(alloc);
+    let words = match wrong {
+        Wrong::BadWord => {
+            "no line that may be asked for has such a word there, or so few or so many words\n"
+        }
+        Wrong::Deleted => {
+            "of a deleted thread no more may be asked for than its state, as thread 1.1 deleted ..\n"
+        }
+        Wrong::Number => {
+            "no number of a send may be asked for, but any send of a thread, as waiting 1.1#* 2.1\n"
+        }
+        Wrong::BadLine | Wrong::Unknown => return Ok(text),
+    };
+    text.extend_from_slice(words.as_bytes())?;
+    Ok(text)
+}
+
 // What explains a fault of a job on the text in this file.
 fn explanation(
     alloc: Global,
@@ -37,6 +60,7 @@ fn explanation(
     match fault {
         Fault::Text { .. } => fault_shown(alloc, file, text),
         Fault::Read(name, reason) => reason_text(alloc, name, *reason),
+        Fault::Expectation(_, wrong) | Fault::Condition(_, wrong) => wrong_text(alloc, *wrong),
         _ => Ok(Vec::new(alloc)),
     }
 }

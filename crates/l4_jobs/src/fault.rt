@@ -71,7 +71,8 @@ pub enum Fault<'a> {
     /// why.
     #[error("expectation line {0}: {wrong}", wrong = spelled_wrong(*.1))]
     Expectation(usize, Wrong),
-    /// This line of the condition, counted from 1, is the first that no world can tell, and why.
+    /// This line of a condition, or of those that are asked of endings, counted from 1, is the first
+    /// that can't be asked for, and why.
     #[error("condition line {0}: {wrong}", wrong = spelled_wrong(*.1))]
     Condition(usize, Wrong),
     /// Memory was refused.
@@ -156,6 +157,7 @@ impl From<QuestionFault> for Fault<'_> {
     fn from(fault: QuestionFault) -> Self {
         match fault {
             QuestionFault::NoMemory => Fault::NoMemory,
+            QuestionFault::Line(line, wrong) => Fault::Condition(line, wrong),
             QuestionFault::Depth => Fault::Depth,
             QuestionFault::States => Fault::States,
             QuestionFault::Memory => Fault::Memory,

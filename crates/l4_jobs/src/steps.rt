@@ -7,7 +7,8 @@ ghost use Rattle.l4_steps.specs.Replies.{reply_from, reply_to};
 ghost use Rattle.l4_steps.specs.Sessions.{IsSession, lines_of, session_text, told_of};
 ghost use Rattle.l4_jobs.specs.Inner.Holding.{GivesLine};
 ghost use Rattle.l4_jobs.specs.Outputs.{output_of};
-ghost use Rattle.l4_jobs.specs.Steps.{IsHeld, IsHeldUpTo, IsStepDone, IsStepFault, session_of};
+ghost use Rattle.l4_jobs.specs.Steps.{IsHeld, IsHeldUpTo, IsInputUnread, IsStepDone, IsStepFault};
+ghost use Rattle.l4_jobs.specs.Steps.{session_of};
 ghost use Rattle.l4_jobs.specs.declared.fault.Fault.TheVariants.{NoMemory as OutOfMemory};
 ghost use Rattle.l4_jobs.specs.declared.fault.Fault.TheVariants.{Write as NotTaken};
 
@@ -31,6 +32,7 @@ fn next_line<R: BufRead>(alloc: Global, input: &mut R) -> Result<Option<Vec<u8>>
     ensures line { IfOk result (λ found. IfSome found (λ line.
         GivesLine (R.remaining input.old) (R.remaining input.new) line.items)) }
     ensures end { IfOk result (λ found. found ≡ None → IsAtEnd (R.remaining input.old)) }
+    ensures err { IfErr result (IsInputUnread (R.remaining input.old)) }
 {
     let mut line = Vec::new(alloc);
     match input.read_until(b'\n', &mut line) {
@@ -55,8 +57,8 @@ fn answer<W: Sink>(
         ≡ reply_to machine.now listing.now form (map entry_from entries.now) line.now) }
     ensures told { IfOk result (λ r. W.takes out.old out.new
         (reply_to machine.now listing.now form (map entry_from entries.now) line.now).text true) }
-    ensures err { IfErr result (λ fault. (out.new ≡ out.old) ⊎ ((fault ≡ NotTaken) ×
-        W.takes out.old out.new
+    ensures err { IfErr result (λ fault. ((fault ≡ OutOfMemory) × (out.new ≡ out.old)) ⊎
+        ((fault ≡ NotTaken) × W.takes out.old out.new
         (reply_to machine.now listing.now form (map entry_from entries.now) line.now).text
         false)) }
 {

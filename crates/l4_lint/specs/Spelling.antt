@@ -77,6 +77,8 @@ plain_hint hints.LongText = codes "a text has at most 1048576 bytes"
 plain_hint hints.NoLineEnd = codes "the last line has no line end"
 plain_hint hints.ByteOrderMark = codes "a byte order mark; a text begins with its first line"
 plain_hint hints.CarriageReturn = codes "a carriage return; a line ends with the byte 0x0a alone"
+plain_hint hints.SurplusReturn =
+    codes "a carriage return; one may stand at the end of a line, and none elsewhere"
 plain_hint hints.Tab = codes "a tab; one space stands between two words"
 plain_hint hints.Unprintable = codes "no printable ASCII"
 plain_hint hints.Space = codes "a space too many; one stands between two words and none elsewhere"
@@ -92,6 +94,7 @@ plain_hint hints.Last = codes "last stands only where an ipc sends to"
 plain_hint hints.Version = codes "no thread has this version; its low six bits are not all zero"
 plain_hint hints.TypedItems = codes "t, bits 6 to 11 of a tag, is not zero"
 plain_hint hints.DoubleNumber = codes "a thread before has this number"
+plain_hint hints.DoubleAmong = codes "a thread before has one of the numbers up to this one"
 plain_hint hints.ManyThreads = codes "a machine has at most 1024 threads"
 plain_hint hints.ManyInstructions = codes "a script has at most 1024 instructions"
 plain_hint hints.NoName = codes
@@ -102,6 +105,11 @@ plain_hint other = []
 
 abbrev pub declared_text : (line : ℕ) → List ℕ
 declared_text line = codes "line " ++ decimal line ++ codes " declares this name"
+
+abbrev pub elsewhere_text : (line : ℕ) → List ℕ
+elsewhere_text line =
+    codes "line " ++ decimal line
+    ++ codes " declares this name, but outside this script; a label is known in its own alone"
 
 abbrev pub near_text : (line : ℕ) → List ℕ
 near_text line = codes "line " ++ decimal line ++ codes " declares a name that is near"
@@ -116,6 +124,7 @@ near_times_text below above =
 
 abbrev pub hint_text : Hint → List ℕ
 hint_text (hints.DeclaredOn line) = declared_text line
+hint_text (hints.ElsewhereOn line) = elsewhere_text line
 hint_text (hints.NearOn line) = near_text line
 hint_text (hints.NearTimes below above) = near_times_text below above
 hint_text hint = plain_hint hint

@@ -89,6 +89,9 @@ pub enum Hint {
     ByteOrderMark,
     /// A carriage return.
     CarriageReturn,
+    /// A carriage return elsewhere than at the end of its line, or one more than one there, where one
+    /// may stand (scripts of version 2).
+    SurplusReturn,
     /// A tab.
     Tab,
     /// Another byte that is not printable ASCII.
@@ -117,6 +120,8 @@ pub enum Hint {
     TypedItems,
     /// A thread number that was declared before.
     DoubleNumber,
+    /// The last of several threads, one of which has a number that was declared before.
+    DoubleAmong,
     /// One thread more than a machine may have.
     ManyThreads,
     /// One instruction more than a script may have.
@@ -127,6 +132,8 @@ pub enum Hint {
     Unknown,
     /// The line of this number declares the name.
     DeclaredOn(usize),
+    /// It declares the name, but in no line of the script that asks for it.
+    ElsewhereOn(usize),
     /// The line of this number declares a name that is near.
     NearOn(usize),
     /// No time means so many microseconds, but these two numbers of them.

@@ -4,7 +4,8 @@ ghost use Rattle.std.specs.Char.Escape.{escape_ascii};
 ghost use Rattle.std.specs.Option.{option_copied};
 ghost use Rattle.l4_lint.specs.Spelling.{kind_word, operand_text, lines_text, plain_hint};
 ghost use Rattle.l4_lint.specs.Spelling.{hint_text};
-ghost use Rattle.l4_lint.specs.Spelling.{counted_text, declared_text, near_text, near_times_text};
+ghost use Rattle.l4_lint.specs.Spelling.{counted_text, declared_text, elsewhere_text, near_text};
+ghost use Rattle.l4_lint.specs.Spelling.{near_times_text};
 ghost use Rattle.l4_lint.specs.Spelling.{shown_word, place_text, fault_line, faults_text};
 ghost use Rattle.l4_lint.specs.Inner.Views.{fault_of};
 
@@ -103,6 +104,9 @@ fn plain_hint(hint: Hint) -> &'static str
         Hint::NoLineEnd => "the last line has no line end",
         Hint::ByteOrderMark => "a byte order mark; a text begins with its first line",
         Hint::CarriageReturn => "a carriage return; a line ends with the byte 0x0a alone",
+        Hint::SurplusReturn => {
+            "a carriage return; one may stand at the end of a line, and none elsewhere"
+        }
         Hint::Tab => "a tab; one space stands between two words",
         Hint::Unprintable => "no printable ASCII",
         Hint::Space => "a space too many; one stands between two words and none elsewhere",
@@ -119,6 +123,7 @@ fn plain_hint(hint: Hint) -> &'static str
         Hint::Version => "no thread has this version; its low six bits are not all zero",
         Hint::TypedItems => "t, bits 6 to 11 of a tag, is not zero",
         Hint::DoubleNumber => "a thread before has this number",
+        Hint::DoubleAmong => "a thread before has one of the numbers up to this one",
         Hint::ManyThreads => "a machine has at most 1024 threads",
         Hint::ManyInstructions => "a script has at most 1024 instructions",
         Hint::NoName => {
@@ -126,7 +131,7 @@ fn plain_hint(hint: Hint) -> &'static str
         }
         Hint::Unknown => "no line declares this name",
         Hint::OfHeir => "a thread with the script of another has no line of its own",
-        Hint::DeclaredOn(_) | Hint::NearOn(_) | Hint::NearTimes(_, _) => "",
+        Hint::DeclaredOn(_) | Hint::ElsewhereOn(_) | Hint::NearOn(_) | Hint::NearTimes(_, _) => "",
     }
 }
 
@@ -136,6 +141,19 @@ fn push_declared(line: usize, out: &mut Vec<u8>) -> Result<(), NoMemory>
 {
     let mut said = String::new(*out.allocator());
     write!(said, "line {line} declares this name")?;
+    out.extend_from_slice(said.as_bytes())?;
+    Ok(())
+}
+
+// Appends on which line a name is declared that its script does not have.
+fn push_elsewhere(line: usize, out: &mut Vec<u8>) -> Result<(), NoMemory>
+    ensures { OnOk result (out.new.items ≡ out.old.items ++ elsewhere_text line) }
+{
+    let mut said = String::new(*out.allocator());
+    write!(
+        said,
+        "line {line} declares this name, but outside this script; a label is known in its own alone"
+    )?;
     out.extend_from_slice(said.as_bytes())?;
     Ok(())
 }
@@ -177,6 +195,7 @@ fn push_hint(hint: Hint, out: &mut Vec<u8>) -> Result<(), NoMemory>
 {
     match hint {
         Hint::DeclaredOn(line) => push_declared(line, out),
+        Hint::ElsewhereOn(line) => push_elsewhere(line, out),
         Hint::NearOn(line) => push_near(line, out),
         Hint::NearTimes(below, above) => push_near_times(below, above, out),
         _ => {

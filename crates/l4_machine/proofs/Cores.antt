@@ -24,13 +24,15 @@ use Rattle.l4_mail.specs.Ports.{AreWhole}
 use Rattle.l4_proc.specs.Rests.{HaveHandledAll}
 use Rattle.l4_proc.specs.declared.processor.Processor.{Processor}
 use Rattle.l4_proc.proofs.Rested.{port_of}
-use Rattle.l4_refines.specs.Laws.{AreAllHandled, destination_of, home_report, home_thread, home_waiting, thread_of}
+use Rattle.l4_refines.specs.Laws.{AreAllHandled, destination_of, home_report, home_thread, thread_of}
 use Rattle.l4_machine.specs.declared.station.Station as program
 use Rattle.l4_machine.specs.Stations.{Station, station_of}
-use Rattle.l4_machine.specs.UnderWay.{HaveNoMail, IsSystem, letters_at}
+use Rattle.l4_machine.specs.UnderWay.{IsSystem}
 use Rattle.l4_machine.specs.Gathers.{core_of, past_of, pasts_of, with_number, AreOfOne, HaveNumbers}
+use Rattle.l4_machine.specs.declared.homes.LastSend.{LastSend}
 use Rattle.l4_machine.specs.declared.homes.OwnerView.{OwnerView}
-use Rattle.l4_machine.specs.Inner.Homes.{last_send, locals_of, sent_to, sent_waiting, AreAllOf, IsAtHome}
+use Rattle.l4_machine.specs.Inner.Heard.{waits_by}
+use Rattle.l4_machine.specs.Inner.Homes.{last_send, locals_of, sent_to, sent_waiting, AreAllOf, AreThreads}
 use Rattle.l4_machine.proofs.InOneHand.{all_handled_between, found, nothing_left}
 
 -- Of processors in one hand
@@ -105,19 +107,12 @@ locals_mapped (s ∷ ss) = ap (λ (ls : List Local). s.core.local ∷ ls) (local
 pub station_locals : (m : Machine) (g : System) (ss : List Station) → IsSystem m g ss → locals_of (map (λ (s : Station). s.core) ss) ≡ g.locals
 station_locals m g ss i = locals_mapped ss ∙ sym i.locals
 
-pub stations_handled : (m : Machine) (g : System) (ss : List Station) → IsSystem m g ss → HaveNoMail ss → AreAllHandled g
-stations_handled m g ss i none = λ from to. i.mail from to ∙ by from to (slice_get ss to) refl
-  where
-    by : (from to : ℕ) (o : Option Station) → slice_get ss to ≡ o → letters_at from o ≡ []
-    by from to None at = refl
-    by from to (Some s) at = none to s at from
-
 -- The sends that wait
 
-sent_there : (m : Machine) (locals : List Local) (a : OwnerView) (i : ℕ) → IsAtHome m locals a → i < length m.threads →
-    slice_get a.sends.items i ≡ Some (last_send (home_thread m locals i))
-sent_there m locals a i is lt =
-    let f = λ (i : ℕ). last_send (home_thread m locals i) in
+sent_there : (m : Machine) (t : ℕ → Thread) (a : OwnerView) (i : ℕ) → AreThreads m t a → i < length m.threads →
+    slice_get a.sends.items i ≡ Some (last_send (t i))
+sent_there m t a i is lt =
+    let f = λ (i : ℕ). last_send (t i) in
     let size = length-map-range_with_len f 0 (length m.threads) in
     ap (λ xs. slice_get xs i) is.sends
     ∙ slice_get-get_or (map f (range_with_len 0 (length m.threads))) i (f i) (omega arith)
@@ -135,26 +130,28 @@ sent_is k t = by (t.context.begun == k) t.send
 abbrev named : Name → Id → Option (Name × Id)
 named s to = Some (s, to)
 
-waits_there : (m : Machine) (locals : List Local) (a : OwnerView) (step : Step) → IsAtHome m locals a → sent_waiting m a.sends.items step ≡ home_waiting m locals step
-waits_there m locals a step is = by (begun_name step)
+waits_there : (m : Machine) (t : ℕ → Thread) (a : OwnerView) (step : Step) → AreThreads m t a →
+    sent_waiting m a.sends.items step ≡ waits_by m t step
+waits_there m t a step is = by (begun_name step)
   where
     at : (s : Name) (o : Option ℕ) → place_of m s.thread ≡ o →
-        (o >>= λ i. sent_to s.k (slice_get a.sends.items i) >>= named s) ≡ (o >>= λ i. destination_of s.k (home_thread m locals i) >>= named s)
+        (o >>= λ i. sent_to s.k (slice_get a.sends.items i) >>= named s)
+        ≡ (o >>= λ i. destination_of s.k (t i) >>= named s)
     at s None is_none = refl
     at s (Some i) is_there =
         let lt = (position-Some (λ d. same_id d.id s.thread) m.threads i undeclared is_there).0 in
-        ap (λ (o : Option Id). o >>= named s) (ap (sent_to s.k) (sent_there m locals a i is lt) ∙ sent_is s.k (home_thread m locals i))
+        ap (λ (o : Option Id). o >>= named s) (ap (sent_to s.k) (sent_there m t a i is lt) ∙ sent_is s.k (t i))
 
     by : (o : Option Name) →
         (o >>= λ s. place_of m s.thread >>= λ i. sent_to s.k (slice_get a.sends.items i) >>= named s)
-        ≡ (o >>= λ s. place_of m s.thread >>= λ i. destination_of s.k (home_thread m locals i) >>= named s)
+        ≡ (o >>= λ s. place_of m s.thread >>= λ i. destination_of s.k (t i) >>= named s)
     by None = refl
     by (Some s) = at s (place_of m s.thread) refl
 
-pub all_wait_there : (m : Machine) (locals : List Local) (a : OwnerView) (h : List Step) → IsAtHome m locals a →
-    filter_map (sent_waiting m a.sends.items) h ≡ filter_map (home_waiting m locals) h
-all_wait_there m locals a [] is = refl
-all_wait_there m locals a (step ∷ h) is = ap₂ cons_option (waits_there m locals a step is) (all_wait_there m locals a h is)
+pub all_wait_there : (m : Machine) (t : ℕ → Thread) (a : OwnerView) (h : List Step) → AreThreads m t a →
+    filter_map (sent_waiting m a.sends.items) h ≡ filter_map (waits_by m t) h
+all_wait_there m t a [] is = refl
+all_wait_there m t a (step ∷ h) is = ap₂ cons_option (waits_there m t a step is) (all_wait_there m t a h is)
 
 -- A thread on its own processor
 
@@ -167,11 +164,10 @@ pub report_there : (m : Machine) (cores : List Core) (i : ℕ) (c : Core) (repor
 report_there m cores i c report at machine is =
     is ∙ ap₂ (λ (m : Machine) (t : Thread). report_of (declared m i).id t) machine (sym (home_there m cores i c at))
 
-pub send_there : (m : Machine) (cores : List Core) (i : ℕ) (c : Core) (k : ℕ) (to : Option Id) → slice_get cores (declared m i).cpu ≡ Some c →
-    k ≡ (thread c.local i).context.begun → to ≡ option_map (λ (send : Send). send.to) (thread c.local i).send →
-    record { k = k; to = to } ≡ last_send (home_thread m (locals_of cores) i)
-send_there m cores i c k to at begun goes =
-    ap₂ (λ (k : ℕ) (to : Option Id). record { k = k; to = to }) begun goes ∙ ap last_send (sym (home_there m cores i c at))
+pub send_there : (m : Machine) (cores : List Core) (i : ℕ) (c : Core) (send : LastSend) →
+    slice_get cores (declared m i).cpu ≡ Some c →
+    send ≡ last_send (thread c.local i) → send ≡ last_send (home_thread m (locals_of cores) i)
+send_there m cores i c send at is = is ∙ ap last_send (sym (home_there m cores i c at))
 
 pub cores_mapped : (ss : List program.Station) → map (λ (s : program.Station). s.worker.core) ss ≡ map (λ (s : Station). s.core) (map station_of ss)
 cores_mapped [] = refl

@@ -4,7 +4,10 @@ pub mod EventsLeft
 pub mod Founds
 pub mod InOneHand
 pub mod Action
+pub mod Alike
 pub mod Cores
+pub mod Heard
+pub mod Hearing
 pub mod InLogs
 pub mod Inboxes
 pub mod Members

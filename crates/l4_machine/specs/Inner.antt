@@ -1,4 +1,5 @@
 pub mod EventsLeft
+pub mod Heard
 pub mod Homes
 pub mod Inboxes
 pub mod Posters

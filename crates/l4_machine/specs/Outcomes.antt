@@ -7,10 +7,10 @@ use Rattle.l4_model.specs.World.{Name, World}
 use Rattle.l4_model.specs.History.{IsHistory, Report, reached, view, waiting as undecided_sends}
 use Rattle.l4_model.specs.Laws.{IsLawful}
 use Rattle.l4_model.specs.Still.{IsStill}
-use Rattle.l4_core_model.specs.Runs.{Run, merged, told, at_rest}
+use Rattle.l4_core_model.specs.Runs.{IsMachine, Run, merged, told, at_rest}
 use Rattle.l4_core_model.specs.Schedules.{run, replay, Entry, replay_entries}
 use Rattle.l4_merge.specs.Rounds.{IsInRounds}
-use Rattle.l4_refines.specs.Laws.{IsKnownAtHome}
+use Rattle.l4_refines.specs.Laws.{IsKnownAtHome, IsStateOfOne}
 use Rattle.l4_types.specs.declared.reports.Ending.{Ending}
 use Rattle.l4_types.specs.declared.reports.Ending.TheVariants.{Quiet}
 use Rattle.l4_types.specs.StepView.{step_of}
@@ -120,7 +120,9 @@ IsCompactReplay m entries o = IsOutcomeOf m (replay_entries m entries) (compact_
 
 -- What the laws say of a core run in any order.
 pub record IsSound (m : Machine) (r : Run) : Type 0 where
+  pub machine : IsMachine m
   pub at_home : IsKnownAtHome m r
+  pub of_one : IsStateOfOne m r
   pub possible : IsHistory m (told r.events)
   pub lawful : IsLawful m (told r.events)
   pub still : at_rest m r.system ≡ true → (w : World) →

@@ -9,7 +9,7 @@ use Rattle.l4_core_model.specs.Laws.{IsCoreRun}
 use Rattle.l4_core.specs.Processor.{Processor}
 use Rattle.l4_machine.specs.declared.scheduler.Scheduler.{Scheduler}
 use Rattle.l4_machine.specs.declared.station.Station as program
-use Rattle.l4_machine.specs.Stations.{Station, events_at, letters_from, letters_out, station_of, with_letter, deadline_of, HasNoMail, IsResting}
+use Rattle.l4_machine.specs.Stations.{Station, events_at, letters_from, letters_out, station_of, with_letter, deadline_of, IsResting}
 
 -- The processors with the letters that have come to them, the log of each, and the processor of
 -- each event in the order told.
@@ -79,10 +79,6 @@ deadline_at (Some s) = deadline_of s
 -- Each processor is at rest, with no letter.
 abbrev pub AreResting : List Station → Type 0
 AreResting ss = (cpu : ℕ) (s : Station) → slice_get ss cpu ≡ Some s → IsResting s
-
--- No processor has a letter.
-abbrev pub HaveNoMail : List Station → Type 0
-HaveNoMail ss = (cpu : ℕ) (s : Station) → slice_get ss cpu ≡ Some s → HasNoMail s
 
 -- A station is that of a processor of the machine.
 pub record IsStation (m : Machine) (cpu : ℕ) (s : Station) : Type 0 where

@@ -1,15 +1,26 @@
 //! The reports of threads and their last sends, as their own processors have them.
 ghost use Rattle.std.specs.Prelude.{◌≡◌, ◌<◌, IfOk, IsTrue, Some, length, map, slice_get};
 ghost use Rattle.std.specs.List.{AllByRecursion};
-ghost use Rattle.l4_core_model.specs.Local.{declared};
+ghost use Rattle.l4_model.specs.Effects.{obeyed};
+ghost use Rattle.l4_model.specs.History.{report_of};
+ghost use Rattle.l4_model.specs.World.{Thread as ThreadOfModel};
+ghost use Rattle.l4_core_model.specs.Local.{after_decision, declared, thread};
+ghost use Rattle.l4_core_model.specs.Mail.{own_place};
+ghost use Rattle.l4_types.specs.Inner.LetterView.{decision_of};
 ghost use Rattle.l4_types.specs.ReportView.{report_of_view};
 ghost use Rattle.l4_refines.specs.Laws.{IsUndeleted, home_reports};
 ghost use Rattle.l4_machine.specs.Inner.Homes.{locals_of, sent_at_home, AreAllOf, IsAtHome};
+ghost use Rattle.l4_machine.specs.Inner.Heard.{hears, hears_all, with_thread, HasPlaces};
+ghost use Rattle.l4_machine.specs.Inner.Heard.{Hears};
 
+use crate::letter_queue::Letters;
 use l4_core::processor::Core;
 use l4_script::machine::Machine;
+use l4_thread::changes::Change;
 use l4_types::errors::NoMemory;
-use l4_types::ids::ThreadId;
+use l4_types::ids::{GlobalId, ThreadId};
+use l4_types::letter_ref::LetterRef;
+use l4_types::letters::{Content, Decision};
 use l4_types::reports::{State, ThreadView};
 use std::alloc::Global;
 
@@ -43,6 +54,78 @@ impl OwnerView {
             threads: threads(alloc, machine, cores)?,
             sends: last_sends(alloc, machine, cores)?,
         })
+    }
+
+    /// Hears these letters, which are under way to a processor: the threads that they answer are
+    /// then as that processor will have them once it has handled the letters. Of two answers to one
+    /// thread the last counts; in a core run there is one at most.
+    pub(crate) fn hear(&mut self, machine: &Machine, core: &Core<'_>, letters: Letters<'_>)
+        requires machine { core.now.machine ≡ machine.now }
+        requires places { HasPlaces machine.now self.old }
+        ensures places { HasPlaces machine.now self.new }
+        ensures heard { Hears machine.now (hears_all core.now letters.entry) self.old self.new }
+    {
+        for letter in letters {
+            self.hear_one(machine, core, &letter);
+        }
+    }
+
+    // Hears a letter.
+    fn hear_one(&mut self, machine: &Machine, core: &Core<'_>, letter: &LetterRef<'_>)
+        requires machine { core.now.machine ≡ machine.now }
+        requires places { HasPlaces machine.now self.old }
+        ensures places { HasPlaces machine.now self.new }
+        ensures heard { Hears machine.now (hears core.now letter.now) self.old self.new }
+    {
+        let (head, _) = letter.parts();
+        match &head.content {
+            Content::Done { name, decision } => {
+                if let Some(place) = own_place(machine, core, name.thread()) {
+                    self.end_send(machine, core, place, *decision);
+                }
+            }
+            Content::OrderDone(caller) => {
+                if let Some(place) = own_place(machine, core, *caller) {
+                    self.end_order(machine, core, place);
+                }
+            }
+            _ => {}
+        }
+    }
+
+    // The send of the thread at this place is decided.
+    fn end_send(&mut self, machine: &Machine, core: &Core<'_>, place: usize, decision: Decision)
+        requires machine { core.now.machine ≡ machine.now }
+        requires place { place < length machine.now.threads }
+        requires places { HasPlaces machine.now self.old }
+        ensures places { HasPlaces machine.now self.new }
+        ensures heard { Hears machine.now (with_thread place
+            (after_decision (decision_of decision) core.now.local.clock
+            (thread core.now.local place))) self.old self.new }
+    {
+        let mut block = core.block(place).duplicate();
+        block.change(&Change::EndSend(decision), core.clock());
+        self.threads[place] = block.view();
+        self.sends[place] = LastSend {
+            k: core.begun(place),
+            to: None,
+        };
+    }
+
+    // The order of the thread at this place is done.
+    fn end_order(&mut self, machine: &Machine, core: &Core<'_>, place: usize)
+        requires machine { core.now.machine ≡ machine.now }
+        requires place { place < length machine.now.threads }
+        requires places { HasPlaces machine.now self.old }
+        ensures places { HasPlaces machine.now self.new }
+        ensures heard { Hears machine.now (with_thread place
+            (obeyed (thread core.now.local place))) self.old self.new }
+    {
+        self.threads[place] = after_order(core.view(place));
+        self.sends[place] = LastSend {
+            k: core.begun(place),
+            to: core.destination(place),
+        };
     }
 
     /// Whether none of the threads is deleted.
@@ -103,6 +186,32 @@ fn last_sends(
         })?;
     }
     Ok(sends)
+}
+
+// The place of this thread, if it is one of this processor.
+fn own_place(machine: &Machine, core: &Core<'_>, id: GlobalId) -> Option<usize>
+    requires { core.now.machine ≡ machine.now }
+    ensures { result ≡ own_place machine.now core.now.cpu id }
+{
+    let place = machine.place_of(id)?;
+    if core.is_own(place) {
+        Some(place)
+    } else {
+        None
+    }
+}
+
+// What is told of a thread once its order is done. A deleted thread keeps its registers.
+fn after_order(thread: ThreadView) -> ThreadView
+    ensures { (t : ThreadOfModel) → report_of_view thread ≡ report_of thread.id t →
+        report_of_view result ≡ report_of thread.id (obeyed t) }
+{
+    let mut thread = thread;
+    if thread.state != State::Deleted {
+        thread.state = State::Ready;
+        thread.regs.error = 0;
+    }
+    thread
 }
 
 // Whether none of these threads is deleted.

@@ -1,10 +1,12 @@
 //! The outcome of a run.
-ghost use Rattle.std.specs.Prelude.{◌≡◌, ◌↔◌, IfOk, List, length, true};
+ghost use Rattle.std.specs.Prelude.{ℕ, ◌≡◌, ◌↔◌, IfOk, IsTrue, length, map, true};
 ghost use Rattle.l4_model.specs.History.{IsHistory};
-ghost use Rattle.l4_core_model.specs.Local.{Local};
+ghost use Rattle.l4_model.specs.World.{Thread};
 ghost use Rattle.l4_core_model.specs.Runs.{Run, at_rest, told};
+ghost use Rattle.l4_types.specs.ReportView.{report_of_view};
 ghost use Rattle.l4_types.specs.declared.reports.Ending.TheVariants.{Quiet};
-ghost use Rattle.l4_machine.specs.Inner.Homes.{EndsIn, IsAtHome};
+ghost use Rattle.l4_machine.specs.Inner.Heard.{AreOfWorld, HaveRegisters};
+ghost use Rattle.l4_machine.specs.Inner.Homes.{AreThreads};
 ghost use Rattle.l4_machine.specs.Outcomes.{IsOutcomeOf, IsSound, compact_findings_of, findings_of};
 ghost use Rattle.l4_machine.specs.Outcomes.{steps_of};
 ghost use Rattle.l4_machine.specs.declared.outcome.RunFault.TheVariants.{NoMemory as RunNoMemory};
@@ -97,38 +99,46 @@ impl From<NoMemory> for RunFault {
     }
 }
 
-/// The outcome of a run with this history, ending and number of turns. If no letter is under way
-/// and no thread is deleted, the reports are those of the threads' own processors. Else an audit of
-/// the history finds them: a processor may differ from the history in a deleted thread, and in one
-/// that a letter is still to reach.
+/// The outcome of a run with this history, ending and number of turns. `are_known` says whether the
+/// threads are those of the world that the history reaches, unless one is deleted and there are
+/// several processors. Else an audit of the history finds them: a processor may differ from the
+/// history in a deleted thread, and in one that a letter is still to reach.
 pub(crate) fn outcome_of<'m>(
     alloc: Global,
     machine: &Machine,
     history: RunHistory<'m>,
-    at_home: OwnerView,
-    all_handled: bool,
+    threads: OwnerView,
+    are_known: bool,
     ending: Ending,
     turns: u64,
 ) -> Result<CompactOutcome<'m>, NoMemory>
     requires { IsHistory machine.now (steps_of history) }
-    ensures { IfOk result (λ o. (r : Run) (locals : List Local) → IsSound machine.now r →
-        IsAtHome machine.now locals at_home → EndsIn r locals all_handled →
+    ensures { IfOk result (λ o. (r : Run) (t : ℕ → Thread) → IsSound machine.now r →
+        AreThreads machine.now t threads → (IsTrue are_known → AreOfWorld machine.now r t) →
         steps_of history.entry ≡ told r.events → turns ≡ length r.events →
         (ending ≡ Quiet) ↔ (at_rest machine.now r.system ≡ true) →
         IsOutcomeOf machine.now r (compact_findings_of o)) }
 {
     law_begun_then_ended();
-    if all_handled && at_home.are_undeleted() {
-        let waiting = history.waiting(alloc, &Search::new(machine, &at_home))?;
+    if are_known && have_registers(machine, &threads) {
+        let waiting = history.waiting(alloc, &Search::new(machine, &threads))?;
         return Ok(CompactOutcome {
             history,
             waiting,
-            threads: at_home.threads,
+            threads: threads.threads,
             ending,
             turns,
         });
     }
     audited_outcome(alloc, machine, history.into_history(alloc)?, ending, turns)
+}
+
+// Whether the registers of these threads are those of the world where one was deleted.
+fn have_registers(machine: &Machine, threads: &OwnerView) -> bool
+    ensures { IsTrue result →
+        HaveRegisters machine.now (map report_of_view threads.now.threads.items) }
+{
+    machine.cpus() == 1 || threads.are_undeleted()
 }
 
 // The same outcome, with the reports that an audit of the history finds.

@@ -10,10 +10,12 @@ ghost use Rattle.l4_core_model.specs.Runs.{told};
 ghost use Rattle.l4_core_model.specs.Schedules.{attempts};
 ghost use Rattle.l4_types.specs.declared.reports.Ending.TheVariants.{Quiet};
 ghost use Rattle.l4_machine.specs.Stations.{events_at, action, station_of, KnowsPoster};
-ghost use Rattle.l4_machine.specs.Inner.Homes.{IsAtHome};
+ghost use Rattle.l4_machine.specs.Inner.Homes.{AreThreads, IsAtHome};
 ghost use Rattle.l4_machine.specs.Ordered.{told_steps};
 ghost use Rattle.l4_machine.specs.UnderWay.{deadline_at, letters_of, AreResting, CanPost};
-ghost use Rattle.l4_machine.specs.UnderWay.{HasDelivered, HasDeliveredOne, HaveNoMail, IsSystem};
+ghost use Rattle.l4_machine.specs.UnderWay.{HasDelivered, HasDeliveredOne, IsSystem};
+ghost use Rattle.l4_machine.specs.Inner.Heard.{heard_in, hears_mail, hears_all_mail};
+ghost use Rattle.l4_machine.specs.Inner.Heard.{AreStations, HasPlaces, Hears};
 
 use crate::homes::OwnerView;
 use crate::laws::law_core_run;
@@ -121,15 +123,21 @@ impl<'m> Scheduler<'m> {
         are_at_rest(self.stations.as_slice())
     }
 
-    /// Whether no letter is under way.
-    pub(crate) fn has_handled_all(&self) -> bool
-        ensures { IsTrue result → HaveNoMail (under_way self.now).stations }
+    /// The threads and their last sends, as their own processors will have them once the letters
+    /// under way are handled. If none is deleted, these are those of the world that the history
+    /// reaches.
+    pub(crate) fn in_world(&self, alloc: Global) -> Result<OwnerView, NoMemory>
+        requires { HasRun (under_way self.now) }
+        ensures { (m : MachineOfModel) (r : Run) → IsRun m r (under_way self.now) →
+            IfOk result (AreThreads m (heard_in m r.system.locals (under_way self.now).stations)) }
     {
-        have_no_mail(self.stations.as_slice())
+        let mut threads = self.at_home(alloc)?;
+        hear_all(self.machine, self.stations.as_slice(), &mut threads);
+        Ok(threads)
     }
 
-    /// The threads and their last sends, as their own processors have them.
-    pub(crate) fn at_home(&self, alloc: Global) -> Result<OwnerView, NoMemory>
+    // The threads and their last sends, as their own processors have them.
+    fn at_home(&self, alloc: Global) -> Result<OwnerView, NoMemory>
         requires { HasRun (under_way self.now) }
         ensures { (m : MachineOfModel) (r : Run) → IsRun m r (under_way self.now) →
             IfOk result (IsAtHome m r.system.locals) }
@@ -201,16 +209,30 @@ fn are_at_rest(stations: &[Station<'_>]) -> bool
     true
 }
 
-// Whether none of these processors has a letter.
-fn have_no_mail(stations: &[Station<'_>]) -> bool
-    ensures { IsTrue result → HaveNoMail (map station_of stations.now) }
+// Hears the letters that have come to these processors.
+fn hear_all(machine: &Machine, stations: &[Station<'_>], threads: &mut OwnerView)
+    requires each { AreStations machine.now (map station_of stations.now) }
+    requires places { HasPlaces machine.now threads.old }
+    ensures { Hears machine.now (hears_all_mail (map station_of stations.now))
+        threads.old threads.new }
 {
     for station in stations {
-        if !station.has_no_mail() {
-            return false;
-        }
+        hear_letters(machine, station, threads);
     }
-    true
+}
+
+// Hears the letters that have come to a processor.
+fn hear_letters(machine: &Machine, station: &Station<'_>, threads: &mut OwnerView)
+    requires machine { (station_of station.now).core.machine ≡ machine.now }
+    requires inbox { length (station_of station.now).inbox ≡ machine.now.cpus }
+    requires places { HasPlaces machine.now threads.old }
+    ensures places { HasPlaces machine.now threads.new }
+    ensures heard { Hears machine.now (hears_mail (station_of station.now))
+        threads.old threads.new }
+{
+    for from in 0..machine.cpus() {
+        threads.hear(machine, station.core(), station.letters(from));
+    }
 }
 
 // The processors themselves.

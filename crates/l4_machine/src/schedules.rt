@@ -101,15 +101,14 @@ fn outcome_of_entries<'m>(
     take_all(&mut run, machine, entries)?;
     let turns = run.events();
     let ending = run.ending();
-    let all_handled = run.has_handled_all();
-    let at_home = run.at_home(alloc)?;
+    let threads = run.in_world(alloc)?;
     let logs = run.into_logs();
     Ok(outcome_of(
         alloc,
         machine,
         RunHistory::Ordered(logs),
-        at_home,
-        all_handled,
+        threads,
+        true,
         ending,
         turns as u64,
     )?)

@@ -6,7 +6,7 @@ use l4_types::errors::NoMemory;
 use l4_types::ids::GlobalId;
 use l4_types::step_ref::StepRef;
 use l4_types::steps::{Name, Step};
-use std::alloc::Global;
+use std::process::Abort;
 
 // One step of most kinds, with deliveries of no word, of two and of 63.
 const STEPS: &str = "begin 1.1#1
@@ -18,76 +18,65 @@ order 1.1 2.1 SR
 tick 0 24
 ";
 
+// The steps of the lines.
+fn steps_of_lines<R: AllocGlobal + Abort>(rt: &R) -> Vec<Step> {
+    read_events(rt.alloc(), STEPS.as_bytes()).expect(rt, "steps")
+}
+
 // Whether a history has these steps.
-fn has_steps(alloc: Global, history: &History, steps: &[Step]) -> Option<bool> {
-    let given = history.to_steps(alloc).ok()?;
-    Some(history.len() == steps.len() && given.as_slice() == steps)
+fn has_steps<R: AllocGlobal + Abort>(rt: &R, history: &History, steps: &[Step]) -> bool {
+    let given = history.to_steps(rt.alloc()).expect(rt, "memory");
+    history.len() == steps.len() && given.as_slice() == steps
 }
 
 // Whether a history shows its first three steps as they are, where they stay.
-fn shows_its_steps(history: &History) -> Option<bool> {
+fn shows_its_steps(history: &History, first: Name) -> bool {
     if history.len() != 7 {
-        return None;
+        return false;
     }
     let StepRef::Deliver(delivery) = history.step(2) else {
-        return None;
+        return false;
     };
-    let first = Name::new(GlobalId::new(1, 1)?, 1);
-    let is_delivered = delivery.message.words() == [10, 11].as_slice()
-        && delivery.tag().raw() == 0x8_5002;
-    Some(is_delivered && history.begun(0) == first && history.begun(1).is_none())
-}
-
-fn is_given_back(alloc: Global) -> Option<bool> {
-    let steps = read_events(alloc, STEPS.as_bytes()).ok()?;
-    let history = History::from_steps(alloc, steps.as_slice()).ok()?;
-    Some(has_steps(alloc, &history, steps.as_slice())? && shows_its_steps(&history)?)
+    let begun = [history.begun(0), history.begun(1)];
+    begun == [Some(first), None]
+        && delivery.message.words() == [10, 11].as_slice()
+        && delivery.tag().raw() == 0x8_5002
 }
 
 #[test]
 fn a_history_gives_its_steps_back_and_shows_each(rt: HostRuntime) {
-    assert!(rt; is_given_back(rt.alloc()) == Some(true));
-}
-
-fn are_told_the_same(alloc: Global) -> Option<bool> {
-    let steps = read_events(alloc, STEPS.as_bytes()).ok()?;
-    let mut list = Vec::new(alloc);
-    tell(&mut list, steps.as_slice()).ok()?;
-    let mut history = History::new(alloc);
-    tell(&mut history, steps.as_slice()).ok()?;
-    Some(list.as_slice() == steps.as_slice() && has_steps(alloc, &history, steps.as_slice())?)
+    let steps = steps_of_lines(&rt);
+    let history = History::from_steps(rt.alloc(), steps.as_slice()).expect(&rt, "memory");
+    let first = Name::new(GlobalId::new(1, 1).expect(&rt, "an id"), 1).expect(&rt, "a name");
+    assert!(rt; has_steps(&rt, &history, steps.as_slice()));
+    assert!(rt; shows_its_steps(&history, first));
 }
 
 #[test]
 fn sinks_are_told_the_same(rt: HostRuntime) {
-    assert!(rt; are_told_the_same(rt.alloc()) == Some(true));
+    let steps = steps_of_lines(&rt);
+    let mut list = Vec::new(rt.alloc());
+    tell(&mut list, steps.as_slice()).expect(&rt, "memory");
+    let mut history = History::new(rt.alloc());
+    tell(&mut history, steps.as_slice()).expect(&rt, "memory");
+    assert!(rt; list.as_slice() == steps.as_slice());
+    assert!(rt; has_steps(&rt, &history, steps.as_slice()));
 }
 
-// The steps of a history of the fifth step, after the second to fourth steps of another history
-// were appended.
-fn appended(alloc: Global, steps: &[Step]) -> Option<Vec<Step>> {
-    let other = History::from_steps(alloc, steps).ok()?;
-    if steps.len() != 7 || other.len() != 7 {
-        return None;
-    }
-    let mut history = History::from_steps(alloc, &steps[4..5]).ok()?;
-    history.extend(&other.steps_between(1, 4)).ok()?;
-    history.to_steps(alloc).ok()
-}
-
-fn are_appended(alloc: Global) -> Option<bool> {
-    let steps = read_events(alloc, STEPS.as_bytes()).ok()?;
-    let given = appended(alloc, steps.as_slice())?;
-    if steps.len() != 7 || given.len() != 4 {
-        return None;
-    }
-    let (steps, given) = (steps.as_slice(), given.as_slice());
-    Some(&given[..1] == &steps[4..5] && &given[1..] == &steps[1..4])
-}
-
+// The second to fourth steps of another history are appended to one of the fifth step.
 #[test]
 fn steps_of_another_history_are_appended(rt: HostRuntime) {
-    assert!(rt; are_appended(rt.alloc()) == Some(true));
+    let steps = steps_of_lines(&rt);
+    let other = History::from_steps(rt.alloc(), steps.as_slice()).expect(&rt, "memory");
+    assert!(rt; steps.len() == 7);
+    assert!(rt; other.len() == 7);
+    let mut history = History::from_steps(rt.alloc(), &steps[4..5]).expect(&rt, "memory");
+    history
+        .extend(&other.steps_between(1, 4))
+        .expect(&rt, "memory");
+    let given = history.to_steps(rt.alloc()).expect(&rt, "memory");
+    assert!(rt; given.len() == 4);
+    assert!(rt; &given[..1] == &steps[4..5] && &given[1..] == &steps[1..4]);
 }
 
 // Whether a history has one more step, or if memory is refused, as many as before.

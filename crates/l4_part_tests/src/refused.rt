@@ -18,19 +18,18 @@ use l4_trace::reading::read_events;
 use l4_types::errors::NoMemory;
 use l4_types::letters::Letter;
 use l4_types::steps::Step;
-use std::alloc::{AllocError, Global};
 use std::process::Abort;
 use std::test::Fail;
 
 // A text of 40 threads on 16 processors, each with a script of 20 instructions.
-fn long_text(alloc: Global) -> Result<String, AllocError> {
-    let script = "add 1 1\n".repeat(alloc, 20)?;
-    let mut text = format!(in alloc; "l4 1 64\ncpus 16\n")?;
+fn long_text<R: AllocGlobal + Abort>(rt: &R) -> String {
+    let script = "add 1 1\n".repeat(rt.alloc(), 20).expect(rt, "memory");
+    let mut text = format!(in rt.alloc(); "l4 1 64\ncpus 16\n").expect(rt, "memory");
     for number in 0..40u32 {
         let cpu = number % 16;
-        write!(text, "thread {number}.1 cpu {cpu} space 1\n{script}")?;
+        write!(text, "thread {number}.1 cpu {cpu} space 1\n{script}").expect(rt, "memory");
     }
-    Ok(text)
+    text
 }
 
 // The machine of a text, read again if memory was refused.
@@ -56,11 +55,10 @@ fn is_long(machine: &Machine) -> bool {
 }
 
 #[test]
-fn a_text_is_parsed(rt: HostRuntime) -> Result<(), Fail> {
-    let text = long_text(rt.alloc())?;
-    let machine = parsed(&rt, text.as_bytes())?;
+fn a_text_is_parsed(rt: HostRuntime) {
+    let text = long_text(&rt);
+    let machine = parsed(&rt, text.as_bytes()).expect(&rt, "a machine");
     assert!(rt; is_long(&machine));
-    Ok(())
 }
 
 // The second processor of a machine, made again if memory was refused.
@@ -75,21 +73,20 @@ fn made<'m>(rt: &HostRuntime, machine: &'m Machine) -> Option<Core<'m>> {
 }
 
 // The answers of a processor to two questions.
-fn said(alloc: Global, core: &mut Core<'_>) -> Result<String, Fail> {
-    let mut out = String::new(alloc);
-    push_answer(alloc, &mut out, core, "turn")?;
-    push_answer(alloc, &mut out, core, "stands")?;
-    Ok(out)
+fn said<R: AllocGlobal + Abort>(rt: &R, core: &mut Core<'_>) -> String {
+    let mut out = String::new(rt.alloc());
+    push_answer(rt, &mut out, core, "turn");
+    push_answer(rt, &mut out, core, "stands");
+    out
 }
 
 // The one thread of the processor begins to wait.
 #[test]
-fn a_processor_is_made(rt: HostRuntime) -> Result<(), Fail> {
-    let machine = Machine::parse(rt.alloc(), ACROSS.as_bytes())?;
-    let mut core = made(&rt, &machine).ok_or("a processor")?;
-    let said = said(rt.alloc(), &mut core)?;
+fn a_processor_is_made(rt: HostRuntime) {
+    let machine = Machine::parse(rt.alloc(), ACROSS.as_bytes()).expect(&rt, "a machine");
+    let mut core = made(&rt, &machine).expect(&rt, "a processor");
+    let said = said(&rt, &mut core);
     assert!(rt; said.as_str() == "  at 1\n  wait 2.1\n  done 0 None\n");
-    Ok(())
 }
 
 // The steps of lines, read again if memory was refused.
@@ -105,7 +102,7 @@ fn steps_read(rt: &HostRuntime, lines: &[u8]) -> Result<Vec<Step>, TraceFault> {
 
 // Whether the line of a step is appended, by a second call if memory was refused. The refused call
 // appends nothing.
-fn is_written(rt: &HostRuntime, step: &Step, out: &mut Vec<u8>) -> bool {
+fn is_written<R: Print>(rt: &R, step: &Step, out: &mut Vec<u8>) -> bool {
     let before = out.len();
     call_begins(rt, "write_event");
     let written = write_event(step, out);
@@ -113,17 +110,21 @@ fn is_written(rt: &HostRuntime, step: &Step, out: &mut Vec<u8>) -> bool {
     written.is_ok() || (out.len() == before && write_event(step, out).is_ok())
 }
 
-#[test]
-fn a_trace_is_read_and_written(rt: HostRuntime) -> Result<(), Fail> {
-    let lines = PING_TRACE.repeat(rt.alloc(), 3)?;
-    let steps = steps_read(&rt, lines.as_bytes())?;
-    assert!(rt; steps.len() == 24);
+// The lines of steps.
+fn written<R: AllocGlobal + Abort + Print>(rt: &R, steps: &[Step]) -> Vec<u8> {
     let mut out = Vec::new(rt.alloc());
-    for step in steps.as_slice() {
-        assert!(rt; is_written(&rt, step, &mut out));
+    for step in steps {
+        assert!(rt; is_written(rt, step, &mut out));
     }
-    assert!(rt; out.as_slice() == lines.as_bytes());
-    Ok(())
+    out
+}
+
+#[test]
+fn a_trace_is_read_and_written(rt: HostRuntime) {
+    let lines = PING_TRACE.repeat(rt.alloc(), 3).expect(&rt, "memory");
+    let steps = steps_read(&rt, lines.as_bytes()).expect(&rt, "steps");
+    assert!(rt; steps.len() == 24);
+    assert!(rt; written(&rt, steps.as_slice()).as_slice() == lines.as_bytes());
 }
 
 // The ports of four processors.
@@ -138,17 +139,16 @@ fn four_ports(rt: &HostRuntime) -> Result<Vec<Port>, NoMemory> {
 }
 
 #[test]
-fn a_fabric_is_made(rt: HostRuntime) -> Result<(), Fail> {
-    let mut ports = four_ports(&rt)?;
+fn a_fabric_is_made(rt: HostRuntime) {
+    let mut ports = four_ports(&rt).expect(&rt, "ports");
     assert!(rt; ports.len() == 4 && send(&mut ports[3], 0, 5));
     ports[3].flush();
     assert!(rt; gives(&mut ports[0], 3, 5));
-    Ok(())
 }
 
 // Whether room for a letter is made, by a second call if memory was refused, and the letter is
 // posted.
-fn is_posted(rt: &HostRuntime, poster: &mut Port, stamp: u64) -> bool {
+fn is_posted<R: Print>(rt: &R, poster: &mut Port, stamp: u64) -> bool {
     call_begins(rt, "reserve");
     let made = poster.reserve();
     call_ends(rt);
@@ -156,21 +156,30 @@ fn is_posted(rt: &HostRuntime, poster: &mut Port, stamp: u64) -> bool {
     is_made && poster.has_room(1) && send(poster, 1, stamp)
 }
 
-// Twenty letters are posted, with room made for each. What was posted before is still there.
-#[test]
-fn room_for_letters_is_made(rt: HostRuntime) -> Result<(), Fail> {
-    let mut ports = fabric(rt.alloc(), 2, 1)?;
-    let mut receiver = ports.pop().ok_or("a port")?;
-    let mut poster = ports.pop().ok_or("a port")?;
+// Twenty letters are posted, with room made for each.
+fn post_twenty<R: Abort + Print>(rt: &R, poster: &mut Port) {
     for stamp in 0..20 {
-        assert!(rt; is_posted(&rt, &mut poster, stamp));
+        assert!(rt; is_posted(rt, poster, stamp));
     }
+}
+
+// Twenty letters come, in the order in which they were posted, and no other.
+fn take_twenty<R: Abort>(rt: &R, poster: &mut Port, receiver: &mut Port) {
     for stamp in 0..20 {
         poster.flush();
-        assert!(rt; gives(&mut receiver, 0, stamp));
+        assert!(rt; gives(receiver, 0, stamp));
     }
     assert!(rt; receiver.take().is_none());
-    Ok(())
+}
+
+// What was posted before is still there.
+#[test]
+fn room_for_letters_is_made(rt: HostRuntime) {
+    let mut ports = fabric(rt.alloc(), 2, 1).expect(&rt, "memory");
+    let mut receiver = ports.pop().expect(&rt, "a port");
+    let mut poster = ports.pop().expect(&rt, "a port");
+    post_twenty(&rt, &mut poster);
+    take_twenty(&rt, &mut poster, &mut receiver);
 }
 
 // What is under way between ports, looked for again if memory was refused.

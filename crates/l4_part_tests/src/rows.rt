@@ -29,18 +29,27 @@ use l4_types::messages::Message;
 use l4_types::owed::Owed;
 use l4_types::steps::{Delivery, Event, Name, OrderKind, Step};
 use l4_words::spelling::{push_name, push_thread};
-use std::alloc::{AllocError, Global};
+use std::alloc::Global;
+use std::process::Abort;
 use std::str;
-use std::test::Fail;
 
 // A thread, as `1.1`.
-fn id(word: &str) -> Option<GlobalId> {
-    l4_words::threads::thread(word.as_bytes())
+fn id<R: Abort>(rt: &R, word: &str) -> GlobalId {
+    l4_words::threads::thread(word.as_bytes()).expect(rt, "a thread")
 }
 
 // The name of a send, as `1.1#1`.
-fn name(word: &str) -> Option<Name> {
-    l4_words::names::name(word.as_bytes())
+fn name<R: Abort>(rt: &R, word: &str) -> Name {
+    l4_words::names::name(word.as_bytes()).expect(rt, "a send")
+}
+
+fn number<R: Abort>(rt: &R, word: &str) -> u64 {
+    word.parse().expect(rt, "a number")
+}
+
+// The first word of a line, and the others.
+fn split<'a, R: Abort>(rt: &R, words: &'a str) -> (&'a str, &'a str) {
+    words.split_once(' ').expect(rt, "another word")
 }
 
 fn decision(word: &str) -> Option<Decision> {
@@ -74,67 +83,80 @@ fn what(word: &str) -> Option<OrderKind> {
 }
 
 // The delivery of a line of a trace.
-fn delivery(alloc: Global, line: &str) -> Result<Option<Delivery>, Fail> {
-    let line = format!(in alloc; "{line}\n")?;
-    let mut steps = read_events(alloc, line.as_bytes())?;
+fn delivery<R: AllocGlobal + Abort>(rt: &R, line: &str) -> Delivery {
+    let line = format!(in rt.alloc(); "{line}\n").expect(rt, "memory");
+    let mut steps = read_events(rt.alloc(), line.as_bytes()).expect(rt, "a line of a trace");
     match steps.pop() {
-        Some(Step::Deliver(delivery)) => Ok(Some(delivery)),
-        _ => Ok(None),
+        Some(Step::Deliver(delivery)) => delivery,
+        _ => panic!(rt; "no delivery: {line}"),
     }
 }
 
-fn done(words: &str) -> Option<Content> {
-    let (send, how) = words.split_once(' ')?;
-    Some(Content::Done {
-        name: name(send)?,
-        decision: decision(how)?,
+fn done<R: Abort>(rt: &R, words: &str) -> Content {
+    let (send, how) = split(rt, words);
+    Content::Done {
+        name: name(rt, send),
+        decision: decision(how).expect(rt, "a decision"),
+    }
+}
+
+fn withdraw<R: Abort>(rt: &R, words: &str) -> Content {
+    let (send, words) = split(rt, words);
+    let (receiver, why) = split(rt, words);
+    Content::Withdraw {
+        name: name(rt, send),
+        receiver: id(rt, receiver),
+        cause: cause(why).expect(rt, "a cause"),
+    }
+}
+
+fn order<R: Abort>(rt: &R, words: &str) -> Content {
+    let (caller, words) = split(rt, words);
+    let (target, asked) = split(rt, words);
+    Content::Order {
+        caller: id(rt, caller),
+        target: id(rt, target),
+        what: what(asked).expect(rt, "an order"),
+    }
+}
+
+fn retarget<R: Abort>(rt: &R, words: &str) -> Content {
+    let (send, words) = split(rt, words);
+    let (originator, words) = split(rt, words);
+    let (old_partner, new_partner) = split(rt, words);
+    Content::Retarget(Owed {
+        send: name(rt, send),
+        originator: id(rt, originator),
+        old_partner: id(rt, old_partner),
+        new_partner: id(rt, new_partner),
     })
 }
 
-fn withdraw(words: &str) -> Option<Content> {
-    let (send, words) = words.split_once(' ')?;
-    let (receiver, why) = words.split_once(' ')?;
-    Some(Content::Withdraw {
-        name: name(send)?,
-        receiver: id(receiver)?,
-        cause: cause(why)?,
-    })
-}
-
-fn order(words: &str) -> Option<Content> {
-    let (caller, words) = words.split_once(' ')?;
-    let (target, asked) = words.split_once(' ')?;
-    Some(Content::Order {
-        caller: id(caller)?,
-        target: id(target)?,
-        what: what(asked)?,
-    })
-}
-
-fn retarget(words: &str) -> Option<Content> {
-    let (send, words) = words.split_once(' ')?;
-    let (originator, words) = words.split_once(' ')?;
-    let (old_partner, new_partner) = words.split_once(' ')?;
-    Some(Content::Retarget(Owed {
-        send: name(send)?,
-        originator: id(originator)?,
-        old_partner: id(old_partner)?,
-        new_partner: id(new_partner)?,
-    }))
-}
-
-// The content of a letter with this first word and these other words. None if it is a send that has
-// begun.
-fn told(first: &str, words: &str) -> Option<Content> {
+// The content of a letter with this first word and these other words, but for that of a send that
+// has begun.
+fn told<R: Abort>(rt: &R, first: &str, words: &str) -> Content {
     match first {
-        "done" => done(words),
-        "withdraw" => withdraw(words),
-        "gone" => Some(Content::Gone(id(words)?)),
-        "order" => order(words),
-        "obeyed" => Some(Content::OrderDone(id(words)?)),
-        "retarget" => retarget(words),
-        _ => None,
+        "done" => done(rt, words),
+        "withdraw" => withdraw(rt, words),
+        "gone" => Content::Gone(id(rt, words)),
+        "order" => order(rt, words),
+        "obeyed" => Content::OrderDone(id(rt, words)),
+        "retarget" => retarget(rt, words),
+        _ => panic!(rt; "no letter: {first}"),
     }
+}
+
+// The letter of a send that has begun.
+fn read_send<R: AllocGlobal + Abort>(rt: &R, stamp: u64, line: &str, zero_timeout: bool) -> Letter {
+    let delivery = delivery(rt, line);
+    let content = Content::Send {
+        name: delivery.name,
+        receiver: delivery.receiver,
+        message: MessageRef::from(&delivery.message).head(),
+        zero_timeout,
+    };
+    let head = LetterHead { stamp, content };
+    Letter::new(head, delivery.message.words()).expect(rt, "a letter with its message")
 }
 
 // A letter with this stamp:
@@ -147,84 +169,84 @@ fn told(first: &str, words: &str) -> Option<Content> {
 //     order CALLER TARGET WHAT
 //     obeyed CALLER
 //     retarget SEND ORIGINATOR OLD NEW
-fn read_letter(alloc: Global, stamp: u64, text: &str) -> Result<Letter, Fail> {
-    let (first, words) = text.split_once(' ').ok_or("the words of a letter")?;
-    if first != "waits" && first != "now" {
-        let content = told(first, words).ok_or("a letter")?;
-        let head = LetterHead { stamp, content };
-        return Ok(Letter::new(head, &[]).ok_or("a letter without a message")?);
+fn read_letter<R: AllocGlobal + Abort>(rt: &R, stamp: u64, text: &str) -> Letter {
+    let (first, words) = split(rt, text);
+    match first {
+        "waits" => read_send(rt, stamp, words, false),
+        "now" => read_send(rt, stamp, words, true),
+        _ => {
+            let content = told(rt, first, words);
+            let head = LetterHead { stamp, content };
+            Letter::new(head, &[]).expect(rt, "a letter without a message")
+        }
     }
-    let delivery = delivery(alloc, words)?.ok_or("a line of a delivery")?;
-    let content = Content::Send {
-        name: delivery.name,
-        receiver: delivery.receiver,
-        message: MessageRef::from(&delivery.message).head(),
-        zero_timeout: first == "now",
-    };
-    let head = LetterHead { stamp, content };
-    Ok(Letter::new(head, delivery.message.words()).ok_or("a letter with its message")?)
+}
+
+fn push_word<R: Abort>(rt: &R, out: &mut String, word: &str) {
+    out.push_str(word).expect(rt, "memory");
 }
 
 // Appends the line of a step.
-fn push_step(alloc: Global, out: &mut String, step: &Step) -> Result<(), Fail> {
-    let mut line = Vec::new(alloc);
-    write_event(step, &mut line)?;
-    out.push_str(str::from_utf8(line.as_slice())?)?;
-    Ok(())
+fn push_step<R: AllocGlobal + Abort>(rt: &R, out: &mut String, step: &Step) {
+    let mut line = Vec::new(rt.alloc());
+    write_event(step, &mut line).expect(rt, "memory");
+    push_word(rt, out, str::from_utf8(line.as_slice()).expect(rt, "text"));
 }
 
 // Appends the delivery that a letter of a send leads to.
-fn push_send(
-    alloc: Global,
+fn push_send<R: AllocGlobal + Abort>(
+    rt: &R,
     out: &mut String,
     name: Name,
     receiver: GlobalId,
     message: Message,
-) -> Result<(), Fail> {
+) {
     let delivery = Delivery {
         name,
         receiver,
         message,
         cross: false,
     };
-    push_step(alloc, out, &Step::Deliver(delivery))
+    push_step(rt, out, &Step::Deliver(delivery));
 }
 
-// Appends a word, the name of a send if there is one, and threads.
-fn push_told(
-    out: &mut String,
-    word: &str,
-    send: Option<Name>,
-    threads: &[GlobalId],
-) -> Result<(), AllocError> {
-    out.push_str(word)?;
-    if let Some(name) = send {
-        push_name(out, name)?;
-    }
+fn push_id<R: Abort>(rt: &R, out: &mut String, thread: GlobalId) {
+    push_thread(out, thread).expect(rt, "memory");
+}
+
+// Appends a word and threads.
+fn push_of_threads<R: Abort>(rt: &R, out: &mut String, word: &str, threads: &[GlobalId]) {
+    push_word(rt, out, word);
     for thread in threads {
-        push_thread(out, *thread)?;
+        push_id(rt, out, *thread);
     }
-    Ok(())
+}
+
+// Appends a word, the name of a send and threads.
+fn push_of_send<R: Abort>(rt: &R, out: &mut String, word: &str, send: Name, threads: &[GlobalId]) {
+    push_word(rt, out, word);
+    push_name(out, send).expect(rt, "memory");
+    push_of_threads(rt, out, "", threads);
 }
 
 // Appends the content of a letter, but for its last word and the end of the line.
-fn push_subject(out: &mut String, content: &Content) -> Result<(), AllocError> {
+fn push_subject<R: Abort>(rt: &R, out: &mut String, content: &Content) {
     match content {
         Content::Send { zero_timeout, .. } => {
-            out.push_str(if *zero_timeout { "now " } else { "waits " })
+            push_word(rt, out, if *zero_timeout { "now " } else { "waits " })
         }
-        Content::Done { name, .. } => push_told(out, "done", Some(*name), &[]),
+        Content::Done { name, .. } => push_of_send(rt, out, "done", *name, &[]),
         Content::Withdraw { name, receiver, .. } => {
-            push_told(out, "withdraw", Some(*name), &[*receiver])
+            push_of_send(rt, out, "withdraw", *name, &[*receiver])
         }
-        Content::Gone(thread) => push_told(out, "gone", None, &[*thread]),
+        Content::Gone(thread) => push_of_threads(rt, out, "gone", &[*thread]),
         Content::Order { caller, target, .. } => {
-            push_told(out, "order", None, &[*caller, *target])
+            push_of_threads(rt, out, "order", &[*caller, *target])
         }
-        Content::OrderDone(caller) => push_told(out, "obeyed", None, &[*caller]),
+        Content::OrderDone(caller) => push_of_threads(rt, out, "obeyed", &[*caller]),
         Content::Retarget(owed) => {
             let threads = [owed.originator, owed.old_partner, owed.new_partner];
-            push_told(out, "retarget", Some(owed.send), &threads)
+            push_of_send(rt, out, "retarget", owed.send, &threads)
         }
     }
 }
@@ -268,9 +290,9 @@ fn last_word(content: &Content) -> &'static str {
 }
 
 // Appends the line of a letter's content, spelled as it is read.
-fn push_content(alloc: Global, out: &mut String, letter: &LetterRef<'_>) -> Result<(), Fail> {
+fn push_content<R: AllocGlobal + Abort>(rt: &R, out: &mut String, letter: &LetterRef<'_>) {
     let (head, words) = letter.parts();
-    push_subject(out, &head.content)?;
+    push_subject(rt, out, &head.content);
     if let Content::Send {
         name,
         receiver,
@@ -279,52 +301,56 @@ fn push_content(alloc: Global, out: &mut String, letter: &LetterRef<'_>) -> Resu
     } = &head.content
     {
         let message = message.with(words).to_message();
-        return push_send(alloc, out, *name, *receiver, message);
+        return push_send(rt, out, *name, *receiver, message);
     }
-    out.push_str(last_word(&head.content))?;
-    Ok(out.push_str("\n")?)
+    push_word(rt, out, last_word(&head.content));
+    push_word(rt, out, "\n");
 }
 
 // Appends the letters that an event posts.
-fn push_letters(alloc: Global, out: &mut String, letters: &[(u8, Letter)]) -> Result<(), Fail> {
+fn push_letters<R: AllocGlobal + Abort>(rt: &R, out: &mut String, letters: &[(u8, Letter)]) {
     for (cpu, letter) in letters {
-        write!(out, "  to {cpu} at {} ", letter.stamp())?;
-        push_content(alloc, out, &letter.borrowed())?;
+        write!(out, "  to {cpu} at {} ", letter.stamp()).expect(rt, "memory");
+        push_content(rt, out, &letter.borrowed());
     }
-    Ok(())
+}
+
+// Appends the steps of an event.
+fn push_steps<R: AllocGlobal + Abort>(rt: &R, out: &mut String, steps: &[Step]) {
+    for step in steps {
+        push_word(rt, out, "  ");
+        push_step(rt, out, step);
+    }
 }
 
 // Appends the steps and letters of an event.
-fn push_event(
-    alloc: Global,
+fn push_event<R: AllocGlobal + Abort>(
+    rt: &R,
     out: &mut String,
     event: &Event,
     letters: &[(u8, Letter)],
-) -> Result<(), Fail> {
-    writeln!(out, "  at {}", event.stamp)?;
-    for step in &event.steps {
-        out.push_str("  ")?;
-        push_step(alloc, out, step)?;
-    }
-    push_letters(alloc, out, letters)
+) {
+    writeln!(out, "  at {}", event.stamp).expect(rt, "memory");
+    push_steps(rt, out, event.steps.as_slice());
+    push_letters(rt, out, letters);
 }
 
 // Appends why nothing was done.
-fn push_fault(out: &mut String, fault: Fault) -> Result<(), Fail> {
-    Ok(writeln!(out, "  {fault:?}")?)
+fn push_fault<R: Abort>(rt: &R, out: &mut String, fault: Fault) {
+    writeln!(out, "  {fault:?}").expect(rt, "memory");
 }
 
 // Appends what a processor does with a letter.
-fn push_handled(
-    alloc: Global,
+fn push_handled<R: AllocGlobal + Abort>(
+    rt: &R,
     out: &mut String,
     core: &mut Core<'_>,
     letter: &str,
-) -> Result<(), Fail> {
-    let (stamp, text) = letter.split_once(' ').ok_or("a stamp")?;
-    match core.handle(&read_letter(alloc, stamp.parse()?, text)?) {
-        Ok((event, letters)) => push_event(alloc, out, &event, letters.as_slice()),
-        Err(fault) => push_fault(out, fault),
+) {
+    let (stamp, text) = split(rt, letter);
+    match core.handle(&read_letter(rt, number(rt, stamp), text)) {
+        Ok((event, letters)) => push_event(rt, out, &event, letters.as_slice()),
+        Err(fault) => push_fault(rt, out, fault),
     }
 }
 
@@ -337,54 +363,64 @@ fn next_turn(core: &mut Core<'_>) -> Option<Turn> {
 }
 
 // Appends what the next turn does.
-fn push_turn(alloc: Global, out: &mut String, core: &mut Core<'_>) -> Result<(), Fail> {
+fn push_turn<R: AllocGlobal + Abort>(rt: &R, out: &mut String, core: &mut Core<'_>) {
     match next_turn(core) {
-        Some(Turn::Did { event, letters }) => push_event(alloc, out, &event, letters.as_slice()),
-        Some(Turn::Idle) => Ok(out.push_str("  idle\n")?),
-        None => push_fault(out, Fault::Stamp),
+        Some(Turn::Did { event, letters }) => push_event(rt, out, &event, letters.as_slice()),
+        Some(Turn::Idle) => push_word(rt, out, "  idle\n"),
+        None => push_fault(rt, out, Fault::Stamp),
     }
 }
 
+// Appends what a processor does when its clock advances.
+fn push_advanced<R: AllocGlobal + Abort>(
+    rt: &R,
+    out: &mut String,
+    core: &mut Core<'_>,
+    clock: u64,
+) {
+    match core.advance(clock) {
+        Ok(event) => push_event(rt, out, &event, &[]),
+        Err(fault) => push_fault(rt, out, fault),
+    }
+}
+
+// Appends how a processor stands.
+fn push_standing<R: Abort>(rt: &R, out: &mut String, core: &Core<'_>) {
+    let busy = if core.busy() { "busy" } else { "done" };
+    let deadline = core.least_deadline();
+    writeln!(out, "  {busy} {} {deadline:?}", core.clock()).expect(rt, "memory");
+}
+
 /// Appends the answer to a question.
-pub(crate) fn push_answer(
-    alloc: Global,
+pub(crate) fn push_answer<R: AllocGlobal + Abort>(
+    rt: &R,
     out: &mut String,
     core: &mut Core<'_>,
     question: &str,
-) -> Result<(), Fail> {
+) {
     let (word, rest) = question.split_once(' ').unwrap_or((question, ""));
     match word {
-        "turn" => push_turn(alloc, out, core),
-        "letter" => push_handled(alloc, out, core, rest),
-        "advance" => match core.advance(rest.parse()?) {
-            Ok(event) => push_event(alloc, out, &event, &[]),
-            Err(fault) => push_fault(out, fault),
-        },
-        "stands" => {
-            let busy = if core.busy() { "busy" } else { "done" };
-            let deadline = core.least_deadline();
-            Ok(writeln!(out, "  {busy} {} {deadline:?}", core.clock())?)
+        "turn" => push_turn(rt, out, core),
+        "letter" => push_handled(rt, out, core, rest),
+        "advance" => push_advanced(rt, out, core, number(rt, rest)),
+        "stands" => push_standing(rt, out, core),
+        "#" => {}
+        "can" => {
+            let can = core.can_stamp(number(rt, rest));
+            writeln!(out, "  {can}").expect(rt, "memory");
         }
-        "#" => Ok(()),
-        "can" => Ok(writeln!(out, "  {}", core.can_stamp(rest.parse()?))?),
-        _ => Err("no question".into()),
+        _ => panic!(rt; "no question: {question}"),
     }
 }
 
 // Appends the questions of these rows, each with the answer that it gets.
-fn push_answers(
-    alloc: Global,
-    out: &mut String,
-    core: &mut Core<'_>,
-    rows: &str,
-) -> Result<(), Fail> {
+fn push_answers<R: AllocGlobal + Abort>(rt: &R, out: &mut String, core: &mut Core<'_>, rows: &str) {
     for row in rows.lines() {
         if !row.is_empty() && !row.starts_with(' ') {
-            writeln!(out, "{row}")?;
-            push_answer(alloc, out, core, row)?;
+            writeln!(out, "{row}").expect(rt, "memory");
+            push_answer(rt, out, core, row);
         }
     }
-    Ok(())
 }
 
 /// The processor of this number. None if the machine has none, or memory is refused.
@@ -396,50 +432,42 @@ pub(crate) fn processor_of<'m>(alloc: Global, machine: &'m Machine, cpu: u8) -> 
 }
 
 // The processor that a first row names.
-fn named<'m>(alloc: Global, machine: &'m Machine, row: &str) -> Result<Core<'m>, Fail> {
-    let cpu = row.strip_prefix("cpu ").ok_or("a first row")?.parse()?;
-    Ok(processor_of(alloc, machine, cpu).ok_or("a processor")?)
+fn named<'m, R: AllocGlobal + Abort>(rt: &R, machine: &'m Machine, row: &str) -> Core<'m> {
+    let cpu = row.strip_prefix("cpu ").expect(rt, "a first row");
+    let cpu = cpu.parse().expect(rt, "a number");
+    processor_of(rt.alloc(), machine, cpu).expect(rt, "a processor")
 }
 
 // The questions of these rows, each with the answer that it gets.
-fn answered(alloc: Global, machine: &Machine, rows: &str) -> Result<String, Fail> {
-    let (first, rows) = rows.split_once('\n').ok_or("a first row")?;
-    let mut core = named(alloc, machine, first)?;
-    let mut out = format!(in alloc; "{first}\n")?;
-    push_answers(alloc, &mut out, &mut core, rows)?;
-    Ok(out)
+fn answered<R: AllocGlobal + Abort>(rt: &R, machine: &Machine, rows: &str) -> String {
+    let (first, rows) = rows.split_once('\n').expect(rt, "a first row");
+    let mut core = named(rt, machine, first);
+    let mut out = format!(in rt.alloc(); "{first}\n").expect(rt, "memory");
+    push_answers(rt, &mut out, &mut core, rows);
+    out
 }
 
-// Whether the machine answers the questions of these rows as the rows say. Prints them if not.
-fn is_answered<R: AllocGlobal + Print>(
-    rt: &R,
-    machine: &Machine,
-    wanted: &str,
-) -> Result<bool, Fail> {
-    let said = answered(rt.alloc(), machine, wanted)?;
-    if said.as_str().trim_end() == wanted.trim_end() {
-        return Ok(true);
+// The machine answers the questions of these rows as the rows say.
+fn ask_rows<R: AllocGlobal + Abort>(rt: &R, machine: &Machine, wanted: &str) {
+    let said = answered(rt, machine, wanted);
+    let is_wanted = said.as_str().trim_end() == wanted.trim_end();
+    assert!(rt; is_wanted, "wanted:\n{wanted}\nanswered:\n{said}");
+}
+
+// The machine answers the questions of a section as it says, with each of its alternatives.
+fn ask_section<R: AllocGlobal + Abort>(rt: &R, machine: &Machine, section: &str) {
+    let (before, alternatives) = section.split_once("\n? ").unwrap_or((section, ""));
+    for alternative in alternatives.split("\n? ") {
+        let wanted = format!(in rt.alloc(); "{before}\n{alternative}").expect(rt, "memory");
+        ask_rows(rt, machine, wanted.as_str());
     }
-    println!(rt; "wanted:\n{wanted}\nanswered:\n{said}")?;
-    Ok(false)
 }
 
-/// Whether the machine of a text answers the questions of these rows as the rows say. An empty row
-/// ends a section; each section is asked by itself.
-pub(crate) fn are_answered<R: AllocGlobal + Print>(
-    rt: &R,
-    text: &str,
-    rows: &str,
-) -> Result<bool, Fail> {
-    let machine = Machine::parse(rt.alloc(), text.as_bytes())?;
+/// The machine of a text answers the questions of these rows as the rows say. An empty row ends a
+/// section; each section is asked by itself.
+pub(crate) fn ask<R: AllocGlobal + Abort>(rt: &R, text: &str, rows: &str) {
+    let machine = Machine::parse(rt.alloc(), text.as_bytes()).expect(rt, "a machine");
     for section in rows.split("\n\n") {
-        let (before, alternatives) = section.split_once("\n? ").unwrap_or((section, ""));
-        for alternative in alternatives.split("\n? ") {
-            let wanted = format!(in rt.alloc(); "{before}\n{alternative}")?;
-            if !is_answered(rt, &machine, wanted.as_str())? {
-                return Ok(false);
-            }
-        }
+        ask_section(rt, &machine, section);
     }
-    Ok(true)
 }

@@ -1,7 +1,6 @@
 // Processors by themselves, asked by hand.
-use crate::rows::are_answered;
+use crate::rows::ask;
 use l4_samples::ACROSS;
-use std::test::Fail;
 
 // Two processors. The first has a thread that calls, one that sends, one that orders and one that
 // goes on for ever. The second has two threads without a script.
@@ -53,9 +52,8 @@ stands
 ";
 
 #[test]
-fn a_processor_waits_for_its_clock(rt: HostRuntime) -> Result<(), Fail> {
-    assert!(rt; are_answered(&rt, TIMED, WAITS_FOR_ITS_CLOCK)?);
-    Ok(())
+fn a_processor_waits_for_its_clock(rt: HostRuntime) {
+    ask(&rt, TIMED, WAITS_FOR_ITS_CLOCK);
 }
 
 // Clocks and stamps are below 2^62. In the second section a processor is as busy as it can be. It
@@ -114,9 +112,8 @@ advance 0
 ";
 
 #[test]
-fn clocks_and_stamps_end_below_two_to_the_62nd(rt: HostRuntime) -> Result<(), Fail> {
-    assert!(rt; are_answered(&rt, BUSY, CLOCKS_AND_STAMPS_END)?);
-    Ok(())
+fn clocks_and_stamps_end_below_two_to_the_62nd(rt: HostRuntime) {
+    ask(&rt, BUSY, CLOCKS_AND_STAMPS_END);
 }
 
 // In the first section a processor of its own handles each letter. The stamp is one more than those
@@ -265,9 +262,8 @@ turn
 ";
 
 #[test]
-fn each_lawful_letter_has_its_steps_and_its_answers(rt: HostRuntime) -> Result<(), Fail> {
-    assert!(rt; are_answered(&rt, BUSY, LETTERS_ARE_ANSWERED)?);
-    Ok(())
+fn each_lawful_letter_has_its_steps_and_its_answers(rt: HostRuntime) {
+    ask(&rt, BUSY, LETTERS_ARE_ANSWERED);
 }
 
 // A thread begins a send to another processor, waits for the end of the send, and learns of it. On
@@ -362,8 +358,7 @@ stands
 ";
 
 #[test]
-fn processors_talk_by_letters(rt: HostRuntime) -> Result<(), Fail> {
-    assert!(rt; are_answered(&rt, ACROSS, TWO_PROCESSORS_TALK)?);
-    assert!(rt; are_answered(&rt, HOSTILE, TWO_DELETIONS_MEET)?);
-    Ok(())
+fn processors_talk_by_letters(rt: HostRuntime) {
+    ask(&rt, ACROSS, TWO_PROCESSORS_TALK);
+    ask(&rt, HOSTILE, TWO_DELETIONS_MEET);
 }

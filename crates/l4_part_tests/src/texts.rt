@@ -3,6 +3,7 @@ use l4_samples::PING;
 use l4_script::machine::Machine;
 use l4_script::text::{TextFault, TextFaultKind};
 use std::alloc::Global;
+use std::process::Abort;
 
 // Where the lines of the text end.
 const LINE_ENDS: [usize; 8] = [8, 15, 40, 49, 61, 85, 110, 134];
@@ -40,14 +41,21 @@ fn names_its_line(alloc: Global, place: usize, line: usize, is_start: bool) -> b
     fault_with_return_at(alloc, place) == bad_line(line) && fault_of(alloc, beginning) == cut
 }
 
+// Tries all bytes of this line.
+fn try_line<R: AllocGlobal + Abort>(rt: &R, line: usize, start: usize, end: usize) {
+    for place in start..end {
+        assert!(rt;
+            names_its_line(rt.alloc(), place, line, place == start),
+            "{place}"
+        );
+    }
+}
+
 #[test]
 fn a_text_that_is_cut_or_spoilt_names_the_line(rt: HostRuntime) {
     let mut start = 0;
     for (number, end) in LINE_ENDS.iter().enumerate() {
-        for place in start..*end {
-            let is_named = names_its_line(rt.alloc(), place, number + 1, place == start);
-            assert!(rt; is_named, "{place}");
-        }
+        try_line(&rt, number + 1, start, *end);
         start = *end;
     }
     assert!(rt; PING.len() == start && fault_of(rt.alloc(), PING.as_bytes()).is_none());

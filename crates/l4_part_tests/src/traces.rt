@@ -6,6 +6,7 @@ use l4_types::ids::GlobalId;
 use l4_types::messages::Message;
 use l4_types::steps::{Delivery, Name, OrderKind, Step, Tick};
 use std::alloc::{AllocError, Global};
+use std::process::Abort;
 
 // Lines of most kinds, with the least and the greatest numbers.
 const LINES: &str = "deliver 2.65#18446744073709551615 1.1 1.1 2.65 55002 0 ffffffffffffffff
@@ -24,7 +25,7 @@ obey 1.1
 tick 15 4611686018427387903
 ";
 
-// The delivery of the last send of a thread.
+// The delivery of the last send of a thread. None where an id or a label is too large.
 fn delivered(
     sender: GlobalId,
     receiver: GlobalId,
@@ -39,21 +40,26 @@ fn delivered(
     }))
 }
 
+fn order(caller: GlobalId, target: GlobalId, what: OrderKind) -> Step {
+    Step::Order {
+        caller,
+        target,
+        what,
+    }
+}
+
 // The steps of the lines.
 fn steps_of_lines() -> Option<[Step; 14]> {
     let one = GlobalId::new(1, 1)?;
     let two = GlobalId::new(2, 65)?;
     let send = Name::new(two, u64::MAX)?;
-    let order = |what| Step::Order {
-        caller: one,
-        target: two,
-        what,
-    };
+    let tick = Tick::new(15, (1 << 62) - 1)?;
     let mut words = ArrayVec::new();
     words.push(0);
     words.push(u64::MAX);
+    let delivered = delivered(two, one, 5, words)?;
     Some([
-        delivered(two, one, 5, words)?,
+        delivered,
         Step::SendTimeout(send),
         Step::ReceiveTimeout(one),
         Step::SendNobody(send),
@@ -61,26 +67,26 @@ fn steps_of_lines() -> Option<[Step; 14]> {
         Step::SendCancel(send),
         Step::ReceiveCancel(one),
         Step::Drop(send),
-        order(OrderKind::CancelSend),
-        order(OrderKind::CancelReceive),
-        order(OrderKind::CancelBoth),
-        order(OrderKind::Delete),
+        order(one, two, OrderKind::CancelSend),
+        order(one, two, OrderKind::CancelReceive),
+        order(one, two, OrderKind::CancelBoth),
+        order(one, two, OrderKind::Delete),
         Step::Obey(one),
-        Step::Tick(Tick::new(15, (1 << 62) - 1)?),
+        Step::Tick(tick),
     ])
 }
 
 // Whether the lines are read as these steps, and these are written as the lines.
-fn are_lines_of(alloc: Global, lines: &str, steps: &[Step]) -> Option<bool> {
-    let read = read_events(alloc, lines.as_bytes()).ok()?;
-    let written = trace(alloc, steps).ok()?;
-    Some(read.as_slice() == steps && written.as_slice() == lines.as_bytes())
+fn are_lines_of<R: AllocGlobal + Abort>(rt: &R, lines: &str, steps: &[Step]) -> bool {
+    let read = read_events(rt.alloc(), lines.as_bytes()).expect(rt, "steps");
+    let written = trace(rt.alloc(), steps).expect(rt, "lines");
+    read.as_slice() == steps && written.as_slice() == lines.as_bytes()
 }
 
 #[test]
 fn each_kind_of_step_is_read_and_written(rt: HostRuntime) {
     let steps = steps_of_lines().expect(&rt, "steps");
-    assert!(rt; are_lines_of(rt.alloc(), LINES, &steps) == Some(true));
+    assert!(rt; are_lines_of(&rt, LINES, &steps));
 }
 
 // The delivery of the longest line.
@@ -98,12 +104,9 @@ fn longest_line(alloc: Global) -> Result<String, AllocError> {
     )
 }
 
-fn is_longest_line(alloc: Global) -> Option<bool> {
-    let line = longest_line(alloc).ok()?;
-    are_lines_of(alloc, line.as_str(), &[longest_delivery()?])
-}
-
 #[test]
 fn the_longest_line_is_read_and_written(rt: HostRuntime) {
-    assert!(rt; is_longest_line(rt.alloc()) == Some(true));
+    let line = longest_line(rt.alloc()).expect(&rt, "memory");
+    let step = longest_delivery().expect(&rt, "a step");
+    assert!(rt; are_lines_of(&rt, line.as_str(), &[step]));
 }

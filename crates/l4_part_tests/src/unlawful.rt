@@ -1,8 +1,7 @@
 // Letters that are not lawful for the processor that they come to. The processor refuses each, and
 // goes on as one that was not asked.
-use crate::rows::are_answered;
+use crate::rows::ask;
 use crate::sessions::BUSY;
-use std::test::Fail;
 
 const IN_PROFILE_1: &str = "cpu 0
 turn
@@ -368,9 +367,10 @@ turn
 ";
 
 #[test]
-fn letters_that_are_not_lawful_are_refused(rt: HostRuntime) -> Result<(), Fail> {
-    assert!(rt; are_answered(&rt, BUSY, IN_PROFILE_1)?);
-    let profile_2 = BUSY.replacen(rt.alloc(), "l4 1", "l4 2", 1)?;
-    assert!(rt; are_answered(&rt, profile_2.as_str(), IN_PROFILE_2)?);
-    Ok(())
+fn letters_that_are_not_lawful_are_refused(rt: HostRuntime) {
+    ask(&rt, BUSY, IN_PROFILE_1);
+    let profile_2 = BUSY
+        .replacen(rt.alloc(), "l4 1", "l4 2", 1)
+        .expect(&rt, "memory");
+    ask(&rt, profile_2.as_str(), IN_PROFILE_2);
 }

@@ -11,18 +11,21 @@ use l4_types::tags::{MsgTag, TagFault};
 use l4_types::times::{Period, time_of, timeouts};
 use std::alloc::AllocError;
 
-fn id_has_its_word() -> Option<bool> {
-    let id = GlobalId::new(2, 65)?;
+#[test]
+fn an_id_has_its_word(rt: HostRuntime) {
+    let id = GlobalId::new(2, 65).expect(&rt, "an id");
     let same = ThreadId::from_raw(8589934657);
     let (number, version) = (id.number(), id.version());
-    let words = [id.id().raw(), ThreadId::from(id).raw()];
-    let is_same = same.as_global() == Some(id) && ThreadId::global(2, 65) == Some(same);
-    Some(words == [8589934657; 2] && is_same && same.kind() == Kind::Global { number, version })
+    assert!(rt; [id.id().raw(), ThreadId::from(id).raw()] == [8589934657; 2]);
+    assert!(rt; [same.as_global(), GlobalId::new(4294967295, 4294967295)] == [Some(id), None]);
+    assert!(rt; ThreadId::global(2, 65) == Some(same));
+    assert!(rt; same.kind() == Kind::Global { number, version });
 }
 
-fn tags_have_their_words() -> Option<bool> {
-    let tag = MsgTag::new(7, 1, false)?;
-    let asking = MsgTag::new(5, 1, true)?;
+#[test]
+fn tags_have_their_words(rt: HostRuntime) {
+    let tag = MsgTag::new(7, 1, false).expect(&rt, "a tag");
+    let asking = MsgTag::new(5, 1, true).expect(&rt, "a tag that asks");
     let words = [
         tag.raw(),
         tag.received(true, false).raw(),
@@ -30,53 +33,62 @@ fn tags_have_their_words() -> Option<bool> {
         asking.received(false, true).raw(),
         asking.received(false, false).raw(),
     ];
-    let is_asking = asking.label() == 5 && asking.untyped() == 1 && asking.propagate();
-    let is_read = MsgTag::from_raw(0x51001) == Ok(asking);
-    Some(words == [0x70001, 0x74001, 0x51001, 0x51001, 0x50001] && is_asking && is_read)
-}
-
-#[test]
-fn ids_and_tags_have_their_words(rt: HostRuntime) {
-    assert!(rt; id_has_its_word() == Some(true));
-    assert!(rt; GlobalId::new(4294967295, 4294967295).is_none());
-    assert!(rt; tags_have_their_words() == Some(true));
-    assert!(rt; MsgTag::from_raw(0x41) == Err(TagFault::TypedItems));
+    assert!(rt; words == [0x70001, 0x74001, 0x51001, 0x51001, 0x50001]);
+    assert!(rt; (asking.label(), asking.untyped(), asking.propagate()) == (5, 1, true));
+    let read = [MsgTag::from_raw(0x51001), MsgTag::from_raw(0x41)];
+    assert!(rt; read == [Ok(asking), Err(TagFault::TypedItems)]);
 }
 
 #[test]
 fn ids_have_their_words_of_32_bits(rt: HostRuntime) {
-    let id = ThreadId::global_in(Format::W32, 262143, 16382).expect(&rt, "a global id");
-    assert!(rt; id.raw_in(Format::W32) == Some(0xffff_fffe));
-    assert!(rt; ThreadId::from_raw_in(Format::W32, 0xffff_fffe) == Some(id));
-    assert!(rt; ThreadId::from_raw_in(Format::W64, id.raw()) == Some(id));
-    assert!(rt; ThreadId::from_raw_in(Format::W32, 0x8041) == ThreadId::global(2, 65));
-    assert!(rt; ThreadId::from_raw_in(Format::W32, 0x1_0000_0001).is_none());
-    assert!(rt; ThreadId::global_in(Format::W32, 262143, 16383).is_none());
-    assert!(rt; ThreadId::ANY_LOCAL.raw_in(Format::W32) == Some(0xffff_ffc0));
-    assert!(rt;
-        ThreadId::from_raw(0xffff_ffc0)
-            .raw_in(Format::W32)
-            .is_none()
-    );
+    let format = Format::W32;
+    let id = ThreadId::global_in(format, 262143, 16382).expect(&rt, "a global id");
+    let words = [
+        id.raw_in(format),
+        ThreadId::ANY_LOCAL.raw_in(format),
+        ThreadId::from_raw(0xffff_ffc0).raw_in(format),
+    ];
+    assert!(rt; words == [Some(0xffff_fffe), Some(0xffff_ffc0), None]);
+    let ids = [
+        ThreadId::from_raw_in(format, 0xffff_fffe),
+        ThreadId::from_raw_in(Format::W64, id.raw()),
+        ThreadId::from_raw_in(format, 0x8041),
+        ThreadId::from_raw_in(format, 0x1_0000_0001),
+        ThreadId::global_in(format, 262143, 16383),
+    ];
+    assert!(rt; ids == [Some(id), Some(id), ThreadId::global(2, 65), None, None]);
 }
 
 #[test]
 fn tags_have_their_words_of_32_bits(rt: HostRuntime) {
-    let tag = MsgTag::new_in(Format::W32, 65535, 63, false).expect(&rt, "a tag");
-    assert!(rt; tag.raw() == 0xffff_003f);
-    assert!(rt; MsgTag::from_raw_in(Format::W32, 0xffff_003f) == Ok(tag));
-    assert!(rt; MsgTag::new_in(Format::W32, 65536, 0, false).is_none());
-    assert!(rt; MsgTag::from_raw_in(Format::W32, 0x1_0000_0041) == Err(TagFault::Wide));
-    assert!(rt; MsgTag::from_raw_in(Format::W32, 0x41) == Err(TagFault::TypedItems));
+    let format = Format::W32;
+    let tag = MsgTag::new_in(format, 65535, 63, false).expect(&rt, "a tag");
+    assert!(rt; tag.raw() == 0xffff_003f && MsgTag::new_in(format, 65536, 0, false).is_none());
+    let read = [
+        MsgTag::from_raw_in(format, 0xffff_003f),
+        MsgTag::from_raw_in(format, 0x1_0000_0041),
+        MsgTag::from_raw_in(format, 0x41),
+    ];
+    assert!(rt; read == [Ok(tag), Err(TagFault::Wide), Err(TagFault::TypedItems)]);
 }
 
 // Whether times stand for these periods.
 fn times_have_their_periods() -> bool {
-    time_of(0) == Some(Period::Never)
-        && time_of(0x0400) == Some(Period::Zero)
-        && time_of(0x0c03) == Some(Period::Ticks(24))
-        && time_of(0x7fff) == Some(Period::Ticks(2196875771904))
-        && time_of(0x8000).is_none()
+    let periods = [
+        time_of(0),
+        time_of(0x0400),
+        time_of(0x0c03),
+        time_of(0x7fff),
+        time_of(0x8000),
+    ];
+    periods
+        == [
+            Some(Period::Never),
+            Some(Period::Zero),
+            Some(Period::Ticks(24)),
+            Some(Period::Ticks(2196875771904)),
+            None,
+        ]
 }
 
 fn faults_have_their_codes() -> bool {
@@ -108,32 +120,33 @@ fn long_message(id: GlobalId) -> Option<Message> {
 
 // Whether a message is that of this thread, and its copy is equal.
 fn is_long_message(message: &Message, id: GlobalId) -> bool {
-    message.shown() == id
-        && message.actual() == id
-        && message.copy() == *message
-        && !message.propagated()
-        && message.words().last() == Some(&10)
-        && [message.label(), message.tag().raw()] == [7, 0x7003f]
+    let copy = message.copy();
+    let last = message.words().last().copied();
+    let parts = (
+        message.shown(),
+        message.actual(),
+        message.propagated(),
+        last,
+    );
+    let numbers = [message.label(), message.tag().raw()];
+    parts == (id, id, false, Some(10)) && numbers == [7, 0x7003f] && copy == *message
 }
 
-// Whether the delivery of a long message, the third send of its thread, has the received tag.
-fn has_received_tag() -> Option<bool> {
-    let id = GlobalId::new(1, 1)?;
-    let name = Name::new(id, 3)?;
-    let message = long_message(id)?;
-    let is_right = name.thread() == id && name.k() == 3 && is_long_message(&message, id);
+// The delivery is the third send of its thread.
+#[test]
+fn a_delivery_has_the_received_tag(rt: HostRuntime) {
+    let id = GlobalId::new(1, 1).expect(&rt, "an id");
+    let name = Name::new(id, 3).expect(&rt, "a name");
+    let message = long_message(id).expect(&rt, "a message");
+    assert!(rt; (name.thread(), name.k()) == (id, 3));
+    assert!(rt; is_long_message(&message, id));
     let delivery = Delivery {
         name,
         receiver: id,
         message,
         cross: true,
     };
-    Some(is_right && delivery.tag().raw() == 0x7403f)
-}
-
-#[test]
-fn a_delivery_has_the_received_tag(rt: HostRuntime) {
-    assert!(rt; has_received_tag() == Some(true));
+    assert!(rt; delivery.tag().raw() == 0x7403f);
 }
 
 #[test]

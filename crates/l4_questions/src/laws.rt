@@ -33,10 +33,10 @@ ghost use Rattle.l4_questions.specs.Beside.{Shown};
 
 /// Status 0, where a question asks that no such ending exist, says that none does: no history of the
 /// machine comes to an ending that is asked for, whatever the scheduler does and whatever time
-/// passes. Where the question has lines, they have to be lines that may be asked for.
+/// passes.
 pub fn law_none_is_reached()
     ensures { (m : Machine) (q : AskedQuestion) (shown : Shown)
-        (expected : Option (List Expected)) (lines unmet : List ℕ) → AsksForLines q →
+        (expected : Option (List Expected)) (lines unmet : List ℕ) →
         q.wanted ≡ NoEnding → IsAnyAnswer m q shown expected lines unmet 0 → NoneIsReached m q }
 {}
 
@@ -109,6 +109,6 @@ pub fn law_asked_of_all()
 pub fn law_none_is_asked()
     ensures { (m : Machine) (q : AskedQuestion) (shown : Shown)
         (expected : Option (List Expected)) (lines unmet : List ℕ) → IsMachine m →
-        AsksForLines q → q.wanted ≡ NoEnding →
+        q.wanted ≡ NoEnding →
         IsAnyPlacedAnswer m q shown expected lines unmet 0 → NoneIsAsked m q }
 {}

@@ -22,7 +22,6 @@ ghost use Rattle.l4_questions.specs.Answers.{IsAnswer};
 ghost use Rattle.l4_questions.specs.Met.{EachIsMet, EachRunIsMet, QuietIsMet};
 ghost use Rattle.l4_questions.specs.Placed.{IsPlacedAnswer};
 ghost use Rattle.l4_questions.specs.PlacedWalked.{IsAnyPlacedAnswer};
-ghost use Rattle.l4_questions.specs.Runs.{AsksForLines};
 ghost use Rattle.l4_questions.specs.declared.question.Question.{Question as AskedQuestion};
 ghost use Rattle.l4_questions.specs.declared.question.Wanted.TheVariants.{Whatever};
 ghost use Rattle.l4_questions.specs.Beside.{Shown};
@@ -33,11 +32,11 @@ ghost use Rattle.l4_questions.specs.Walked.{IsAnyAnswer};
 /// passes. Status 0 says both, where it is not asked how many there are.
 pub fn law_each_is_met()
     ensures by_status { (m : Machine) (q : AskedQuestion) (shown : Shown)
-        (expected : List Expected) (lines unmet : List ℕ) → AsksForLines q →
+        (expected : List Expected) (lines unmet : List ℕ) →
         may_be_asked expected ≡ true → q.wanted ≡ Whatever →
         IsAnyAnswer m q shown (Some expected) lines unmet 0 → EachIsMet m q expected }
     ensures whole { (m : Machine) (q : AskedQuestion) (shown : Shown)
-        (expected : List Expected) (lines : List ℕ) (status : ℕ) → AsksForLines q →
+        (expected : List Expected) (lines : List ℕ) (status : ℕ) →
         may_be_asked expected ≡ true →
         (a : IsAnswer m q shown (Some expected) lines [] status) → a.is_whole ≡ true →
         EachIsMet m q expected }
@@ -61,12 +60,12 @@ pub fn law_each_run_is_met()
 /// to least deadlines.
 pub fn law_each_placed_is_met()
     ensures by_status { (m : Machine) (q : AskedQuestion) (shown : Shown)
-        (expected : List Expected) (lines unmet : List ℕ) → IsMachine m → AsksForLines q →
+        (expected : List Expected) (lines unmet : List ℕ) → IsMachine m →
         may_be_asked expected ≡ true → q.wanted ≡ Whatever →
         IsAnyPlacedAnswer m q shown (Some expected) lines unmet 0 → EachRunIsMet m q expected }
     ensures whole { (m : Machine) (q : AskedQuestion) (shown : Shown)
         (expected : List Expected) (lines : List ℕ) (status : ℕ) → IsMachine m →
-        AsksForLines q → may_be_asked expected ≡ true →
+        may_be_asked expected ≡ true →
         (a : IsPlacedAnswer m q shown (Some expected) lines [] status) → a.is_whole ≡ true →
         EachRunIsMet m q expected }
 {}

@@ -1,11 +1,13 @@
 //! What is asked of the endings of a machine.
 ghost use Rattle.std.specs.Prelude.{◌≡◌, ◌⊎◌, ◌<◌, ◌≤◌, min, IfOk, IfErr, None, Some, false, ℕ};
+ghost use Rattle.std.specs.Option.{option_copied};
 ghost use Rattle.l4_explore.specs.Tries.{deepest};
-ghost use Rattle.l4_questions.specs.Limits.{is_out_of_range, most_looked, question_fault};
-ghost use Rattle.l4_questions.specs.Limits.{state_bytes};
+ghost use Rattle.l4_questions.specs.Limits.{is_out_of_range, limits_fault, line_fault_at};
+ghost use Rattle.l4_questions.specs.Limits.{lines_fault, most_looked, question_fault, state_bytes};
 ghost use Rattle.l4_questions.specs.declared.question.QuestionFault.TheVariants.{NoMemory as OutOfMemory};
 ghost use Rattle.l4_questions.specs.declared.question.Wanted.TheVariants.{Whatever};
 
+use l4_expect::judging::{Wrong, wrong_of_ending};
 use l4_script::machine::Machine;
 use l4_types::errors::NoMemory;
 
@@ -51,9 +53,11 @@ pub struct Question<'a> {
     /// Threads that do not count as stuck, by their ids with commas between them: a thread that
     /// waits for an interrupt rests in a receive from one thread. An item that is no id names none.
     pub rests: Option<&'a str>,
-    /// Only endings whose report has such a line.
+    /// Only endings whose report has such a line. One that endings can't be asked for is the fault
+    /// `Line`.
     pub with_line: Option<&'a str>,
-    /// Only endings whose report has no such line.
+    /// Only endings whose report has no such line. One that endings can't be asked for is the fault
+    /// `Line`.
     pub never: Option<&'a str>,
     /// How many such endings should exist.
     pub wanted: Wanted,
@@ -64,6 +68,9 @@ pub struct Question<'a> {
 pub enum QuestionFault {
     /// Memory was refused.
     NoMemory,
+    /// This line is the first of those that are asked for, that of `with_line` before that of
+    /// `never` and counted from 1, that endings can't be asked for, and why.
+    Line(usize, Wrong),
     /// The depth is 0 or above 1,000,000.
     Depth,
     /// The number of worlds or states is 0 or above 100,000,000.
@@ -106,13 +113,42 @@ impl<'a> Question<'a> {
         }
     }
 
-    /// The greatest depth of a search, and the greatest number of its states or worlds.
+    /// The greatest depth of a search, and the greatest number of its states or worlds, where it may
+    /// begin.
     pub(crate) fn limits(&self, machine: &Machine) -> Result<(u32, u32), QuestionFault>
         ensures ok { IfOk result (λ limits.
             (question_fault self.now ≡ None) × (limits.0 ≡ self.now.depth) ×
             (limits.1 ≡ most_looked machine.now self.now) × (0 < limits.1) ×
             (min limits.0 deepest ≡ self.now.depth)) }
         ensures err { IfErr result (λ fault. question_fault self.now ≡ Some fault) }
+    {
+        match self.lines_fault() {
+            Some(fault) => Err(fault),
+            None => self.limits_alone(machine),
+        }
+    }
+
+    // The first line that endings can't be asked for.
+    fn lines_fault(&self) -> Option<QuestionFault>
+        ensures { result ≡
+            lines_fault (option_copied self.now.with_line) (option_copied self.now.never) }
+    {
+        match self.with_line {
+            None => line_fault_at(1, self.never),
+            Some(line) => match line_fault_at(1, Some(line)) {
+                Some(fault) => Some(fault),
+                None => line_fault_at(2, self.never),
+            },
+        }
+    }
+
+    // The limits, whatever its lines are.
+    fn limits_alone(&self, machine: &Machine) -> Result<(u32, u32), QuestionFault>
+        ensures ok { IfOk result (λ limits.
+            (limits_fault self.now ≡ None) × (limits.0 ≡ self.now.depth) ×
+            (limits.1 ≡ most_looked machine.now self.now) × (0 < limits.1) ×
+            (min limits.0 deepest ≡ self.now.depth)) }
+        ensures err { IfErr result (λ fault. limits_fault self.now ≡ Some fault) }
     {
         if is_out_of_range(MOST_DEEP, self.depth) {
             return Err(QuestionFault::Depth);
@@ -126,6 +162,14 @@ impl<'a> Question<'a> {
         let enough = self.memory * MEBIBYTE / state_bytes(machine);
         Ok((self.depth as u32, self.states.min(enough) as u32))
     }
+}
+
+// What is wrong with the line of this number, where there is one.
+fn line_fault_at(number: usize, line: Option<&str>) -> Option<QuestionFault>
+    ensures { result ≡ line_fault_at number (option_copied line.entry) }
+{
+    let wrong = wrong_of_ending(line?.as_bytes())?;
+    Some(QuestionFault::Line(number, wrong))
 }
 
 // How many bytes are counted for a state or a world.

@@ -1,15 +1,20 @@
 -- What was accepted was accepted by each part; the numbers of accepted words.
 use Rattle.std.proofs.Common.{◌≡◌, ℕ, ◌^◌, ◌<◌, ◌≤◌, Bool, true, false, cond, ◌&&◌, List, drop, take, Option, Some, None, Ok, Err, refl, ap, subst, arith}
-use Rattle.std.specs.Prelude.{nat_lt, nat_le, codes, bytes_eq}
+use Rattle.std.specs.Prelude.{Result, nat_lt, nat_le, codes, bytes_eq}
 use Rattle.std.proofs.lemmas.Bool.{leb-true, and_parts}
 use Rattle.l4_model.specs.Words.{Format, word_limit, is_word_in}
 use Rattle.l4_script.specs.declared.text.fault.TextFaultKind.{TextFaultKind}
-use Rattle.l4_script.specs.declared.text.fault.TextFaultKind.TheVariants.{BadNumber}
-use Rattle.l4_script.specs.Judged.{Judged, ◌>>=◌, ◌>>◌, must, needs}
+use Rattle.l4_script.specs.declared.text.fault.TextFaultKind.TheVariants.{BadNumber, NoMemory}
+use Rattle.l4_script.specs.Judged.{Judged, Fails, ◌>>=◌, ◌>>◌, must, needs}
 use Rattle.l4_words.specs.Numbers.{padded_of}
 use Rattle.l4_words.specs.Numbers as words
 use Rattle.l4_words.proofs.Numerals.{padded_small, decimal_is_written}
 use Rattle.l4_script.specs.Numbers.{number_of, number_from, word_from}
+
+-- A fault that is the definition's, memory or not.
+pub fails : {Y : Type 0} (kind : TextFaultKind) (part : Result Y TextFaultKind) → part ≡ Err kind → Fails kind part
+fails NoMemory part e = tt
+fails kind part e = e
 
 pub bind_ok : {A B : Type 0} (part : Judged A) (rest : A → Judged B) (b : B) → (part >>= rest) ≡ Ok b → (a : A) × (part ≡ Ok a) × (rest a ≡ Ok b)
 bind_ok (Ok a) rest b e = (a, refl, e)

@@ -1,12 +1,14 @@
 -- Names of ids and of instructions: what may have one, and what a line with one says.
-use Rattle.std.proofs.Common.{◌≡◌, ℕ, Bool, true, false, cond, List, [], ◌∷◌, Option, Some, None, Ok, Err, refl}
-use Rattle.std.specs.Prelude.{◌||◌, not, find, is_none}
+use Rattle.std.proofs.Common.{◌≡◌, ℕ, Bool, true, false, cond, List, [], ◌∷◌, Option, Some, None, Ok, Err, refl, ◌∙◌}
+use Rattle.std.specs.Prelude.{◌||◌, not, find, is_none, codes}
 use Rattle.std.specs.Option.{option_map}
 use Rattle.std.specs.Str.{bytes_eq}
+use Rattle.l4_model.specs.Words.{Format}
+use Rattle.l4_model.specs.Machine.{Instr, Jump, OnErr}
 use Rattle.l4_script.specs.declared.text.fault.TextFaultKind.{TextFaultKind}
 use Rattle.l4_script.specs.declared.text.fault.TextFaultKind.TheVariants.{BadLine}
-use Rattle.l4_script.specs.Second.Names.{Named, id_under, is_declared_in}
-use Rattle.l4_script.specs.Second.Statements.{Unplaced, second_instruction_of}
+use Rattle.l4_script.specs.Second.Names.{Named, branches, id_under, is_among, is_declared_in}
+use Rattle.l4_script.specs.Second.Statements.{Unplaced, goes_to, on_label_of, on_word_of, on_from_of, plain_of, without_target, second_instruction_of}
 use Rattle.l4_script.specs.Second.Texts.{Reading, has_script, may_be_labelled, with_label, said_line, labelled_instruction}
 
 -- No id has a name that is not declared.
@@ -18,6 +20,25 @@ no_id (n ∷ names) name = by (bytes_eq n.name name) (no_id names name)
         → is_none (option_map (λ (n : Named). n.id) (cond b (Some n) (find (λ n. bytes_eq n.name name) names))) ≡ not (b || is_declared_in names name)
     by true e = refl
     by false e = e
+
+-- The choice that is left where none of five tests holds.
+none_of : {X : Type 0} (a b c d e : Bool) (u v w x y z : X) → (a || (b || (c || (d || (e || false))))) ≡ false
+    → cond a u (cond b v (cond c w (cond d x (cond e y z)))) ≡ z
+none_of true b c d e u v w x y z h = absurd cc
+none_of false true c d e u v w x y z h = absurd cc
+none_of false false true d e u v w x y z h = absurd cc
+none_of false false false true e u v w x y z h = absurd cc
+none_of false false false false true u v w x y z h = absurd cc
+none_of false false false false false u v w x y z h = refl
+
+-- What is no branch goes on with the next.
+goes_on : (f : Format) (names : List Named) (name : List ℕ) (operands : List (List ℕ)) → is_among branches name ≡ false
+    → second_instruction_of f names name operands ≡ without_target (plain_of f names name operands)
+unfolding second_instruction_of
+goes_on f names name operands none =
+    none_of (bytes_eq name (codes "jump")) (bytes_eq name (codes "onerr")) (bytes_eq name (codes "onlabel"))
+    (bytes_eq name (codes "onword")) (bytes_eq name (codes "onfrom")) (goes_to (Jump 0) operands) (goes_to (OnErr 0) operands)
+    (on_label_of f operands) (on_word_of f operands) (on_from_of f names operands) (without_target (plain_of f names name operands)) none
 
 module _ (line : ℕ) (label : Option (List ℕ)) (name : List ℕ) (operands : List (List ℕ)) (r : Reading) where
   pub no_script : has_script r ≡ false → labelled_instruction line label name operands r ≡ Err BadLine
@@ -49,3 +70,11 @@ module _ (line : ℕ) (label : Option (List ℕ)) (name : List ℕ) (operands : 
       by : (label : Option (List ℕ)) → may_be_labelled r label ≡ Ok tt → labelled_instruction line label name operands r ≡ said_line line said (with_label label r)
       by None may = rw (script, e) refl
       by (Some other) may = rw (may, script, e) refl
+
+  pub no_plain : (kind : TextFaultKind) → has_script r ≡ true → may_be_labelled r label ≡ Ok tt → is_among branches name ≡ false → plain_of r.format r.names name operands ≡ Err kind
+      → labelled_instruction line label name operands r ≡ Err kind
+  no_plain kind script may none e = no_instruction kind script may (goes_on r.format r.names name operands none ∙ rw e refl)
+
+  pub plain_so : (instr : Instr) → has_script r ≡ true → may_be_labelled r label ≡ Ok tt → is_among branches name ≡ false → plain_of r.format r.names name operands ≡ Ok instr
+      → labelled_instruction line label name operands r ≡ said_line line (record { instr = instr; target = None }) (with_label label r)
+  plain_so instr script may none e = said_so (record { instr = instr; target = None }) script may (goes_on r.format r.names name operands none ∙ rw e refl)

@@ -27,4 +27,5 @@ pub mod Spelled
 pub mod TextRows
 pub mod Times
 pub mod Values
+pub mod WordBytes
 pub mod Written

@@ -4,7 +4,7 @@
 //! It runs machine texts and prints what happened, and audits what is said to have happened. What
 //! is printed for which words is proved in `l4_jobs`. This file has what needs a system: it refuses
 //! arguments that are not UTF-8 with status 2, reports refused memory, paints lines for a terminal,
-//! and shows there how far a search has come.
+//! shows there how far a search has come, and asks there for the lines of a session.
 //!
 //! No contract says what the system's files and streams do. `.ci/command-lines` tries them with the
 //! built program: a full device, a closed pipe, a folder for a file.
@@ -18,8 +18,10 @@
 #![tactic(auto)]
 
 mod progress;
+mod prompt;
 
 use crate::progress::{BesideLine, LinePlace, ProgressLine};
+use crate::prompt::{Asking, Prompt};
 use l4_colours::outputs::{Output, PaintedOutput, is_painted};
 use l4_explore::progress::Progress;
 use l4_jobs::fault::{Fault, report};
@@ -94,6 +96,7 @@ fn on_words<
     is_terminal: bool,
     explains: bool,
     input: I,
+    prompt: Prompt<T>,
     out: &mut W,
     line: LinePlace<'_, T>,
     faults: &mut E,
@@ -109,7 +112,8 @@ fn on_words<
                 line,
             };
             if let Job::Step(step) = job {
-                return perform_lines(rt, explains, &step, input, &mut out, faults);
+                let lines = Asking { input, prompt };
+                return perform_lines(rt, explains, &step, lines, &mut out, faults);
             }
             let folder = WithInput {
                 folder: rt,
@@ -140,6 +144,7 @@ fn run_program<
     is_terminal: bool,
     explains: bool,
     input: I,
+    prompt: Prompt<T>,
     out: &mut W,
     line: LinePlace<'_, T>,
     faults: &mut E,
@@ -166,6 +171,7 @@ fn run_program<
             is_terminal,
             explains,
             input,
+            prompt,
             out,
             line,
             faults,
@@ -177,7 +183,8 @@ fn run_program<
 
 fn main(rt: HostRuntime) -> ExitCode {
     let is_terminal = rt.stdout().is_terminal();
-    let is_shown = shows_lines(&rt, rt.stderr().is_terminal());
+    let is_told = rt.stderr().is_terminal();
+    let is_shown = shows_lines(&rt, is_told);
     let is_there = Cell::new(false);
     let mut terminal = rt.stderr();
     let mut progress = ProgressLine::new(&rt, &mut terminal, is_shown, &is_there);
@@ -185,11 +192,16 @@ fn main(rt: HostRuntime) -> ExitCode {
         terminal: rt.stderr(),
         is_there: &is_there,
     };
+    let prompt = Prompt {
+        terminal: rt.stderr(),
+        is_shown: is_told && rt.stdin().is_terminal(),
+    };
     ExitCode::from(run_program(
         &rt,
         is_terminal,
         is_shown,
         rt.stdin(),
+        prompt,
         &mut rt.stdout(),
         line,
         &mut rt.stderr(),

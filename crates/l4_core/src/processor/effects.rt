@@ -42,7 +42,8 @@ use tcb_arena::Waiting;
 
 impl Core<'_> {
     /// Applies a change to a thread of this processor that stands in no list, and puts it into the
-    /// lists of its new phase.
+    /// lists of its new phase. Inlined, since each caller knows which change it is.
+    #[inline(always)]
     pub(super) fn apply_change(&mut self, place: usize, change: &Change)
         requires free { IsFree self.old place }
         requires fits { IsFitting change.now (thread self.old.local place) }

@@ -88,7 +88,9 @@ impl Core<'_> {
         }
     }
 
-    // Fails the receive phase of a thread with this error; the step says so.
+    // Fails the receive phase of a thread with this error; the step says so. Inlined, so that no
+    // step is built in memory.
+    #[inline(always)]
     fn fail_receive<S: Sink>(
         &mut self,
         place: usize,

@@ -1,5 +1,5 @@
 -- What is found out of a choice.
-use Rattle.std.specs.Prelude.{ℕ, ◌+◌, ◌/◌, ◌%◌, ◌<◌, ◌≡◌, nat_lt, Bool, true, false, if◌then◌else◌, Option, None, Some, List, [], ◌∷◌, ◌++◌, Vec, length, slice_get}
+use Rattle.std.specs.Prelude.{ℕ, ◌+◌, ◌/◌, ◌%◌, ◌<◌, ◌≤◌, ◌≡◌, ◌⊎◌, nat_lt, Bool, true, false, if◌then◌else◌, Option, None, Some, List, [], ◌∷◌, ◌++◌, Vec, length, slice_get}
 use Rattle.std.proofs.Common.{Global}
 use Rattle.l4_model.specs.Machine.{Machine}
 use Rattle.l4_core_model.specs.Runs.{opening_system}
@@ -59,3 +59,13 @@ pub record TakesNone (parts : List Part) (row : List ℕ) (cpus number : ℕ) : 
   pub takes : number % (cpus + 2) < cpus
   pub none : (part_at parts
       (number_at row (pair_place cpus (number % (cpus + 2)) (number / (cpus + 2))))).rests ≡ true
+
+-- A choice takes no letter, and its processor has nothing to do and nothing armed.
+pub record IsOfResting (parts : List Part) (row : List ℕ) (cpus number : ℕ) : Type 0 where
+  pub takes_none : cpus ≤ number % (cpus + 2)
+  pub rests : (part_at parts (number_at row (number / (cpus + 2)))).rests ≡ true
+
+-- Its parts say that a choice can't be made.
+abbrev pub IsIdle : List Part → (row : List ℕ) → (cpus number : ℕ) → Type 0
+IsIdle parts row cpus number =
+    (TakesNone parts row cpus number) ⊎ (IsOfResting parts row cpus number)

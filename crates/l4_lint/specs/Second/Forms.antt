@@ -24,7 +24,7 @@ use Rattle.l4_lint.specs.Contexts.{Context, context}
 use Rattle.l4_lint.specs.Judging.{is_keyword}
 use Rattle.l4_lint.specs.Places.{Place, placed, place_at}
 use Rattle.l4_lint.specs.Second.Commands.{operands_of, target_in}
-use Rattle.l4_lint.specs.Second.Judging.{is_right, operand_hint}
+use Rattle.l4_lint.specs.Second.Judging.{is_double, is_right, operand_hint, thread_in}
 use Rattle.l4_lint.specs.Second.Names.{name_hint}
 use Rattle.l4_lint.specs.Second.Parts.{Parts, parts_of}
 use Rattle.l4_lint.specs.Walks.{Walked, walked}
@@ -108,16 +108,18 @@ words_place c r p None =
 words_place c r p (Some operands) =
     counted_place c r p operands (walk_all test.Present c r operands (behind p.words))
 
--- A tab or a space stands among the words, or else these are wrong.
+-- A tab or a space stands among the words, or else these are wrong. A name without words stands where
+-- no line of a script may.
 
 abbrev pub column_in : Parts → (before : ℕ) → ℕ
 column_in p before = length p.front - length p.words + before + 1
 
 abbrev pub spaced_place : Context → Option Reading → Parts → (tab : Option ℕ) → Place
 spaced_place c r p (Some before) = placed (column_in p before) (codes "\t") hints.Tab
-spaced_place c r p None = if has_empty_word p.words
+spaced_place c r p None = if length p.words == 0 then place_at p.front p.said (line_hint c r)
+    else (if has_empty_word p.words
     then placed (column_in p (clear true p.words)) [] hints.Space
-    else words_place c r p (operands_of c.lines p.words)
+    else words_place c r p (operands_of c.lines p.words))
 
 -- A byte may not stand there, or else the words or what is between them is wrong. A tab may, and a
 -- carriage return at the end.
@@ -127,11 +129,15 @@ wrong_byte line =
     position (λ byte. not (byte == 9 || (nat_le 0x20 byte && nat_le byte 0x7e)))
     (without_return line)
 
+abbrev pub at_most_one : Hint → Hint
+at_most_one hints.CarriageReturn = hints.SurplusReturn
+at_most_one hint = hint
+
 abbrev pub form_place : Context → Option Reading → (number : ℕ) → (line : List ℕ) →
     (wrong : Option ℕ) → Place
 form_place c r number line (Some index) =
     placed (index + 1) (slice_range line index (index + 1))
-    (byte_hint number line (slice_index line index))
+    (at_most_one (byte_hint number line (slice_index line index)))
 form_place c r number line None =
     spaced_place c r (parts_of line) (bad_byte (parts_of line).words)
 
@@ -184,6 +190,22 @@ name_place c r lost lines p (Some label) = if is_wrong_label r lost label
     then label_place lines p label
     else operands_place c r lines p kinds.BadName (operands_of c.lines p.words)
 
+-- A number of the threads that a line declares was declared before: that of the first one, or else
+-- of the last one or of one between these. `rest` are the words behind `thread`.
+
+abbrev pub among_hint : (is_last : Bool) → Hint
+among_hint true = hints.DoubleNumber
+among_hint false = hints.DoubleAmong
+
+abbrev pub last_place : Context → Option Reading → (front last : List ℕ) → Place
+last_place c r front last =
+    place_at front last (among_hint (is_double r (thread_in c r (word_of last))))
+
+abbrev pub double_place : Context → Option Reading → (front rest : List ℕ) → Place
+double_place c r front rest = if is_double r (thread_in c r (word_of rest))
+    then place_at front rest hints.DoubleNumber
+    else last_place c r front (behind (behind rest))
+
 -- The place of the fault of this kind, in the line of this number.
 
 abbrev pub kind_place : Context → Option Reading → (lost : Bool) →
@@ -193,7 +215,7 @@ kind_place c r lost lines number line kinds.BadLine =
 kind_place c r lost lines number line kinds.BadName =
     name_place c r lost lines (parts_of line) (parts_of line).label
 kind_place c r lost lines number line kinds.DoubleId =
-    place_at (parts_of line).front (behind (parts_of line).words) hints.DoubleNumber
+    double_place c r (parts_of line).front (behind (parts_of line).words)
 kind_place c r lost lines number line kinds.TooManyThreads =
     place_at (parts_of line).front (parts_of line).words hints.ManyThreads
 kind_place c r lost lines number line kinds.TooManyInstructions =
@@ -206,10 +228,14 @@ abbrev pub line_place : Stage → (lost : Bool) → (lines : Option (List (List 
 line_place stage lost lines number line k =
     kind_place (context_at stage lost) (reading_in stage) lost lines number line k
 
--- The place of what a line names that its script does not have.
+-- The place of what a line names that its script does not have, though another line may declare it.
+
+abbrev pub elsewhere : Hint → Hint
+elsewhere (hints.DeclaredOn number) = hints.ElsewhereOn number
+elsewhere hint = hint
 
 abbrev pub missed_hint : (lines : List (List ℕ)) → TextFaultKind → (word : List ℕ) → Hint
-missed_hint lines kinds.BadName word = name_hint lines word
+missed_hint lines kinds.BadName word = elsewhere (name_hint lines word)
 missed_hint lines k word = hints.Wanted operand.NamedPlace
 
 abbrev pub missed_place : (lines : List (List ℕ)) → (line : List ℕ) → TextFaultKind → Place

@@ -11,6 +11,7 @@ use Rattle.l4_words.specs.Numbers as words
 use Rattle.l4_script.specs.declared.text.fault.TextFaultKind.{TextFaultKind}
 use Rattle.l4_script.specs.declared.text.fault.TextFaultKind.TheVariants as kinds
 use Rattle.l4_script.specs.Judged.{Judged}
+use Rattle.l4_script.specs.Machines.{is_taken}
 use Rattle.l4_script.specs.Numbers.{number_from}
 use Rattle.l4_script.specs.Second.Names.{Named, id_named, is_name, thread_named}
 use Rattle.l4_script.specs.Second.Operands.{ends_with, id_or_last_of, id_or_register_of, place_of}
@@ -38,6 +39,11 @@ may_be_named (Some r) word = may_name r word
 abbrev pub is_declared : Option Reading → Judged GlobalId → Bool
 is_declared (Some r) (Ok thread) = is_some (place_in r.machine thread)
 is_declared _ _ = false
+
+-- A thread before has the number of this one.
+abbrev pub is_double : Option Reading → Judged GlobalId → Bool
+is_double (Some r) (Ok thread) = is_taken thread.number r.machine
+is_double _ _ = false
 
 -- A thread may be the last one of a line whose first one this is.
 abbrev pub is_last : (first last : Judged GlobalId) → Bool

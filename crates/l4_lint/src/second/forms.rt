@@ -4,10 +4,11 @@ ghost use Rattle.std.specs.Option.{option_copied, option_map};
 ghost use Rattle.l4_script.specs.Inner.Second.{stage_of};
 ghost use Rattle.l4_lint.specs.Lines.{lines_of};
 ghost use Rattle.l4_lint.specs.Second.Commands.{operands_of};
-ghost use Rattle.l4_lint.specs.Second.Forms.{column_in, context_at, counted_place, form_place};
+ghost use Rattle.l4_lint.specs.Second.Forms.{at_most_one, column_in, context_at, counted_place};
+ghost use Rattle.l4_lint.specs.Second.Forms.{among_hint, double_place, elsewhere, form_place};
 ghost use Rattle.l4_lint.specs.Second.Forms.{hint_for_name, hint_of, is_heir, is_other_comment};
 ghost use Rattle.l4_lint.specs.Second.Forms.{is_wrong_label, keywords_place, kind_place};
-ghost use Rattle.l4_lint.specs.Second.Forms.{label_place};
+ghost use Rattle.l4_lint.specs.Second.Forms.{label_place, last_place};
 ghost use Rattle.l4_lint.specs.Second.Forms.{line_at, line_hint, line_place, lines_in, missed_hint};
 ghost use Rattle.l4_lint.specs.Second.Forms.{missed_place, name_place, operands_place, passes};
 ghost use Rattle.l4_lint.specs.Second.Forms.{reading_in, spaced_place, walk_all, walked_place};
@@ -15,7 +16,7 @@ ghost use Rattle.l4_lint.specs.Second.Forms.{words_place, wrong_byte};
 ghost use Rattle.l4_lint.specs.Inner.Views.{context_of, parts_view, place_of, walked_of};
 
 use super::commands::{operands_of, target_in};
-use super::judging::{is_right, operand_hint};
+use super::judging::{is_double, is_right, operand_hint, thread_in};
 use super::names::name_hint;
 use super::parts::{Parts, parts_of};
 use crate::bytes::{bad_byte, byte_hint, clear, split_word};
@@ -214,7 +215,8 @@ fn column_in(parts: Parts<'_>, before: usize) -> usize
     parts.front.len().saturating_sub(parts.words.len()) + before + 1
 }
 
-// The place of a tab or a space among the words, or else of the word that breaks the form.
+// The place of a tab or a space among the words, or else of the word that breaks the form: of the
+// name in front, where there are no words.
 fn spaced_place<'a>(
     context: Context,
     reading: Option<&Reading<'_>>,
@@ -227,6 +229,9 @@ fn spaced_place<'a>(
 {
     if let Some(before) = tab {
         return Place::new(column_in(parts, before), b"\t", Hint::Tab);
+    }
+    if parts.words.is_empty() {
+        return Place::at(parts.front, parts.said, line_hint(context, reading));
     }
     if has_empty_word(parts.words) {
         return Place::new(column_in(parts, clear(parts.words)), b"", Hint::Space);
@@ -245,6 +250,16 @@ fn wrong_byte(line: &[u8]) -> Option<usize>
         .position(|byte| !matches!(byte, b'\t' | b' '..=b'~'))
 }
 
+// The hint for a byte, where one carriage return may end a line.
+fn at_most_one(hint: Hint) -> Hint
+    ensures { result ≡ at_most_one hint }
+{
+    match hint {
+        Hint::CarriageReturn => Hint::SurplusReturn,
+        _ => hint,
+    }
+}
+
 // The place of what breaks the form of a line. `wrong` is the place of a byte that may not stand
 // there.
 fn form_place<'a>(
@@ -260,7 +275,7 @@ fn form_place<'a>(
 {
     match wrong {
         Some(index) => {
-            let hint = byte_hint(number, line, line[index]);
+            let hint = at_most_one(byte_hint(number, line, line[index]));
             Place::new(index + 1, &line[index..index + 1], hint)
         }
         None => {
@@ -372,6 +387,48 @@ fn name_place<'a>(
     }
 }
 
+fn among_hint(is_last: bool) -> Hint
+    ensures { result ≡ among_hint is_last }
+{
+    if is_last {
+        Hint::DoubleNumber
+    } else {
+        Hint::DoubleAmong
+    }
+}
+
+// The place of the last of the threads that a line declares, of which not the first one was declared
+// before.
+fn last_place<'a>(
+    context: Context,
+    reading: Option<&Reading<'_>>,
+    front: &[u8],
+    last: &'a [u8],
+) -> Place<'a>
+    ensures { place_of result ≡
+        last_place (context_of context) (option_copied reading.entry) front.now last.now }
+{
+    let is_last = is_double(reading, thread_in(context, reading, split_word(last).0));
+    Place::at(front, last, among_hint(is_last))
+}
+
+// The place of the thread that was declared before. `rest` are the words behind `thread`.
+fn double_place<'a>(
+    context: Context,
+    reading: Option<&Reading<'_>>,
+    front: &[u8],
+    rest: &'a [u8],
+) -> Place<'a>
+    ensures { place_of result ≡
+        double_place (context_of context) (option_copied reading.entry) front.now rest.now }
+{
+    let (first, others) = split_word(rest);
+    if is_double(reading, thread_in(context, reading, first)) {
+        return Place::at(front, rest, Hint::DoubleNumber);
+    }
+    last_place(context, reading, front, split_word(others).1)
+}
+
 fn kind_place<'a>(
     context: Context,
     reading: Option<&Reading<'_>>,
@@ -389,7 +446,7 @@ fn kind_place<'a>(
         TextFaultKind::BadLine => form_place(context, reading, number, line, wrong_byte(line)),
         TextFaultKind::BadName => name_place(context, reading, lost, text, parts),
         TextFaultKind::DoubleId => {
-            Place::at(parts.front, split_word(parts.words).1, Hint::DoubleNumber)
+            double_place(context, reading, parts.front, split_word(parts.words).1)
         }
         TextFaultKind::TooManyThreads => Place::at(parts.front, parts.words, Hint::ManyThreads),
         TextFaultKind::TooManyInstructions => {
@@ -416,11 +473,21 @@ pub(super) fn line_place<'a>(
     kind_place(context, reading_in(stage), lost, text, number, line, kind)
 }
 
+// The hint for a name that a script does not have, by the line that declares it.
+fn elsewhere(hint: Hint) -> Hint
+    ensures { result ≡ elsewhere hint }
+{
+    match hint {
+        Hint::DeclaredOn(number) => Hint::ElsewhereOn(number),
+        _ => hint,
+    }
+}
+
 fn missed_hint(text: &[u8], kind: TextFaultKind, word: &[u8]) -> Hint
     ensures { result ≡ missed_hint (lines_of text.now) kind word.now }
 {
     match kind {
-        TextFaultKind::BadName => name_hint(text, word),
+        TextFaultKind::BadName => elsewhere(name_hint(text, word)),
         _ => Hint::Wanted(Operand::NamedPlace),
     }
 }

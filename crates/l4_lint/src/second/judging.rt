@@ -4,7 +4,8 @@ ghost use Rattle.std.specs.Prelude.{◌≡◌, ◌≤◌, ◌<◌, ◌-◌, ◌^
 ghost use Rattle.std.specs.Option.{option_copied};
 ghost use Rattle.l4_model.specs.Words.{label_limit_in};
 ghost use Rattle.l4_types.specs.Inner.FormatView.{format_of};
-ghost use Rattle.l4_lint.specs.Second.Judging.{id_hint, is_declared, is_last, is_low, is_right};
+ghost use Rattle.l4_lint.specs.Second.Judging.{id_hint, is_declared, is_double, is_last, is_low};
+ghost use Rattle.l4_lint.specs.Second.Judging.{is_right};
 ghost use Rattle.l4_lint.specs.Second.Judging.{least_exponent, may_be_named, names_in, near_at};
 ghost use Rattle.l4_lint.specs.Second.Judging.{near_of, near_times, operand_hint};
 ghost use Rattle.l4_lint.specs.Second.Judging.{thread_in, time_hint};
@@ -49,7 +50,8 @@ fn may_be_named(reading: Option<&Reading<'_>>, word: &[u8]) -> bool
     }
 }
 
-fn thread_in(
+/// The thread that a word names.
+pub(super) fn thread_in(
     context: Context,
     reading: Option<&Reading<'_>>,
     word: &[u8],
@@ -65,6 +67,19 @@ fn is_declared(reading: Option<&Reading<'_>>, thread: Result<GlobalId, TextFault
 {
     match (reading, thread) {
         (Some(reading), Ok(thread)) => reading.machine().place_of(thread).is_some(),
+        _ => false,
+    }
+}
+
+/// Whether a thread before has the number of this one.
+pub(super) fn is_double(
+    reading: Option<&Reading<'_>>,
+    thread: Result<GlobalId, TextFaultKind>,
+) -> bool
+    ensures { result ≡ is_double (option_copied reading.entry) thread }
+{
+    match (reading, thread) {
+        (Some(reading), Ok(thread)) => reading.machine().has_number(thread.number()),
         _ => false,
     }
 }

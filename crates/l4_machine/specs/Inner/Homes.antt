@@ -7,12 +7,12 @@ use Rattle.l4_model.specs.Machine.{Machine, place_of}
 use Rattle.l4_model.specs.Steps.{Step}
 use Rattle.l4_model.specs.World.{Name, Thread}
 use Rattle.l4_model.specs.Conditions.{◌>>=◌}
-use Rattle.l4_model.specs.History.{begun_name}
-use Rattle.l4_core_model.specs.Local.{Local}
+use Rattle.l4_model.specs.History.{Report, begun_name, report_of}
+use Rattle.l4_core_model.specs.Local.{Local, declared}
 use Rattle.l4_core_model.specs.Runs.{Run}
 use Rattle.l4_types.specs.ReportView.{report_of_view}
 use Rattle.l4_core.specs.Processor.{Processor}
-use Rattle.l4_refines.specs.Laws.{AreAllHandled, home_reports, home_thread}
+use Rattle.l4_refines.specs.Laws.{AreAllHandled, home_thread}
 use Rattle.l4_machine.specs.declared.homes.LastSend.{LastSend}
 use Rattle.l4_machine.specs.declared.homes.OwnerView.{OwnerView}
 
@@ -50,9 +50,17 @@ sent_waiting m sends step = do
   to ← sent_to s.k (slice_get sends i)
   Some (s, to)
 
-pub record IsAtHome (m : Machine) (locals : List Local) (a : OwnerView) : Type 0 where
-  pub threads : map report_of_view a.threads.items ≡ home_reports m locals
-  pub sends : a.sends.items ≡ sent_at_home m locals
+-- The reports of threads, in order of declaration.
+abbrev pub reports_of : Machine → (ℕ → Thread) → List Report
+reports_of m t = map (λ i. report_of (declared m i).id (t i)) (range_with_len 0 (length m.threads))
+
+-- What is told of all threads is told of these, which are given by their places.
+pub record AreThreads (m : Machine) (t : ℕ → Thread) (a : OwnerView) : Type 0 where
+  pub threads : map report_of_view a.threads.items ≡ reports_of m t
+  pub sends : a.sends.items ≡ map (λ i. last_send (t i)) (range_with_len 0 (length m.threads))
+
+abbrev pub IsAtHome : Machine → List Local → OwnerView → Type 0
+IsAtHome m locals a = AreThreads m (home_thread m locals) a
 
 -- A core run ends in these local states. If `all_handled`, all its letters are handled.
 pub record EndsIn (r : Run) (locals : List Local) (all_handled : Bool) : Type 0 where

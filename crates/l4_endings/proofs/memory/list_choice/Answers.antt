@@ -5,23 +5,23 @@ use Rattle.l4_explore.specs.Inner.Views.{next_from}
 use Rattle.l4_states.specs.Choices.{state_after, state_in}
 use Rattle.l4_parts.specs.Inner.Rows.{AreNumbers, IsRowIn}
 use Rattle.l4_parts.proofs.Knowing.{behind_longer}
-use Rattle.l4_endings.specs.Inner.Learned.{IsGone, TakesNone}
+use Rattle.l4_endings.specs.Inner.Learned.{IsGone, IsIdle}
 use Rattle.l4_endings.specs.Inner.Tried.{is_of}
-use Rattle.l4_endings.proofs.Finding.{event_inside, goes_on_by, none_taken, row_in, row_numbers}
+use Rattle.l4_endings.proofs.Finding.{event_inside, goes_on_by, idle_none, row_in, row_numbers}
 use Rattle.l4_endings.proofs.Listing.{one_listed}
 use Rattle.l4_endings.proofs.Nexts.{skipped}
 use Rattle.l4_endings.proofs.Posting.{is_inside}
 use Rattle.l4_endings.proofs.memory.list_choice.Goals as goal
 
-pub returns-then-takes_none-clause-listed : goal.returns-then-takes_none-clause-listed
-returns-then-takes_none-clause-listed c = λ all.
+pub returns-then-is_idle-clause-listed : goal.returns-then-is_idle-clause-listed
+returns-then-is_idle-clause-listed c = λ all.
     skipped (state_after c.args.aims.now) (is_of c.args.aims.now c.args.set) c.args.schedule.now 0 c.args.number
     (map next_from c.args.choices.now.items) all
-    (λ yes_it. none_taken c.args.aims.now c.cpus-cpus.ensures.lawful c.args.schedule.now c.args.parts.now.parts.items
+    (λ yes_it. idle_none c.args.aims.now c.cpus-cpus.ensures.lawful c.args.schedule.now c.args.parts.now.parts.items
     c.args.row.now c.requires.row c.args.number c.requires.number c.cpus-cpus.result c.cpus-cpus.ensures.value
     c.requires.known.parts_are
-    (subst (λ ps. TakesNone ps c.args.row.now c.cpus-cpus.result c.args.number) c.deref.ensures.value
-    (c.takes_none.ensures c.if-takes_none.true)))
+    (subst (λ ps. IsIdle ps c.args.row.now c.cpus-cpus.result c.args.number) c.deref.ensures.value
+    (c.is_idle.ensures c.if-is_idle.true)))
 
 pub go_on-requires-clause-inside : goal.go_on-requires-clause-inside
 go_on-requires-clause-inside c =

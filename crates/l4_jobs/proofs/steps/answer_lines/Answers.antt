@@ -1,11 +1,11 @@
-use Rattle.std.proofs.Common.{◌≡◌, ◌⊎◌, ◌++◌, ℕ, List, [], map, true, false, ap, sym, subst, ◌∙◌, arith}
+use Rattle.std.proofs.Common.{◌≡◌, ◌⊎◌, ◌++◌, ℕ, List, [], map, true, false, ap, sym, subst, ◌∙◌, arith, inl, refl}
 use Rattle.std.proofs.lemmas.Result.{err_from_is_err_and}
 use Rattle.l4_jobs.specs.Inner.Holding.{IsBehind}
 use Rattle.l4_core_model.specs.Schedules.{Entry}
 use Rattle.l4_machine.specs.Entries.{entry_from}
 use Rattle.l4_steps.specs.Replies.{Reply, reply_to}
-use Rattle.l4_jobs.specs.declared.fault.Fault.TheVariants.{Write as NotTaken}
-use Rattle.l4_jobs.proofs.Holding.{any_err, at_some, broke, broke_reply, ended, opened, quits, went_on}
+use Rattle.l4_jobs.specs.declared.fault.Fault.TheVariants.{NoMemory as OutOfMemory, Write as NotTaken}
+use Rattle.l4_jobs.proofs.Holding.{at_some, broke, broke_reply, ended, opened, quits, unread, went_on}
 use Rattle.l4_jobs.proofs.steps.answer_lines.Goals as goal
 
 pub loop-init : goal.loop-init
@@ -15,10 +15,12 @@ loop-init g c =
 
 pub returns-in_err-line-clause-err : goal.returns-in_err-line-clause-err
 returns-in_err-line-clause-err g c =
-    any_err c.from_residual.result _
-    (λ f.
-    broke c.args.machine.now c.args.listing.now c.args.form (g.R.Read.remaining c.args.input.now) (g.R.Read.remaining c.loop.input) (g.W.Sink.takes c.args.out.now c.loop.out)
-    (map entry_from c.loop.entries.items) f c.loop.invariant)
+    let known = g.R.Read.remaining c.args.input.now in
+    let left = g.R.Read.remaining c.loop.input in
+    let f = c.in_err-line.field-0.0 in
+    let told = err_from_is_err_and c.from_residual.result c.from_residual.ensures.1 in
+    rw (told.1, told.2) (broke c.args.machine.now c.args.listing.now c.args.form known left (g.W.Sink.takes c.args.out.now c.loop.out)
+    (map entry_from c.loop.entries.items) f c.loop.invariant (unread known left f c.in_err-line.ensures.err))
 
 pub returns-in_default-clause-ok : goal.returns-in_default-clause-ok
 returns-in_default-clause-ok g c =
@@ -41,7 +43,9 @@ returns-in_err-reply-clause-err g c =
     (g.W.Sink.takes c.args.out.now c.answer.new.out) es line c.in_err-reply.field-0.0 c.loop.invariant gives
     (λ said h is. subst (λ o. g.W.Sink.takes c.args.out.now o said true) (sym is) h)
     (λ said h wrote. g.met.W.Sink.joined c.args.out.now c.loop.out c.answer.new.out said (reply_to m l form es line).text false h wrote)
-    (subst (λ (r : Reply). (c.answer.new.out ≡ c.loop.out) ⊎ ((c.in_err-reply.field-0.0 ≡ NotTaken) × g.W.Sink.takes c.loop.out c.answer.new.out r.text false))
+    (subst
+    (λ (r : Reply). ((c.in_err-reply.field-0.0 ≡ OutOfMemory) × (c.answer.new.out ≡ c.loop.out))
+    ⊎ ((c.in_err-reply.field-0.0 ≡ NotTaken) × g.W.Sink.takes c.loop.out c.answer.new.out r.text false))
     alike c.in_err-reply.ensures.err))
 
 pub returns-then-reply-clause-ok : goal.returns-then-reply-clause-ok
@@ -84,4 +88,4 @@ loop-preserved g c =
 pub returns-clause-err : goal.returns-clause-err
 returns-clause-err g c =
     broke c.args.machine.now c.args.listing.now c.args.form (g.R.Read.remaining c.args.input.now) (g.R.Read.remaining c.loop.input) (g.W.Sink.takes c.args.out.now c.loop.out)
-    (map entry_from c.loop.entries.items) _ c.loop.invariant
+    (map entry_from c.loop.entries.items) _ c.loop.invariant (inl refl)

@@ -1,16 +1,19 @@
-use Rattle.std.proofs.Common.{◌≡◌, List, ℕ, ap, subst, ◌∙◌}
+use Rattle.std.proofs.Common.{◌≡◌, List, ℕ, ap, subst, ◌∙◌, rules}
 use Rattle.std.proofs.lemmas.Result.{IfErr-weaker, IfOk-weaker}
+use Rattle.std.specs.Prelude.{IfErr}
 use Rattle.l4_chart.specs.Listings.{listing_of}
 use Rattle.l4_steps.specs.Sessions.{session_text}
 use Rattle.l4_jobs.specs.Steps.{IsHeld, IsHeldUpTo, session_of}
-use Rattle.l4_jobs.proofs.Holding.{any_err, nothing_told}
+use Rattle.l4_jobs.specs.declared.fault.Fault.TheVariants as fault
+use Rattle.l4_jobs.proofs.Holding.{nothing_told}
 use Rattle.l4_jobs.proofs.steps.hold.Goals as goal
 
 pub returns-in_err-listing-clause-err : goal.returns-in_err-listing-clause-err
 returns-in_err-listing-clause-err g c =
-    any_err c.from_residual.result _
-    (λ f. nothing_told (session_of c.args.step.now c.args.text.now c.args.machine.now) (g.R.Read.remaining c.args.input.now) (g.W.Sink.takes c.args.out.now c.args.out.now) f
-    (g.met.W.Sink.nothing c.args.out.now))
+    let none : IfErr c.from_residual.result (λ f. f ≡ fault.NoMemory) = search rules in
+    IfErr-weaker c.from_residual.result (λ f. f ≡ fault.NoMemory) _
+    (λ f is. nothing_told (session_of c.args.step.now c.args.text.now c.args.machine.now) (g.R.Read.remaining c.args.input.now) (g.W.Sink.takes c.args.out.now c.args.out.now) f
+    (g.met.W.Sink.nothing c.args.out.now) is) none
 
 pub returns-clause-ok : goal.returns-clause-ok
 returns-clause-ok g c =

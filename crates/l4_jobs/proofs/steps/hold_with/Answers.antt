@@ -1,15 +1,18 @@
-use Rattle.std.proofs.Common.{◌≡◌, ◌++◌, ℕ, List, [], true, false, ap, sym, subst, ◌∙◌, refl}
+use Rattle.std.proofs.Common.{◌≡◌, ◌++◌, ℕ, List, [], true, false, ap, sym, subst, ◌∙◌, refl, rules}
 use Rattle.std.proofs.lemmas.Result.{IfErr-weaker, IfOk-weaker}
+use Rattle.std.specs.Prelude.{IfErr}
 use Rattle.l4_steps.specs.Possible.{choices_text}
 use Rattle.l4_steps.specs.Sessions.{session_text, told_of}
-use Rattle.l4_jobs.proofs.Holding.{any_err, broke_behind, front_cut, held_behind, nothing_told}
+use Rattle.l4_jobs.specs.declared.fault.Fault.TheVariants as fault
+use Rattle.l4_jobs.proofs.Holding.{broke_behind, front_cut, held_behind, nothing_told}
 use Rattle.l4_jobs.proofs.steps.hold_with.Goals as goal
 
 pub returns-in_err-opening_text-clause-err : goal.returns-in_err-opening_text-clause-err
 returns-in_err-opening_text-clause-err g c =
-    any_err c.from_residual.result _
-    (λ f. nothing_told (session_text c.args.machine.now c.args.listing.now c.args.form) (g.R.Read.remaining c.args.input.now) (g.W.Sink.takes c.args.out.now c.args.out.now) f
-    (g.met.W.Sink.nothing c.args.out.now))
+    let none : IfErr c.from_residual.result (λ f. f ≡ fault.NoMemory) = search rules in
+    IfErr-weaker c.from_residual.result (λ f. f ≡ fault.NoMemory) _
+    (λ f is. nothing_told (session_text c.args.machine.now c.args.listing.now c.args.form) (g.R.Read.remaining c.args.input.now) (g.W.Sink.takes c.args.out.now c.args.out.now) f
+    (g.met.W.Sink.nothing c.args.out.now) is) none
 
 pub returns-in-Ok-clause-ok : goal.returns-in-Ok-clause-ok
 returns-in-Ok-clause-ok g c =

@@ -5,9 +5,10 @@ use Rattle.l4_machine.specs.Outcomes.{compact_findings_of}
 use Rattle.l4_machine.specs.Gathers.{pasts_of}
 use Rattle.l4_core_model.specs.Local.{Local}
 use Rattle.l4_merge.specs.LocalTraces.{LocalTrace, all_events}
+use Rattle.l4_refines.specs.Laws.{home_thread}
 use Rattle.l4_machine.specs.Inner.Homes.{EndsIn}
 use Rattle.l4_machine.proofs.Cores.{handled_there}
-use Rattle.l4_machine.proofs.Outcomes.{sound}
+use Rattle.l4_machine.proofs.Outcomes.{known_at_home, sound}
 use Rattle.l4_machine.proofs.EventsLeft.{is_merge, logs_rise}
 use Rattle.l4_machine.proofs.InOneHand.{whole_pasts, gathered_history, is_gathered, quiet}
 use Rattle.l4_machine.proofs.gathering.rested_outcome.Goals as goal
@@ -42,7 +43,9 @@ returns c =
     } in
     let count = c.in_ok-history.ensures.events in
     IfOk-weaker c.outcome_of.result _ _
-    (λ o is. is_gathered m ps run.0 (compact_findings_of o) run.1 (is run.0 locals (sound m run.0 lawful) c.in_ok-at_home.ensures ends told_is
+    (λ o is. is_gathered m ps run.0 (compact_findings_of o) run.1
+    (is run.0 (home_thread m locals) (sound m run.0 c.facts.ensures.lawful lawful) c.in_ok-at_home.ensures
+    (known_at_home m run.0 locals c.args.all_handled (sound m run.0 c.facts.ensures.lawful lawful) ends) told_is
     (count ∙ sym (ap length run.1.events ∙ c.law_merge.ensures.count (all_events (pasts_of m ps))))
     (quiet m ps run.0 c.ending-ending.result c.requires.one c.requires.numbers c.requires.whole (c.law_merge.ensures.rest m (pasts_of m ps) run.0 run.1.ends)
     c.ending-ending.ensures)))

@@ -3,15 +3,16 @@ use Rattle.l4_model.specs.History.{IsHistory}
 use Rattle.l4_core_model.specs.Runs.{opening_run}
 use Rattle.l4_core_model.specs.Schedules.{replay_entries}
 use Rattle.l4_machine.specs.Entries.{entry_from}
-use Rattle.l4_machine.specs.Inner.Homes.{EndsIn, IsAtHome}
-use Rattle.l4_machine.proofs.Cores.{stations_handled}
+use Rattle.l4_machine.specs.Inner.Heard.{heard_in}
+use Rattle.l4_machine.specs.UnderWay.{under_way}
+use Rattle.l4_machine.proofs.Heard.{heard_of_world}
 use Rattle.l4_machine.proofs.Replays.{as_many}
 use Rattle.l4_machine.proofs.Endings.{rests, are_resting}
 use Rattle.l4_machine.proofs.Outcomes.{sound}
 use Rattle.l4_machine.proofs.schedules.outcome_of_entries.Goals as goal
 
-pub at_home-requires : goal.at_home-requires
-at_home-requires c =
+pub in_world-requires : goal.in_world-requires
+in_world-requires c =
     let m = c.args.machine.now in
     (m, (replay_entries m (map entry_from c.args.entries.now), c.in_ok-take_all.ensures.ok m (opening_run m) c.in_ok-run.ensures))
 
@@ -25,7 +26,7 @@ outcome_of-requires c =
     let m = c.args.machine.now in
     let r = replay_entries m (map entry_from c.args.entries.now) in
     let i = c.in_ok-take_all.ensures.ok m (opening_run m) c.in_ok-run.ensures in
-    let s = sound m r (c.law_core_run.ensures.lawful m r i.lawful i.core_run) in
+    let s = sound m r i.lawful (c.law_core_run.ensures.lawful m r i.lawful i.core_run) in
     subst (IsHistory m) (sym (c.into_logs-logs.ensures m r i)) s.possible
 
 pub returns-clause-ok : goal.returns-clause-ok
@@ -33,9 +34,9 @@ returns-clause-ok c =
     let m = c.args.machine.now in
     let r = replay_entries m (map entry_from c.args.entries.now) in
     let i = c.in_ok-take_all.ensures.ok m (opening_run m) c.in_ok-run.ensures in
-    let s = sound m r (c.law_core_run.ensures.lawful m r i.lawful i.core_run) in
-    let home : IsAtHome m r.system.locals c.in_ok-at_home.at_home = c.in_ok-at_home.ensures m r i in
-    let ends : EndsIn r r.system.locals c.has_handled_all-all_handled.result = record { here = refl; handled = λ e. stations_handled m r.system _ i.system (c.has_handled_all-all_handled.ensures e) } in
-    c.in_ok-outcome_of.ensures r r.system.locals s home ends (c.into_logs-logs.ensures m r i)
+    let s = sound m r i.lawful (c.law_core_run.ensures.lawful m r i.lawful i.core_run) in
+    let t = heard_in m r.system.locals (under_way c.take_all.new.run).stations in
+    c.in_ok-outcome_of.ensures r t s (c.in_ok-threads.ensures m r i)
+    (λ e. heard_of_world m r _ i.lawful i.core_run i.system) (c.into_logs-logs.ensures m r i)
     (c.events-turns.ensures ∙ as_many m r _ i)
     (λ e. rests m r.system _ i.system (c.ending-ending.ensures.0 e), λ e. c.ending-ending.ensures.1 (are_resting m r.system _ i.system e))

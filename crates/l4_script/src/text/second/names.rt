@@ -119,9 +119,9 @@ fn is_plain_instruction(word: &[u8]) -> bool
         || is(word, b"end")
 }
 
-// A first word of an instruction that names another.
+/// A first word of an instruction that names another.
 #[inline(always)]
-fn is_branch(word: &[u8]) -> bool
+pub(super) fn is_branch(word: &[u8]) -> bool
     ensures { result ≡ is_among branches word.now }
 {
     is(word, b"jump")

@@ -10,7 +10,8 @@ ghost use Rattle.l4_script.specs.Judged.{Leads};
 ghost use Rattle.l4_script.specs.Machines.{is_taken, last_thread, with_last_script, with_thread};
 ghost use Rattle.l4_script.specs.Texts.{LeadsOn};
 ghost use Rattle.l4_script.specs.Inner.Headings.{heading_of};
-ghost use Rattle.l4_script.specs.Inner.Second.{heir_of, place_of, said_of, stage_of, unplaced_of};
+ghost use Rattle.l4_script.specs.Inner.Scripts.{instr_of};
+ghost use Rattle.l4_script.specs.Inner.Second.{heir_of, place_of, said_of, stage_of};
 ghost use Rattle.l4_script.specs.Second.Texts.{label_of, found_place, missed_in, first_missed};
 ghost use Rattle.l4_script.specs.Second.Texts.{placed, settled, with_script_ended};
 ghost use Rattle.l4_script.specs.Second.Texts.{nothing_read, has_thread, has_script, may_name};
@@ -26,9 +27,10 @@ ghost use Rattle.l4_script.specs.Second.Texts.{unless_faulty, ended, judged_at};
 use super::super::fault::{TextFault, TextFaultKind};
 use super::super::statements::{Heading, processors_line};
 use super::lines::{Said, line_said};
-use super::names::{MOST_NAMES, Named, id_named, id_under, is_name, thread_named};
+use super::names::{MOST_NAMES, Named, id_named, id_under, is_branch, is_name, thread_named};
 use super::operands::Place;
-use super::statements::{Heir, Unplaced, declaration, format_line, instruction};
+use super::statements::{Heir, declaration, format_line, instruction, plain};
+use crate::instructions::Instr;
 use crate::machine::{Declaration, MOST_INSTRUCTIONS, MOST_THREADS, Machine};
 use l4_types::errors::NoMemory;
 use l4_types::formats::Format;
@@ -474,30 +476,58 @@ impl<'a> Reading<'a> {
     }
 
     // Adds an instruction to the last thread, with its name.
+    #[inline(always)]
     #[tactic(auto, unfolding(crate::specs::Statements::extend))]
     fn add(
         &mut self,
         line: usize,
         label: Option<&'a [u8]>,
-        said: &Unplaced<'a>,
+        instr: &Instr,
+        target: Option<Place<'a>>,
     ) -> Result<(), TextFaultKind>
         requires { 0 < length self.old.machine.threads }
         ensures kept { IfErr result (λ kind. kind ≢ OutOfMemory → self.new ≡ self.old) }
         ensures leads { Leads result self.new
-            (said_line line (unplaced_of said.now) (with_label (option_copied label.entry) self.old)) }
+            (said_line line
+            (record { instr = instr_of instr.now; target = option_map place_of target.entry })
+            (with_label (option_copied label.entry) self.old)) }
     {
         let at = self.machine.last_script_len();
         if at >= MOST_INSTRUCTIONS {
             return Err(TextFaultKind::TooManyInstructions);
         }
         self.label(label)?;
-        self.machine.add_instruction(&said.instr)?;
-        keep_target(&mut self.targets, line, at, said.target)?;
+        self.machine.add_instruction(instr)?;
+        keep_target(&mut self.targets, line, at, target)?;
         Ok(())
     }
 
-    // An instruction of the last thread, with its name.
-    #[tactic(auto, using(crate::proofs::Labelling::no_script, crate::proofs::Labelling::no_label, crate::proofs::Labelling::no_instruction, crate::proofs::Labelling::said_so))]
+    // An instruction of the last thread, with its name, whatever it is.
+    #[inline(never)]
+    #[tactic(auto, using(crate::proofs::Labelling::no_instruction, crate::proofs::Labelling::said_so))]
+    fn any_instruction_line(
+        &mut self,
+        line: usize,
+        label: Option<&'a [u8]>,
+        name: &[u8],
+        operands: Words<'a>,
+    ) -> Result<(), TextFaultKind>
+        requires script { has_script self.old ≡ true }
+        requires label { may_be_labelled self.old (option_copied label) ≡ Ok tt }
+        ensures kept { IfErr result (λ kind. kind ≢ OutOfMemory → self.new ≡ self.old) }
+        ensures leads { Leads result self.new
+            (labelled_instruction line (option_copied label.entry) name.now operands.entry self.old) }
+    {
+        let format = self.format;
+        match &instruction(format, self.names.as_slice(), name, operands) {
+            Ok(said) => self.add(line, label, &said.instr, said.target),
+            Err(kind) => Err(*kind),
+        }
+    }
+
+    // An instruction of the last thread, with its name. One that names no other is added as it
+    // stands, since what may name another is large.
+    #[tactic(auto, using(crate::proofs::Labelling::no_script, crate::proofs::Labelling::no_label, crate::proofs::Labelling::no_plain, crate::proofs::Labelling::plain_so))]
     fn instruction_line(
         &mut self,
         line: usize,
@@ -513,9 +543,12 @@ impl<'a> Reading<'a> {
             return Err(TextFaultKind::BadLine);
         }
         self.may_be_labelled(label)?;
+        if is_branch(name) {
+            return self.any_instruction_line(line, label, name, operands);
+        }
         let format = self.format;
-        match &instruction(format, self.names.as_slice(), name, operands) {
-            Ok(said) => self.add(line, label, said),
+        match &plain(format, self.names.as_slice(), name, operands) {
+            Ok(instr) => self.add(line, label, instr, None),
             Err(kind) => Err(*kind),
         }
     }

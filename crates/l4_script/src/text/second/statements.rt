@@ -16,7 +16,8 @@ ghost use Rattle.l4_script.specs.Second.Statements.{targeting, from_of, second_v
 ghost use Rattle.l4_script.specs.Second.Statements.{second_ipc_of, second_exregs_of};
 ghost use Rattle.l4_script.specs.Second.Statements.{second_delete_of, goes_to, on_label_of};
 ghost use Rattle.l4_script.specs.Second.Statements.{on_word_of, on_from_of};
-ghost use Rattle.l4_script.specs.Second.Statements.{plain_of, second_instruction_of};
+ghost use Rattle.l4_script.specs.Second.Statements.{plain_of, without_target};
+ghost use Rattle.l4_script.specs.Second.Statements.{second_instruction_of};
 
 use super::super::fault::TextFaultKind;
 use super::super::lines::after;
@@ -341,7 +342,7 @@ fn on_from<'a>(
 /// An instruction of this name that goes on with the next, or the first fault of its line.
 #[inline(always)]
 #[tactic(auto, unfolding(crate::specs::Second::Statements::plain_of, crate::specs::Statements::value_of, crate::specs::Second::Statements::second_other_of))]
-fn plain(
+pub(super) fn plain(
     format: Format,
     names: &[Named<'_>],
     name: &[u8],
@@ -383,6 +384,24 @@ fn plain(
     Err(TextFaultKind::BadLine)
 }
 
+/// The same, as one that names no other.
+#[inline(never)]
+fn without_target<'a>(
+    format: Format,
+    names: &[Named<'_>],
+    name: &[u8],
+    operands: Words<'_>,
+) -> Result<Unplaced<'a>, TextFaultKind>
+    ensures { Returns unplaced_of result
+        (without_target (plain_of (format_of format) names.now name.now operands.entry)) }
+{
+    let instr = plain(format, names, name, operands)?;
+    Ok(Unplaced {
+        instr,
+        target: None,
+    })
+}
+
 /// An instruction of this name, or the first fault of its line.
 #[inline(always)]
 #[tactic(auto, unfolding(crate::specs::Second::Statements::second_instruction_of))]
@@ -410,8 +429,5 @@ pub fn instruction<'a>(
     if is(name, ON_FROM) {
         return on_from(format, names, operands);
     }
-    Ok(Unplaced {
-        instr: plain(format, names, name, operands)?,
-        target: None,
-    })
+    without_target(format, names, name, operands)
 }

@@ -3,6 +3,7 @@ use Rattle.std.proofs.lemmas.Result.{IfOk-weaker}
 use Rattle.l4_model.specs.History.{IsHistory}
 use Rattle.l4_core_model.specs.Local.{Local}
 use Rattle.l4_merge.specs.LocalTraces.{LocalTrace, all_events}
+use Rattle.l4_refines.specs.Laws.{home_thread}
 use Rattle.l4_machine.specs.Inner.Homes.{EndsIn, IsAtHome}
 use Rattle.l4_machine.proofs.Cores.{handled_there}
 use Rattle.l4_merge.proofs.Rest.{rests as run_rests, rested as run_rested}
@@ -13,7 +14,7 @@ use Rattle.l4_machine.specs.Outcomes.{compact_findings_of, steps_of}
 use Rattle.l4_machine.specs.Gathers.{pasts_of, AreOfOne, AreResting, HaveNumbers}
 use Rattle.l4_machine.proofs.InOneHand.{gathered_history, is_gathered, quiet, whole_pasts}
 use Rattle.l4_machine.proofs.Members.{in_order_have_numbers}
-use Rattle.l4_machine.proofs.Outcomes.{sound}
+use Rattle.l4_machine.proofs.Outcomes.{known_at_home, sound}
 use Rattle.l4_machine.proofs.team.Team.into_outcome.Goals as goal
 
 pub run_history-requires-clause-numbers : goal.run_history-requires-clause-numbers
@@ -56,7 +57,9 @@ returns c =
     } in
     let rest = subst (λ qs. (c.ending-ending.result ≡ Quiet) ↔ AreResting qs) c.as_slice.ensures.value c.ending-ending.ensures in
     IfOk-weaker c.outcome_of.result _ _
-    (λ o is. is_gathered m ps run.0 (compact_findings_of o) run.1 (is run.0 locals (sound m run.0 lawful) at_home ends told_is
+    (λ o is. is_gathered m ps run.0 (compact_findings_of o) run.1
+    (is run.0 (home_thread m locals) (sound m run.0 c.facts.ensures.lawful lawful) at_home
+    (known_at_home m run.0 locals c.args.self.all_handled (sound m run.0 c.facts.ensures.lawful lawful) ends) told_is
     (c.in_ok-history.ensures.events ∙ sym (ap length run.1.events ∙ length-merged (all_events (pasts_of m ps))))
     (quiet m ps run.0 c.ending-ending.result all.of_one numbers c.requires.whole
     (λ e. run_rested m (pasts_of m ps) run.0 run.1.ends e, λ e. run_rests m (pasts_of m ps) run.0 run.1.ends e) rest)))

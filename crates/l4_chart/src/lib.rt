@@ -18,6 +18,7 @@ mod ink;
 pub mod layout;
 pub mod listing;
 pub mod marks;
+mod markup;
 pub mod mermaid;
 pub mod refused;
 pub mod scene;

@@ -8,7 +8,7 @@ ghost use Rattle.l4_explore.specs.Tries.{deepest};
 ghost use Rattle.l4_states.specs.Inner.Remembered.{pair_place};
 ghost use Rattle.l4_endings.specs.Inner.Learned.{IsEventAt, IsEventFrom, IsGone, IsFound, Reads};
 ghost use Rattle.l4_endings.specs.Inner.Walked.{AreChoices, IsWalked};
-ghost use Rattle.l4_machine.specs.UnderWay.{HasRun};
+ghost use Rattle.l4_replay.specs.UnderWay.{HasRun};
 ghost use Rattle.l4_parts.specs.declared.parts.Part.{Part};
 ghost use Rattle.l4_parts.specs.declared.events.Event.{Event as EventOfParts};
 ghost use Rattle.std.specs.Prelude.{ℕ, List};
@@ -18,7 +18,7 @@ ghost use Rattle.l4_parts.specs.Inner.Numbers.{AreLonger};
 
 use crate::states::row_of;
 use crate::walks::{make, walk_to};
-use l4_machine::Walk;
+use l4_replay::Walk;
 use l4_parts::events::{Event, Events, apply, writes_of};
 use l4_parts::parts::Parts;
 use l4_parts::rows::pair_place;

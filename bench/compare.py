@@ -2,7 +2,7 @@
 
 A line of the baseline is SCRIPT, the first cell of a row, the head of a column and the figure, with tabs between. The tables go on to standard output
 as they come. Behind them stands a line for each figure of this script: what it was, what it is, and the ratio. The status is 1 where one is above
-its baseline by more than a hundredth, or was not measured.
+its baseline by more than a hundredth, or was not measured. Of rows that the baseline does not have come last the lines that it would have of them.
 """
 
 import pathlib
@@ -57,6 +57,16 @@ def show_compared(baseline, measured):
     return well
 
 
+def show_others(script, baseline, measured):
+    """Prints the lines of rows that the baseline does not have, in columns that it has of others."""
+    rows, heads = ({key[place] for key in baseline} for place in (0, 1))
+    others = {key: now for key, now in measured.items() if key[0] not in rows and key[1] in heads and now is not None and now == now}
+    if others:
+        print("\nnot in the baseline:")
+    for (row, head), now in others.items():
+        print(f"{script}\t{row}\t{head}\t{now:,.0f}")
+
+
 def main(script, file):
     lines = []
     for line in sys.stdin:
@@ -66,8 +76,11 @@ def main(script, file):
     if not baseline:
         print(f"\nthe baseline has no figure of {script}")
         return 0
+    measured = figures_of(lines)
     print(f"\nagainst the baseline, at most {MOST} of it:")
-    return 0 if show_compared(baseline, figures_of(lines)) else 1
+    well = show_compared(baseline, measured)
+    show_others(script, baseline, measured)
+    return 0 if well else 1
 
 
 sys.exit(main(*sys.argv[1:]))

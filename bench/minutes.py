@@ -1,12 +1,12 @@
 #!/usr/bin/env python3
 """Prints where the gate's minutes are: the processor seconds of each crate's proof, of the proof of its tests and of its edits, in a run from nothing.
 
-Runs `rt ci --anew`, with the names of crates that are given, in a clone of this repository as it was committed, then plants the gate's mistakes, and looks
-twice a second at the provers that it started. What is not theirs (compilers, linkers, the tests and programs themselves) is the difference to the whole
+Runs `rt ci --anew`, or `rt ci` where the toolchain keeps nothing, with the names of crates that are given, in a clone of this repository as it was
+committed, then plants the gate's mistakes, and looks twice a second at the provers that it started. What is not theirs (compilers, linkers, the tests and programs themselves) is the difference to the whole
 in the last line. A prover that works on a mistake stands in a folder of its own, and one that proves tests is told so.
 
     bench/minutes.py            all crates: hours
-    bench/minutes.py l4_mail    this one and those below it
+    bench/minutes.py l4_mail    this one and those below it, where `rt ci` takes names
 """
 
 import os
@@ -19,7 +19,7 @@ import time
 
 TOP = pathlib.Path(__file__).resolve().parent.parent
 KINDS = ("proof", "tests", "mistakes")
-BOTH = 'rt ci --anew "$@" && mistakes/run.py gate --built --anew "$@"'
+BOTH = 'rt ci $ANEW "$@" && mistakes/run.py gate --built --anew "$@"'
 TICKS = os.sysconf("SC_CLK_TCK")
 
 
@@ -38,6 +38,12 @@ def prover(pid):
     if os.path.basename(os.readlink(f"/proc/{pid}/cwd")).startswith("mistake-"):
         return crate, "mistakes"
     return crate, "tests" if "--test" in words else "proof"
+
+
+def anew():
+    """The word by which `rt ci` takes nothing that it kept, where it keeps anything."""
+    told = subprocess.run(["rt", "help"], stdout=subprocess.PIPE, stderr=subprocess.STDOUT, text=True).stdout
+    return "--anew" if "--anew" in told else ""
 
 
 def processes():
@@ -97,7 +103,7 @@ def main(names):
         subprocess.run(["git", "clone", "-q", str(TOP), f"{room}/clone"], check=True)
         before = resource.getrusage(resource.RUSAGE_CHILDREN)
         with open(f"{room}/log", "w+", encoding="utf-8", errors="replace") as log:
-            gate = subprocess.Popen(["bash", "-c", BOTH, "gate", *names], cwd=f"{room}/clone", stdout=log, stderr=log)
+            gate = subprocess.Popen(["bash", "-c", BOTH, "gate", *names], cwd=f"{room}/clone", env={**os.environ, "ANEW": anew()}, stdout=log, stderr=log)
             while gate.poll() is None:
                 look(gate.pid, seen)
                 time.sleep(0.5)

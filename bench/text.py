@@ -1,9 +1,9 @@
-"""Measures the reading of machine texts, and prints the table."""
+"""Measures the reading of machine texts, and of those of version 2 beside those of version 1. Prints the tables."""
 
 import sys
 
 import texts
-from measure import for_each, least_seconds, peak_mebibytes
+from measure import for_each, instructions, least_seconds, peak_mebibytes
 from tables import Bench, row, table
 
 READ_RUNS = 51
@@ -13,6 +13,16 @@ READINGS = {
     "scripts of 1,024 long instructions": texts.long_scripts,
     "many threads, short instructions": texts.many_threads,
     "empty lines": texts.empty_lines,
+}
+
+# Texts of version 2, and what says about the same in version 1: the same lines, where the name says no more. Both have two sizes.
+SECOND_SIZES = 400_000, 800_000
+SECOND_READINGS = {
+    "long instructions": (lambda size: texts.in_second(texts.long_scripts(size)), texts.long_scripts),
+    "short instructions": (lambda size: texts.in_second(texts.many_threads(size)), texts.many_threads),
+    "a mix of lines of version 1": (lambda size: texts.in_second(texts.mixed_in_first(size)), texts.mixed_in_first),
+    "the mix with names, places and branches": (lambda size: texts.mixed_in_second(size, texts.mixed_second()), texts.mixed_in_first),
+    "that in columns, with comments": (lambda size: texts.mixed_in_second(size, texts.laid_out()), texts.mixed_in_first),
 }
 
 
@@ -40,7 +50,25 @@ def show_readings(bench):
                 f"{peak_mebibytes(bench.words('turn.l4', text, 1), SPENT):.1f}", *ratios)
 
 
+def for_each_byte_and_line(bench, made):
+    """What each further byte of a text takes, and each further line, where it is made as large again."""
+    small, large = (made(size) for size in SECOND_SIZES)
+    taken = instructions(reading(bench, large), FAULT) - instructions(reading(bench, small), FAULT)
+    return taken / (len(large) - len(small)), taken / (large.count("\n") - small.count("\n"))
+
+
+def show_second_readings(bench):
+    """Of each text of version 2 what a byte and a line take, and in brackets what they take in version 1, and the quotient."""
+    print("\nInstructions: of a text of version 2, and in brackets of one of version 1, and the quotient.")
+    table("Text of version 2", "instructions of a further byte", "instructions of a further line")
+    for name, both in SECOND_READINGS.items():
+        seconds, firsts = (for_each_byte_and_line(bench, made) for made in both)
+        cells = [f"{second:,.1f} ({first:,.1f}: {second / first:.2f})" for second, first in zip(seconds, firsts)]
+        row(name, *cells)
+
+
 if __name__ == "__main__":
     measured = Bench(*sys.argv[1:])
     measured.show_cells()
     show_readings(measured)
+    show_second_readings(measured)

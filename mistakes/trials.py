@@ -30,6 +30,8 @@ ERROR = re.compile(r"(?:so far: )?\./proofs/(\S+)\.antt:\d+:\d+: error: (.*)")
 # An error of what stands on a lemma that has one.
 DEPENDENT = re.compile(r"\d+ declarations? that depends? on `([^`]+)`, which was .*, w\w+ not checked: (.*)")
 UNREAD = re.compile(r"src/\S+: error\[.*|rattle: error.*")
+# A path by which the prover knows no function, as that of a method that an impl has for a type without a name.
+UNKNOWN = re.compile(r"rattle: error: `\w+` has no function `([^`]+)`")
 PARTS = "src", "specs", "proofs"
 TEXT = {"stdout": subprocess.PIPE, "stderr": subprocess.STDOUT, "text": True}
 # What one prover takes at most, in bytes.
@@ -95,9 +97,14 @@ def why_refused(said, function):
     if all(text == "proved" for text in verdicts):
         return None
     errors = told(ERROR, said)
-    own = [(path, text) for path, text in errors if path.endswith("/Answers") and is_of(path.removesuffix("/Answers").replace("/", "::"), function)]
+    own = [(path, text) for path, text in errors if path.endswith("/Answers") and is_of(proved_in(path), function)]
     real = [text for path, text in own if is_real(path, text, errors)]
     return next((text for text in verdicts if "`search` did not prove" in text), real[0] if real else None)
+
+
+def proved_in(path):
+    """The path of the function whose answers these are. The folder of one that calls itself begins with a plus."""
+    return path.removesuffix("/Answers").replace("/+", "/").replace("/", "::")
 
 
 def is_real(path, text, errors):
@@ -130,10 +137,16 @@ def prove(batch, room, work):
         shutil.copytree(home / part, room / part)
     for file, text in batch.texts.items():
         (room / file).write_text(text)
-    asked = [word for path in batch.asked() or [] for word in ("--only", path)]
-    crate = rtlib.Crate(str(home), str(TOP), {})
-    words = [rtlib.RATTLE, "check", *crate.words(["--jobs", "1", *asked]), "--incremental", work]
-    return subprocess.run(words, cwd=room, stdin=subprocess.DEVNULL, **TEXT).stdout.splitlines()
+    crate, paths = rtlib.Crate(str(home), str(TOP), {}), batch.asked() or []
+    while True:
+        asked = [word for path in paths for word in ("--only", path)]
+        words = [rtlib.RATTLE, "check", *crate.words(["--jobs", "1", *asked]), "--incremental", work]
+        said = subprocess.run(words, cwd=room, stdin=subprocess.DEVNULL, **TEXT).stdout.splitlines()
+        unknown = UNKNOWN.match(said[-1]) if said else None
+        if not unknown or unknown[1] not in paths:
+            return said
+        # Else the prover looks at none of them. With no path left it looks at all of the crate.
+        paths.remove(unknown[1])
 
 
 @functools.cache

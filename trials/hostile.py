@@ -239,8 +239,7 @@ def chart(dice):
         words.append("--threads=" + spoilt(dice, threads.encode()).replace(b"\0", b"").decode("utf-8", "ignore"))
     if dice.random() < 0.6:
         words.append(dice.choice(["--ascii", "--svg", "--html", "--mermaid"]))
-    if dice.random() < 0.4:
-        words.append("--registers")
+    words += [word for word in ("--registers", "--fold") if dice.random() < 0.4]
     return words
 
 

@@ -139,7 +139,7 @@ def charted(case, dice, machine, trace, counts):
     write(case.trace_file, trace)
     steps, threads = trace.count("\n"), list(machine.threads)
     chosen = tuple(dice.sample(threads, dice.randint(1, len(threads)))) if threads and dice.random() < 0.5 else None
-    part = charts.Part(dice.choice([1, dice.randint(1, steps + 2)]), dice.choice([steps, dice.randint(0, steps + 2)]), chosen, dice.random() < 0.5)
+    part = charts.Part(dice.choice([1, dice.randint(1, steps + 2)]), dice.choice([steps, dice.randint(0, steps + 2)]), chosen, dice.random() < 0.5, dice.random() < 0.3)
     width = dice.choice(WIDTHS)
     try:
         said, refused = charts.of_trace(case.text, trace, part, width)
@@ -150,9 +150,11 @@ def charted(case, dice, machine, trace, counts):
     if chosen is not None:
         words += ["--threads", ",".join(map(words_of_ids.spelled, chosen))]
     words += ["--registers"] if part.registers else []
+    words += ["--fold"] if part.folds else []
     case.compare("a chart", words, said, fault, FAULT if fault else QUIET, trace=trace)
     counts["charts"] += 1
     counts["charts with sends that have not arrived"] += ".)" in said or "(." in said
+    counts["charts without local steps"] += part.folds
     counts["charts with registers that change"] += "\n      " in said
 
 

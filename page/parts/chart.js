@@ -65,7 +65,7 @@ class Chart {
             return document.importNode(svgPart, true);
         };
         const heads = picture.cloneNode(true);
-        for (const it of heads.querySelectorAll("g.row, text.cpu")) it.remove();
+        for (const it of heads.querySelectorAll("g.row, text.cpu, path.waits")) it.remove();
         const cpuNames = [...picture.querySelectorAll("text.cpu")].map(({ textContent }) => textContent);
         const cpus = bands.map(([x, wide], place) => Chart.cpu(cpuNames[place], x - left, wide));
         if (this.head > Chart.HEAD) this.nameHeads(heads);

@@ -18,6 +18,10 @@ RUNS = ("local", "begin", "wait", "order")
 DECIDES = ("queue", "stimeout", "snobody", "scancel", "drop")
 # What follows a phase in which an instruction is under way, and one that has begun has gone on from its place already.
 GONE_ON = (Phase.SENDING, Phase.RECEIVING)
+# In these states a thread waits.
+WAITS = ("sending", "receiving", "ordering")
+# Behind a chart that has no room for the words of steps.
+TOO_WIDE = "too wide for words: l4run chart FILE TRACE --threads ID,.. shows some threads\n"
 # A shaft, and a head to the right and to the left.
 DELIVERY, OPEN = ("-", ">", "<"), (".", ")", "(")
 LEAST_NUMBER, LINE_ROOM, MOST_CELL = 4, 34, 10
@@ -33,16 +37,19 @@ class Row:
     said: str
     # Lines of what it changes in threads.
     changes: tuple = ()
+    # The threads that wait behind it.
+    waits: frozenset = frozenset()
 
 
 @dataclasses.dataclass(frozen=True)
 class Part:
-    """From one step to another, the threads that are shown, and whether it is told what changes in their registers."""
+    """From one step to another, the threads that are shown, whether it is told what changes in their registers, and whether `local` steps are left out."""
 
     first: int
     last: int
     chosen: tuple | None
     registers: bool = False
+    folds: bool = False
 
     def shows(self, thread):
         return self.chosen is None or thread in self.chosen
@@ -111,7 +118,10 @@ class Charted:
         before = self.watched()
         row, behind = self.row(number, step), self.watched()
         changes = tuple(line for each in behind for line in changed(each, before[each], behind[each]))
-        return dataclasses.replace(row, changes=changes)
+        return dataclasses.replace(row, changes=changes, waits=self.waiting())
+
+    def waiting(self):
+        return frozenset(each for each in self.machine.threads if self.world.members[each].state() in WAITS)
 
     def row(self, number, step):
         verb, field, *others = step
@@ -137,7 +147,7 @@ class Charted:
     def shown_rows(self):
         for number, row in enumerate(self.rows, 1):
             is_shown = any(self.part.shows(each) for each in row.concerned) or self.part.chosen is None
-            if number >= self.part.first and is_shown:
+            if number >= self.part.first and is_shown and not (self.part.folds and row.said.startswith("local ")):
                 yield row
 
     def standing(self, thread):
@@ -145,7 +155,7 @@ class Charted:
         send = member.send
         arrow = (thread, send.destination) if send and words.is_global(send.destination) else None
         mark = STATE_MARKS[member.phase] if member.alive else DELETED_MARK
-        return Row("", {} if arrow else {thread: mark}, arrow, {thread}, self.standing_said(thread, member))
+        return Row("", {} if arrow else {thread: mark}, arrow, {thread}, self.standing_said(thread, member), waits=self.waiting())
 
     def standing_said(self, thread, member):
         said = f"{words.spelled(thread)} {member.state()}"
@@ -164,15 +174,16 @@ def cell(columns, place, row, glyphs, width):
     """What stands in front of the line of a thread and at it."""
     shaft, right, left = glyphs
     space = " " * (width - 1)
+    own = ":" if columns[place] in row.waits else "|"
     if row.arrow is None:
-        return space + row.marks.get(columns[place], "|")
+        return space + row.marks.get(columns[place], own)
     start, end = (columns.index(each) if each in columns else None for each in row.arrow)
     if start is None or end is None:
         if place == end:
-            return space[1:] + right + "|"
-        return space[1:] + left + "+" if place == start else space + "|"
+            return space[1:] + right + own
+        return space[1:] + left + "+" if place == start else space + own
     low, high = min(start, end), max(start, end)
-    line = "+" if place == start else "-" if low < place < high else "|"
+    line = "+" if place == start else "-" if low < place < high else own
     if not low < place <= high:
         return space + line
     before = left + shaft * (width - 2) if end < start and place == end + 1 else shaft * (width - 1)
@@ -200,7 +211,7 @@ def text(said, machine, history, part, width):
     for row in map(charted.standing, columns):
         cells = " " * number + "".join(cell(columns, at, row, OPEN, wide) for at in range(len(columns)))
         out += f"{cells if line else ''}  {row.said}\n"
-    return out + circles(charted.world)
+    return out + circles(charted.world) + ("" if line else TOO_WIDE)
 
 
 def circles(world):

@@ -7,8 +7,9 @@ pub use Rattle.l4_types.specs.ReportView
 pub use Rattle.l4_types.specs.StepView
 pub use Rattle.l4_script.specs.Texts
 pub use Rattle.l4_script.specs.Versions
-pub use Rattle.l4_machine.specs.Entries
+pub use Rattle.l4_replay.specs.Entries
 pub use Rattle.l4_machine.specs.Outcomes
+pub use Rattle.l4_rounds.specs.ThenRest
 pub use Rattle.l4_audit.specs.Audits
 pub use Rattle.l4_trace.specs.Lines
 pub use Rattle.l4_trace.specs.Reading

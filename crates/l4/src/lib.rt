@@ -4,14 +4,16 @@
 //! A machine text declares threads with their scripts, and `Machine::parse` reads it. `run` lets
 //! its processors work on host threads, `replay` in the order of a schedule. Both return an
 //! `Outcome`: the history, the undecided sends, the report of each thread, and whether anything was
-//! left to do. `replay_compact` takes entries that name each choice. `trace` and `read_events`
-//! write a history and read it, `check` judges whether steps are a history at all.
+//! left to do. `replay_compact` takes entries that name each choice, and `replay_then_rest` goes on
+//! in rounds behind them. `trace` and `read_events` write a history and read it, `check` judges
+//! whether steps are a history at all.
 //!
 //! Contracts see the definitions of the model (docs/MODEL.md). The history of an outcome is one of
 //! the machine, and the laws of all histories hold for it. `check` is Ok for histories alone. The
 //! host decides which history a run of several processors takes. Of its own the crate has
-//! `round_trips`, calls that do what theorems say; its `specs` re-export what all these contracts
-//! cite. The lines below test a server (the whole test is in `crates/l4_host_tests/src/server.rt`):
+//! `replay_then_rest`, and `round_trips`, calls that do what theorems say; its `specs` re-export
+//! what all these contracts cite. The lines below test a server (the whole test is in
+//! `crates/l4_host_tests/src/server.rt`):
 //!
 //! ```rust
 //! let machine = Machine::parse(alloc, text)?;
@@ -21,6 +23,7 @@
 //! ```
 #![tactic(auto)]
 
+mod rests;
 pub mod round_trips;
 
 // Machine texts.
@@ -30,12 +33,11 @@ pub use l4_script::text::{MOST_BYTES, TextFault, TextFaultKind};
 pub use l4_types::times::Period;
 
 // Runs and replays.
-pub use l4_machine::{
-    CompactOutcome, Entry, Listener, MOST_ENTRIES, MOST_EVENTS, MOST_TURNS, Outcome, RunFault,
-    RunHistory, replay, replay_compact, run,
-};
+pub use l4_machine::{CompactOutcome, Outcome, RunHistory, replay, replay_compact, run};
 pub use l4_proc::gate::{Gate, Open};
+pub use l4_replay::{Entry, Listener, MOST_ENTRIES, MOST_EVENTS, MOST_TURNS, RunFault};
 pub use l4_types::reports::{Ending, State, ThreadView};
+pub use rests::replay_then_rest;
 
 // Audits.
 pub use l4_audit::audit::{Audit, AuditFault, check};

@@ -17,22 +17,22 @@ ghost use Rattle.std.specs.Prelude.{Ok, map, length};
 ghost use Rattle.l4_model.specs.History.{IsHistory};
 ghost use Rattle.l4_model.specs.Steps.{Step as ModelStep};
 ghost use Rattle.l4_types.specs.StepView.{step_of};
-ghost use Rattle.l4_machine.specs.Entries.{most_entries, most_turns, turns_fault, schedule_fault};
-ghost use Rattle.l4_machine.specs.Entries.{entries_fault, entry_from};
+ghost use Rattle.l4_replay.specs.Entries.{most_entries, most_turns, turns_fault, schedule_fault};
+ghost use Rattle.l4_replay.specs.Entries.{entries_fault, entry_from};
 ghost use Rattle.l4_machine.specs.Outcomes.{IsCompactOutcome, IsCompactReplay, IsOutcome};
 ghost use Rattle.l4_machine.specs.Outcomes.{IsReplayed, compact_findings_of};
-ghost use Rattle.l4_machine.specs.declared.outcome.RunFault.TheVariants.{NoMemory as RunOutOfMemory};
+ghost use Rattle.l4_replay.specs.declared.fault.RunFault.TheVariants.{NoMemory as RunOutOfMemory};
 ghost use Rattle.l4_trace.specs.Reading.{steps_of};
 ghost use Rattle.l4_audit.specs.Audits.{Passes};
 ghost use Rattle.l4.specs.Inner.RoundTrips.{IsAudited};
 
 use l4_audit::audit::{Audit, AuditFault, check};
 use l4_machine::{
-    CompactOutcome, Entry, Outcome, RunFault, law_one_outcome, replay, replay_compact, run,
-    run_recorded,
+    CompactOutcome, Outcome, law_one_outcome, replay, replay_compact, run, run_recorded,
 };
 use l4_model::law_first_fault;
 use l4_proc::gate::Gate;
+use l4_replay::{Entry, RunFault};
 use l4_script::machine::Machine;
 use l4_trace::fault::TraceFault;
 use l4_trace::reading::{law_read_back, read_events};

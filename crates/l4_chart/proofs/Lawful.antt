@@ -1,5 +1,5 @@
 -- The rows of a whole history are its steps, and arrows are deliveries.
-use Rattle.std.proofs.Common.{◌≡◌, ℕ, ◌+◌, ◌≤◌, Bool, true, None, List, [], ◌∷◌, length, map, refl, ap, ◌∙◌, arith}
+use Rattle.std.proofs.Common.{◌≡◌, ℕ, ◌+◌, ◌≤◌, Bool, true, false, None, List, [], ◌∷◌, length, map, refl, ap, ◌∙◌, arith}
 use Rattle.std.specs.Prelude.{filter, nat_le}
 use Rattle.std.specs.List.{enumerate_from}
 use Rattle.std.proofs.lemmas.Bool.Decides.{nat_tests}
@@ -12,7 +12,7 @@ use Rattle.l4_json.specs.Steps.{behind}
 use Rattle.l4_chart.specs.Charts.{columns_of, concerns, is_in, rows_with, until_last, watched}
 use Rattle.l4_chart.specs.Laws.{ArrowsAreDeliveries, IsDelivery, RowsAreSteps, StandingsAreReached, numbered_step}
 use Rattle.l4_chart.specs.Listings.{Listing}
-use Rattle.l4_chart.specs.Told.{Told, told_at, told_from}
+use Rattle.l4_chart.specs.Told.{Told, Watched, told_at, told_from}
 use Rattle.l4_chart.specs.Whole.{whole}
 use Rattle.l4_chart.proofs.Walking.{led_there}
 use Rattle.l4_chart.specs.Marks.{mark_of}
@@ -28,7 +28,7 @@ all_shown columns (Arrow sender receiver) = refl
 all_shown columns (Clock cpu clock) = refl
 
 abbrev all : (registers : Bool) → (last : ℕ) → Part
-all registers last = record { first = 1; last = last; threads = None; registers = registers }
+all registers last = record { first = 1; last = last; threads = None; registers = registers; folds = false }
 
 le_test : (a b : ℕ) → a ≤ b → nat_le a b ≡ true
 le_test a b h = grind (arith, nat_tests)
@@ -36,7 +36,7 @@ le_test a b h = grind (arith, nat_tests)
 shown : (registers : Bool) (columns : List Column) (last : ℕ) (row : Told) → 1 ≤ row.number → is_in (all registers last) columns row ≡ true
 shown registers columns last row from = rw (le_test 1 row.number from, all_shown columns (mark_of row.step)) refl
 
-whole_from : (m : Machine) (listing : Listing) (registers : Bool) (columns watched : List Column) (last k : ℕ) (w : World) (h : List Step) → 1 ≤ k →
+whole_from : (m : Machine) (listing : Listing) (registers : Bool) (columns : List Column) (watched : Watched) (last k : ℕ) (w : World) (h : List Step) → 1 ≤ k →
     map numbered_step (filter (is_in (all registers last) columns) (told_from m listing watched w k h)) ≡ enumerate_from k h
 whole_from m listing registers columns watched last k w [] from = refl
 whole_from m listing registers columns watched last k w (step ∷ h) from =

@@ -2,6 +2,7 @@ pub mod Ended
 pub mod Joined
 pub mod Lawful
 pub mod Listed
+pub mod Pictured
 pub mod Repeated
 pub mod Shown
 pub mod Under

@@ -18,31 +18,36 @@ use Rattle.l4_chart.specs.Changes.{Held, all_held, changes_of, changes_since}
 use Rattle.l4_chart.specs.Charts.{chart_of, columns_of, rows_with, until_last}
 use Rattle.l4_chart.specs.Listings.{Instruction, Listing}
 use Rattle.l4_chart.specs.Standings.{standings_in}
-use Rattle.l4_chart.specs.Told.{Told, known_before, step_destination, step_instruction, told_at, told_from, told_of, world_behind}
+use Rattle.l4_chart.specs.Told.{Told, Watched, changing, known_before, step_destination, step_instruction, told_at, told_from, told_of, world_behind}
+use Rattle.l4_chart.specs.Waiting.{all_waits}
 use Rattle.l4_chart.specs.Windows.{Part}
 use Rattle.l4_chart.specs.declared.columns.Column.{Column}
 use Rattle.l4_chart.specs.declared.standings.Standing.{Standing}
 use Rattle.l4_chart.proofs.Shown.{kept}
 
 -- What is told of a step: its destination is known in front of it or behind it.
-pub told_is : (a b : Audited) (listing : Listing) (watched : List Column) (number : ℕ) (step : Step) (known to : Option Id) (at : Option Instruction) (held : List Held) (changes : List ℕ) →
+pub told_is : (a b : Audited) (listing : Listing) (watched : Watched) (number : ℕ) (step : Step) (known to : Option Id) (at : Option Instruction) (held : List Held) (changes : List ℕ) (waits : List Bool) →
     b ≡ record a { world = behind a.machine a.world step } → known ≡ known_before a.machine a.world step →
     ((before : World) → known ≡ known_before b.machine before step → to ≡ step_destination b.machine before b.world step) →
-    at ≡ step_instruction a.machine listing a.world step → held ≡ all_held a.machine a.world watched → changes ≡ changes_since b.machine b.world held →
-    record { number = number; step = step; to = to; at = at; changes = changes } ≡ told_at a.machine listing watched a.world number step
-told_is a b listing watched number step known to at held changes taken known_is to_is at_is held_is changes_are =
+    at ≡ step_instruction a.machine listing a.world step → held ≡ all_held a.machine a.world (changing watched) → changes ≡ changes_since b.machine b.world held →
+    waits ≡ all_waits b.machine b.world watched.columns →
+    record { number = number; step = step; to = to; at = at; changes = changes; waits = waits } ≡ told_at a.machine listing watched a.world number step
+told_is a b listing watched number step known to at held changes waits taken known_is to_is at_is held_is changes_are waits_are =
     let there : known ≡ known_before b.machine a.world step = known_is ∙ sym (ap (λ (x : Audited). known_before x.machine a.world step) taken) in
-    let since : changes ≡ changes_of a.machine watched a.world (behind a.machine a.world step) =
+    let since : changes ≡ changes_of a.machine (changing watched) a.world (behind a.machine a.world step) =
     changes_are ∙ ap (λ (x : Audited). changes_since x.machine x.world held) taken ∙ ap (changes_since a.machine (behind a.machine a.world step)) held_is in
-    ap₂ (λ (t : Option Id) (i : Option Instruction). record { number = number; step = step; to = t; at = i; changes = changes })
+    let waiting : waits ≡ all_waits a.machine (behind a.machine a.world step) watched.columns =
+    waits_are ∙ ap (λ (x : Audited). all_waits x.machine x.world watched.columns) taken in
+    ap₂ (λ (t : Option Id) (i : Option Instruction). record { number = number; step = step; to = t; at = i; changes = changes; waits = waits })
     (to_is a.world there ∙ ap (λ (x : Audited). step_destination x.machine a.world x.world step) taken) at_is
-    ∙ ap (λ (cs : List ℕ). record {
+    ∙ ap₂ (λ (cs : List ℕ) (ws : List Bool). record {
       number = number;
       step = step;
       to = step_destination a.machine a.world (behind a.machine a.world step) step;
       at = step_instruction a.machine listing a.world step;
       changes = cs;
-    }) since
+      waits = ws;
+    }) since waiting
 
 -- The world behind steps that are possible is the one that they reach.
 pub led_there : (m : Machine) (v : World) (h : List Step) (w : World) → run m v h ≡ Some w → world_behind m v h ≡ w
@@ -61,14 +66,14 @@ taken_here : (h : List Step) (i : ℕ) (step : Step) (rest : List Step) → drop
 taken_here h i step rest is = rw add-one (taken_next h i step rest is)
 
 -- So many steps were taken, and these rows are kept of them.
-pub record Walked (m : Machine) (listing : Listing) (watched : List Column) (p : Told → Bool) (h : List Step) (i : ℕ) (a : Audited) (rows : List Told) : Type 0 where
+pub record Walked (m : Machine) (listing : Listing) (watched : Watched) (p : Told → Bool) (h : List Step) (i : ℕ) (a : Audited) (rows : List Told) : Type 0 where
   pub machine : a.machine ≡ m
   pub way : reached m (take i h) ≡ Some a.world
   pub rest : (last : World) × (run m a.world (drop i h) ≡ Some last)
   pub told : rows ++ filter p (told_from m listing watched a.world (i + 1) (drop i h)) ≡ filter p (told_of m listing watched h)
   pub led : world_behind m a.world (drop i h) ≡ world_behind m (opening m) h
 
-pub begun : (listing : Listing) (watched : List Column) (p : Told → Bool) (h : List Step) (a : Audited) (rows : List Told) → a.world ≡ opening a.machine → IsHistory a.machine h → rows ≡ [] →
+pub begun : (listing : Listing) (watched : Watched) (p : Told → Bool) (h : List Step) (a : Audited) (rows : List Told) → a.world ≡ opening a.machine → IsHistory a.machine h → rows ≡ [] →
     Walked a.machine listing watched p h 0 a rows
 begun listing watched p h a rows opens history none = record {
   machine = refl;
@@ -78,20 +83,20 @@ begun listing watched p h a rows opens history none = record {
   led = ap (λ w. world_behind a.machine w h) opens;
 }
 
-pub placed_here : (m : Machine) (listing : Listing) (watched : List Column) (p : Told → Bool) (h : List Step) (i : ℕ) (a : Audited) (rows : List Told) → Walked m listing watched p h i a rows → IsPlaced a
+pub placed_here : (m : Machine) (listing : Listing) (watched : Watched) (p : Told → Bool) (h : List Step) (i : ℕ) (a : Audited) (rows : List Told) → Walked m listing watched p h i a rows → IsPlaced a
 placed_here m listing watched p h i a rows walked = are_placed a (filter_map begun_name (take i h)) (record {
   steps = take i h;
   reached_by = ap (λ x. reached x (take i h)) walked.machine ∙ walked.way;
   begun_by = refl;
 })
 
-pub possible_here : (m : Machine) (listing : Listing) (watched : List Column) (p : Told → Bool) (h : List Step) (i : ℕ) (a : Audited) (rows : List Told) (step : Step) → Walked m listing watched p h i a rows →
+pub possible_here : (m : Machine) (listing : Listing) (watched : Watched) (p : Told → Bool) (h : List Step) (i : ℕ) (a : Audited) (rows : List Told) (step : Step) → Walked m listing watched p h i a rows →
     drop i h ≡ step ∷ drop (i + 1) h → is_some (next a.machine a.world step) ≡ true
 possible_here m listing watched p h i a rows step walked here =
     bind_then (next m a.world step) (λ u. run m u (drop (i + 1) h)) walked.rest.0 (ap (run m a.world) (sym here) ∙ walked.rest.1) λ u is more.
     ap (λ x. is_some (next x a.world step)) walked.machine ∙ ap is_some is
 
-pub goes_on : (m : Machine) (listing : Listing) (watched : List Column) (p : Told → Bool) (h : List Step) (i : ℕ) (step : Step) (a b : Audited) (row : Told) (rows new : List Told) →
+pub goes_on : (m : Machine) (listing : Listing) (watched : Watched) (p : Told → Bool) (h : List Step) (i : ℕ) (step : Step) (a b : Audited) (row : Told) (rows new : List Told) →
     Walked m listing watched p h i a rows → drop i h ≡ step ∷ drop (i + 1) h → b ≡ record a { world = behind a.machine a.world step } →
     row ≡ told_at a.machine listing watched a.world (i + 1) step → new ≡ cond (p row) (rows ++ row ∷ []) rows → Walked m listing watched p h (i + 1) b new
 goes_on m listing watched p h i step a b row rows new walked here taken told is =
@@ -116,12 +121,12 @@ goes_on m listing watched p h i step a b row rows new walked here taken told is 
 
 -- Behind the last step.
 
-pub all_rows : (m : Machine) (listing : Listing) (watched : List Column) (p : Told → Bool) (h : List Step) (n : ℕ) (a : Audited) (rows : List Told) → Walked m listing watched p h n a rows → length h ≤ n →
+pub all_rows : (m : Machine) (listing : Listing) (watched : Watched) (p : Told → Bool) (h : List Step) (n : ℕ) (a : Audited) (rows : List Told) → Walked m listing watched p h n a rows → length h ≤ n →
     rows ≡ filter p (told_of m listing watched h)
 all_rows m listing watched p h n a rows walked over =
     sym (append-nil rows) ∙ sym (ap (λ xs. rows ++ filter p (told_from m listing watched a.world (n + 1) xs)) (drop_all n h over)) ∙ walked.told
 
-pub last_reached : (m : Machine) (listing : Listing) (watched : List Column) (p : Told → Bool) (h : List Step) (n : ℕ) (a : Audited) (rows : List Told) → Walked m listing watched p h n a rows → length h ≤ n →
+pub last_reached : (m : Machine) (listing : Listing) (watched : Watched) (p : Told → Bool) (h : List Step) (n : ℕ) (a : Audited) (rows : List Told) → Walked m listing watched p h n a rows → length h ≤ n →
     a.world ≡ world_behind m (opening m) h
 last_reached m listing watched p h n a rows walked over = sym (ap (world_behind m a.world) (drop_all n h over)) ∙ walked.led
 

@@ -34,6 +34,10 @@ opened g = record g {
   left_head = g.open_left_head;
 }
 
+-- The same characters for the line of a thread that waits.
+abbrev pub for_line : Glyphs → (waits : Bool) → Glyphs
+for_line g waits = if waits then (record g { line = g.waiting_line }) else g
+
 -- The place of a thread among the columns.
 abbrev pub place_in : List Column → GlobalId → Option ℕ
 place_in columns t = position (λ (c : Column). same_id c.id t) columns

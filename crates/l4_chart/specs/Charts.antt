@@ -1,16 +1,16 @@
 -- What a chart of a history is: threads under their processors, a row for each step, and behind the
 -- last of them what each thread is in.
-use Rattle.std.specs.Prelude.{ℕ, ◌==◌, Bool, true, false, ◌&&◌, ◌||◌, nat_le, if◌then◌else◌, Option, Some, None, is_none, List, [], filter, filter_map, flat_map, map, take}
+use Rattle.std.specs.Prelude.{ℕ, ◌==◌, Bool, true, false, ◌&&◌, ◌||◌, not, nat_le, if◌then◌else◌, Option, Some, None, is_none, List, [], filter, filter_map, flat_map, map, take}
 use Rattle.std.specs.List.{list_any, range_with_len}
 use Rattle.l4_model.specs.Words.{GlobalId, same_id}
 use Rattle.l4_model.specs.Machine.{Machine, Declaration}
-use Rattle.l4_model.specs.Steps.{Step, Order}
+use Rattle.l4_model.specs.Steps.{Step, Local, Order}
 use Rattle.l4_model.specs.World.{World, opening}
 use Rattle.l4_types.specs.StepView.{seen}
 use Rattle.l4_waits.specs.Lines.{circles_text}
 use Rattle.l4_chart.specs.Listings.{Listing}
 use Rattle.l4_chart.specs.Standings.{standings_in}
-use Rattle.l4_chart.specs.Told.{Told, told_of, world_behind}
+use Rattle.l4_chart.specs.Told.{Told, Watched, told_of, world_behind}
 use Rattle.l4_chart.specs.Windows.{Part}
 use Rattle.l4_chart.specs.Marks.{mark_of}
 use Rattle.l4_chart.specs.declared.chart.Chart.{Chart}
@@ -50,11 +50,17 @@ abbrev pub is_of_target : Option (List GlobalId) → Step → Bool
 is_of_target threads (Order caller target what) = is_chosen threads target
 is_of_target threads _ = false
 
--- Whether a step is a row of this part of a chart.
+-- A step that concerns its thread alone.
+abbrev pub is_local : Step → Bool
+is_local (Local t) = true
+is_local _ = false
+
+-- Whether a step is a row of this part of a chart. By its number it is seen where others are left out.
 abbrev pub is_in : Part → List Column → Told → Bool
 is_in part columns row =
     nat_le part.first row.number
     && (concerns part.threads columns (mark_of row.step) || is_of_target part.threads row.step)
+    && not (part.folds && is_local row.step)
 
 -- The steps of a history up to the last of a part, and the world that they lead to.
 
@@ -64,9 +70,9 @@ until_last part h = take part.last h
 abbrev pub last_world : Machine → Part → List Step → World
 last_world m part h = world_behind m (opening m) (until_last part h)
 
--- The threads of whose registers it is told what changes.
-abbrev pub watched : Part → List Column → List Column
-watched part columns = if part.registers then columns else []
+-- Of all threads that are shown it is told whether they wait.
+abbrev pub watched : Part → List Column → Watched
+watched part columns = record { columns = columns; registers = part.registers }
 
 -- The rows of a part of a history, with these columns and with those of its threads.
 
@@ -85,6 +91,7 @@ row_of r = record {
   to = r.to;
   at = r.at;
   changes = r.changes.items;
+  waits = r.waits.items;
 }
 
 -- What stands in a chart: threads, rows, and what each thread is in behind the last of the steps, with

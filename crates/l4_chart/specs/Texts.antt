@@ -1,14 +1,15 @@
 -- A chart as text.
-use Rattle.std.specs.Prelude.{ℕ, ◌-◌, ◌==◌, nat_le, if◌then◌else◌, Option, Some, None, List, [], ◌∷◌, ◌++◌, length, take, flat_map, replicate, codes, decimal}
+use Rattle.std.specs.Prelude.{ℕ, ◌-◌, ◌==◌, Bool, false, nat_le, if◌then◌else◌, Option, Some, None, List, [], ◌∷◌, ◌++◌, length, map, take, flat_map, replicate, codes, decimal, slice_index_or}
 use Rattle.std.specs.Char.{encode_utf8}
 use Rattle.std.specs.List.{enumerate_from, repeat}
 use Rattle.l4_words.specs.Threads.{thread_word}
-use Rattle.l4_chart.specs.Cells.{stroke_of, cell_of, is_at, opened}
+use Rattle.l4_chart.specs.Cells.{stroke_of, cell_of, for_line, is_at, opened}
 use Rattle.l4_chart.specs.Charts.{Drawn}
 use Rattle.l4_chart.specs.Layouts.{layout_of}
 use Rattle.l4_chart.specs.Marks.{mark_of}
 use Rattle.l4_chart.specs.Standings.{standing_mark, standing_words}
 use Rattle.l4_chart.specs.Told.{Told, row_words}
+use Rattle.l4_chart.specs.Waiting.{waits_in}
 use Rattle.l4_chart.specs.declared.cells.Cell.{Cell}
 use Rattle.l4_chart.specs.declared.cells.Stroke.{Stroke}
 use Rattle.l4_chart.specs.declared.columns.Column.{Column}
@@ -26,9 +27,11 @@ cell_text width cell =
     encode_utf8 cell.gap.last
     ++ encode_utf8 cell.line
 
-abbrev pub cells_text : Glyphs → (width : ℕ) → Stroke → List (ℕ × Column) → List ℕ
-cells_text g width stroke places = flat_map (λ (p : ℕ × Column).
-    cell_text width (cell_of g stroke p.0 p.1)) places
+-- The line of a thread that waits is another one.
+abbrev pub cells_text : Glyphs → (width : ℕ) → Stroke → (waits : List Bool) → List (ℕ × Column) →
+    List ℕ
+cells_text g width stroke waits places = flat_map (λ (p : ℕ × Column).
+    cell_text width (cell_of (for_line g (slice_index_or waits p.0 false)) stroke p.0 p.1)) places
 
 -- The words of a row, cut off if there is less room.
 abbrev pub cut : Glyphs → (room : ℕ) → List ℕ → List ℕ
@@ -42,20 +45,24 @@ line_text g room row = if room == 0 then [] else codes "  " ++ cut g room (row_w
 abbrev pub row_text : Glyphs → Layout → List Column → Told → List ℕ
 row_text g l columns row =
     right l.number (decimal row.number)
-    ++ cells_text g l.cell (stroke_of columns (mark_of row.step)) (enumerate_from 0 columns)
+    ++ cells_text g l.cell (stroke_of columns (mark_of row.step)) row.waits
+    (enumerate_from 0 columns)
     ++ line_text g l.line row ++ row.changes ++ codes "\n"
 
 -- What a thread is in has no number. Its words are never cut off or left out. They stand alone where
 -- those of rows are left out.
-abbrev pub standing_cells : Glyphs → Layout → List Column → Standing → List ℕ
-standing_cells g l columns s =
+abbrev pub standing_cells : Glyphs → Layout → List Column → (waits : List Bool) → Standing → List ℕ
+standing_cells g l columns waits s =
     if l.line == 0 then []
     else replicate l.number 32 ++ cells_text (opened g) l.cell
-    (stroke_of columns (standing_mark s)) (enumerate_from 0 columns)
+    (stroke_of columns (standing_mark s)) waits (enumerate_from 0 columns)
 
-abbrev pub standing_text : Glyphs → Layout → List Column → Standing → List ℕ
-standing_text g l columns s =
-    standing_cells g l columns s ++ codes "  " ++ standing_words s ++ codes "\n"
+abbrev pub standing_text : Glyphs → Layout → List Column → (waits : List Bool) → Standing → List ℕ
+standing_text g l columns waits s =
+    standing_cells g l columns waits s ++ codes "  " ++ standing_words s ++ codes "\n"
+
+abbrev pub standing_waits : Standing → Bool
+standing_waits s = waits_in s.state
 
 -- Above a thread stands the number of its processor, or a bracket if the thread before it has the
 -- same processor.
@@ -77,11 +84,19 @@ heading g l columns =
     right l.number (codes "cpu") ++ heads_text g l.cell None columns ++ codes "\n"
     ++ right l.number (codes "step") ++ ids_text l.cell columns ++ codes "\n"
 
--- Last come the lines of circles, as `--waits` prints them.
+-- Where the words of rows are left out, a line says what to do.
+abbrev pub hint_text : Layout → List ℕ
+hint_text l =
+    if l.line == 0
+    then codes "too wide for words: l4run chart FILE TRACE --threads ID,.. shows some threads\n"
+    else []
+
+-- Behind the rows come the lines of circles, as `--waits` prints them.
 abbrev pub text_in : Glyphs → Layout → Drawn → List ℕ
 text_in g l chart =
     heading g l chart.columns ++ flat_map (row_text g l chart.columns) chart.rows
-    ++ flat_map (standing_text g l chart.columns) chart.standings ++ chart.circles
+    ++ flat_map (standing_text g l chart.columns (map standing_waits chart.standings))
+    chart.standings ++ chart.circles ++ hint_text l
 
 -- The text of a chart on a terminal of `width` columns.
 abbrev pub text_of : Glyphs → (width : ℕ) → Drawn → List ℕ

@@ -1,5 +1,5 @@
 -- What a row tells of its step: its number, where its send goes to, the instruction that it runs,
--- and what it changes in registers.
+-- what it changes in registers, and which threads wait behind it.
 use Rattle.std.specs.Prelude.{ℕ, ◌+◌, Bool, true, false, Option, Some, None, List, [], ◌∷◌, ◌++◌, codes, decimal, if◌then◌else◌}
 use Rattle.std.specs.List.{join_with_byte}
 use Rattle.l4_model.specs.Conditions.{◌>>=◌, found}
@@ -12,6 +12,7 @@ use Rattle.l4_trace.specs.Lines.{words_of}
 use Rattle.l4_words.specs.Threads.{id_word}
 use Rattle.l4_chart.specs.Changes.{changes_of}
 use Rattle.l4_chart.specs.Listings.{Instruction, Listing, instruction_at}
+use Rattle.l4_chart.specs.Waiting.{all_waits}
 use Rattle.l4_chart.specs.declared.columns.Column.{Column}
 
 pub record Told : Type 0 where
@@ -20,6 +21,16 @@ pub record Told : Type 0 where
   pub to : Option Id
   pub at : Option Instruction
   pub changes : List ℕ
+  -- for each thread of the chart whether it waits
+  pub waits : List Bool
+
+-- Of which threads rows tell, and whether they tell what changes in registers.
+pub record Watched : Type 0 where
+  pub columns : List Column
+  pub registers : Bool
+
+abbrev pub changing : Watched → List Column
+changing w = if w.registers then w.columns else []
 
 -- Where the send of a step goes to. One that begins is known behind the step, the others in front of
 -- it. A delivery tells its receiver itself.
@@ -43,27 +54,27 @@ step_instruction m listing before step = do
   t ← found m before id
   instruction_at listing t.at t.now.context.place
 
--- A step from this world on, and those of a history, with their numbers. What changes is told of
--- the threads that are watched.
+-- A step from this world on, and those of a history, with their numbers.
 
-abbrev pub told_at : Machine → Listing → (watched : List Column) → (before : World) →
+abbrev pub told_at : Machine → Listing → Watched → (before : World) →
     (number : ℕ) → Step → Told
 told_at m listing watched before number step = record {
   number = number;
   step = step;
   to = step_destination m before (behind m before step) step;
   at = step_instruction m listing before step;
-  changes = changes_of m watched before (behind m before step);
+  changes = changes_of m (changing watched) before (behind m before step);
+  waits = all_waits m (behind m before step) watched.columns;
 }
 
-abbrev pub told_from : Machine → Listing → (watched : List Column) → World → (number : ℕ) →
+abbrev pub told_from : Machine → Listing → Watched → World → (number : ℕ) →
     List Step → List Told
 told_from m listing watched w number [] = []
 told_from m listing watched w number (step ∷ steps) =
     told_at m listing watched w number step
     ∷ told_from m listing watched (behind m w step) (number + 1) steps
 
-abbrev pub told_of : Machine → Listing → (watched : List Column) → List Step → List Told
+abbrev pub told_of : Machine → Listing → Watched → List Step → List Told
 told_of m listing watched h = told_from m listing watched (opening m) 1 h
 
 -- The world that steps lead to, where each of them is possible.

@@ -1,5 +1,5 @@
 -- The chart of a whole history as text.
-use Rattle.std.specs.Prelude.{ℕ, Bool, if◌then◌else◌, None, List, length}
+use Rattle.std.specs.Prelude.{ℕ, Bool, false, if◌then◌else◌, None, List, length}
 use Rattle.l4_model.specs.Machine.{Machine}
 use Rattle.l4_model.specs.Steps.{Step}
 use Rattle.l4_chart.specs.Charts.{chart_of}
@@ -13,13 +13,14 @@ use Rattle.l4_chart.specs.declared.whole.TextForm.{TextForm}
 abbrev pub glyphs_of : TextForm → Glyphs
 glyphs_of form = if form.is_ascii then ASCII else LINES
 
--- All of a history, with all threads.
+-- All of a history, with all threads and all steps.
 abbrev pub whole : (registers : Bool) → List Step → Part
 whole registers h = record {
   first = 1;
   last = length h;
   threads = None;
   registers = registers;
+  folds = false;
 }
 
 abbrev pub whole_text : Machine → Listing → List Step → TextForm → List ℕ

@@ -1,5 +1,6 @@
 -- A part of a history: the steps from one number to another, counted from 1, the threads that are
--- chosen, or all, and whether it is told what changes in their registers.
+-- chosen, or all, whether it is told what changes in their registers, and whether `local` steps are
+-- left out.
 use Rattle.std.specs.Prelude.{ℕ, ◌-◌, min, Bool, Option, Some, None, List}
 use Rattle.l4_model.specs.Words.{GlobalId}
 
@@ -8,6 +9,7 @@ pub record Part : Type 0 where
   pub last : ℕ
   pub threads : Option (List GlobalId)
   pub registers : Bool
+  pub folds : Bool
 
 -- The steps of a part that stand before the first step that is not possible.
 abbrev pub until_refused : (refused : Option ℕ) → Part → Part

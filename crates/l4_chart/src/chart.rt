@@ -4,8 +4,8 @@ ghost use Rattle.std.specs.List.{list_any};
 ghost use Rattle.l4_model.specs.History.{IsHistory};
 ghost use Rattle.l4_model.specs.World.{opening};
 ghost use Rattle.l4_types.specs.StepView.{seen};
-ghost use Rattle.l4_chart.specs.Charts.{chart_of, concerns, drawn_of, is_in, is_of_target, row_of};
-ghost use Rattle.l4_chart.specs.Charts.{rows_with, until_last, watched};
+ghost use Rattle.l4_chart.specs.Charts.{chart_of, concerns, drawn_of, is_in, is_local, is_of_target};
+ghost use Rattle.l4_chart.specs.Charts.{row_of, rows_with, until_last, watched};
 ghost use Rattle.l4_chart.specs.Laws.{ArrowsAreDeliveries, ColumnsAreThreads, RowsAreSteps};
 ghost use Rattle.l4_chart.specs.Laws.{StandingsAreReached};
 ghost use Rattle.l4_chart.specs.Marks.{mark_of};
@@ -15,7 +15,7 @@ use crate::columns::{Column, columns_of};
 use crate::listing::{Instruction, Listing};
 use crate::marks::{Mark, mark_of};
 use crate::standings::{Standing, standings_in};
-use crate::told::told_at;
+use crate::told::{Watched, told_at};
 use crate::window::Window;
 use l4_audit::world::World;
 use l4_history::history::History;
@@ -41,6 +41,8 @@ pub struct Row<'h, 't> {
     /// What it changes in registers, where that is told: for each thread a line, which begins with
     /// the end of the line above it.
     pub changes: Vec<u8>,
+    /// For each thread that is shown whether it waits behind the step.
+    pub waits: Vec<bool>,
 }
 
 impl Row<'_, '_> {
@@ -96,19 +98,30 @@ fn is_of_target(window: &Window<'_>, step: &StepRef<'_>) -> bool
     }
 }
 
+// Whether a step concerns its thread alone.
+fn is_local(step: &StepRef<'_>) -> bool
+    ensures { result ≡ is_local (seen step.now) }
+{
+    matches!(step, Step::Local(_))
+}
+
 // Whether a row is one of a part of a history.
 fn is_in(window: &Window<'_>, columns: &[Column], row: &Row<'_, '_>) -> bool
     ensures { result ≡ is_in window.now columns.now (row_of row.now) }
 {
     window.first() <= row.number
         && (concerns(window, columns, &row.mark()) || is_of_target(window, &row.step))
+        && !(window.folds() && is_local(&row.step))
 }
 
-// The threads of whose registers it is told what changes.
-fn watched<'v>(window: &Window<'_>, columns: &'v [Column]) -> &'v [Column]
-    ensures { result.now ≡ watched window.now columns.now }
+// Of which threads rows tell.
+fn watched<'v>(window: &Window<'_>, columns: &'v [Column]) -> Watched<'v>
+    ensures { result ≡ watched window.now columns.now }
 {
-    if window.has_registers() { columns } else { &[] }
+    Watched {
+        columns,
+        registers: window.has_registers(),
+    }
 }
 
 // The rows of the first `count` steps of a history, which the world takes.
@@ -136,7 +149,7 @@ fn rows_of<'h, 't>(
     let mut rows = Vec::new(alloc);
     for place in 0..count {
         let step = history.step(place);
-        let row = told_at(alloc, listing, watched, world, place + 1, step)?;
+        let row = told_at(alloc, listing, &watched, world, place + 1, step)?;
         if is_in(window, columns, &row) {
             rows.push(row)?;
         }

@@ -1,6 +1,6 @@
 //! The characters that a chart is drawn with.
 ghost use Rattle.std.specs.Prelude.{◌≡◌};
-ghost use Rattle.l4_chart.specs.Cells.{glyph_of, opened};
+ghost use Rattle.l4_chart.specs.Cells.{for_line, glyph_of, opened};
 
 use crate::marks::Kind;
 
@@ -9,6 +9,8 @@ use crate::marks::Kind;
 pub struct Glyphs {
     /// The line of a thread.
     pub line: char,
+    /// The line of a thread that waits.
+    pub waiting_line: char,
     /// An arrow over the line of a thread that it does not concern.
     pub cross: char,
     /// The sender of an arrow to the right.
@@ -60,6 +62,7 @@ pub struct Glyphs {
 /// For a terminal that shows lines.
 pub const LINES: Glyphs = Glyphs {
     line: '│',
+    waiting_line: '┊',
     cross: '┼',
     right_start: '├',
     left_start: '┤',
@@ -88,6 +91,7 @@ pub const LINES: Glyphs = Glyphs {
 /// For any terminal.
 pub const ASCII: Glyphs = Glyphs {
     line: '|',
+    waiting_line: ':',
     cross: '-',
     right_start: '+',
     left_start: '+',
@@ -131,6 +135,19 @@ impl Glyphs {
             Kind::Ready => self.line,
             Kind::Ended => self.ended,
             Kind::Deleted => self.deleted,
+        }
+    }
+
+    /// The same characters for the line of a thread that waits, or does not.
+    pub fn for_line(&self, waits: bool) -> Glyphs
+        ensures { result ≡ for_line self.now waits }
+    {
+        if !waits {
+            return *self;
+        }
+        Glyphs {
+            line: self.waiting_line,
+            ..*self
         }
     }
 

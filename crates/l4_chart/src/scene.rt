@@ -1,7 +1,8 @@
 //! Where the parts of a picture stand, in whole pixels.
-ghost use Rattle.std.specs.Prelude.{◌≡◌, ◌≤◌, length};
-ghost use Rattle.l4_chart.specs.Inner.Scenes.{column_step, scene_of, at, column_x, row_y, end_x};
-ghost use Rattle.l4_chart.specs.Inner.Scenes.{lines_in, row_count};
+ghost use Rattle.std.specs.Prelude.{◌≡◌, ◌≤◌};
+ghost use Rattle.l4_chart.specs.Charts.{drawn_of};
+ghost use Rattle.l4_chart.specs.Scenes.{column_step, scene_in, at, column_x, row_y, end_x};
+ghost use Rattle.l4_chart.specs.Scenes.{height_of, lines_in, right_edge, width_of};
 
 use crate::chart::Chart;
 use crate::layout::widest;
@@ -60,9 +61,9 @@ fn lines_in(text: &[u8]) -> usize
 
 impl Scene {
     /// The picture of a chart.
+    #[tactic(auto, using(crate::proofs::Pictured::as_many_rows))]
     pub fn of(chart: &Chart<'_, '_>) -> Scene
-        ensures { result ≡ scene_of chart.now.columns.items (row_count (length chart.now.rows.items)
-            (length chart.now.standings.items) (lines_in chart.now.circles.items)) }
+        ensures { result ≡ scene_in (drawn_of chart.now) }
     {
         Scene {
             step: column_step(widest(chart.columns.as_slice()) as u64),
@@ -99,17 +100,23 @@ impl Scene {
     }
 
     /// The right edge of the last thread.
-    pub fn right(&self) -> u64 {
+    pub fn right(&self) -> u64
+        ensures { result ≡ right_edge self.now }
+    {
         at(LEFT, self.step, self.columns)
     }
 
     /// The width of the picture.
-    pub fn width(&self) -> u64 {
+    pub fn width(&self) -> u64
+        ensures { result ≡ width_of self.now }
+    {
         self.right().saturating_add(LINES)
     }
 
     /// The height of the picture.
-    pub fn height(&self) -> u64 {
+    pub fn height(&self) -> u64
+        ensures { result ≡ height_of self.now }
+    {
         at(HEADING, ROW, self.rows)
     }
 }

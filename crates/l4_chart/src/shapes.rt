@@ -1,4 +1,6 @@
 //! How each kind of step looks in a picture.
+ghost use Rattle.std.specs.Prelude.{◌≡◌};
+ghost use Rattle.l4_chart.specs.Shapes.{class_of, meaning_of, outline_of};
 
 use crate::marks::Kind;
 
@@ -18,7 +20,9 @@ pub(crate) const KINDS: [Kind; 11] = [
 ];
 
 /// The class of a kind, by which it has its colour.
-pub(crate) fn class_of(kind: Kind) -> &'static str {
+pub(crate) fn class_of(kind: Kind) -> &'static str
+    ensures { result.now ≡ class_of kind }
+{
     match kind {
         Kind::Local => "local",
         Kind::Begin => "begin",
@@ -36,7 +40,9 @@ pub(crate) fn class_of(kind: Kind) -> &'static str {
 }
 
 /// The outline of a kind around the point where it begins, in pixels.
-pub(crate) fn outline_of(kind: Kind) -> &'static str {
+pub(crate) fn outline_of(kind: Kind) -> &'static str
+    ensures { result.now ≡ outline_of kind }
+{
     match kind {
         Kind::Local => "m-3 0a3 3 0 1 0 6 0a3 3 0 1 0-6 0z",
         Kind::Begin => "m-5 0a5 5 0 1 0 10 0a5 5 0 1 0-10 0z",
@@ -54,7 +60,9 @@ pub(crate) fn outline_of(kind: Kind) -> &'static str {
 }
 
 /// What a kind is, for the legend.
-pub(crate) fn meaning_of(kind: Kind) -> &'static str {
+pub(crate) fn meaning_of(kind: Kind) -> &'static str
+    ensures { result.now ≡ meaning_of kind }
+{
     match kind {
         Kind::Local => "an instruction",
         Kind::Begin => "a send begins",

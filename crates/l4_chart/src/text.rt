@@ -4,8 +4,8 @@ ghost use Rattle.std.specs.Char.{encode_utf8};
 ghost use Rattle.std.specs.List.{enumerate_from};
 ghost use Rattle.l4_chart.specs.Charts.{drawn_of, row_of};
 ghost use Rattle.l4_chart.specs.Texts.{cell_text, cells_text, cut, line_text, row_text, head_text};
-ghost use Rattle.l4_chart.specs.Texts.{heads_text, ids_text, heading, standing_cells};
-ghost use Rattle.l4_chart.specs.Texts.{standing_text, text_of};
+ghost use Rattle.l4_chart.specs.Texts.{heads_text, hint_text, ids_text, heading, standing_cells};
+ghost use Rattle.l4_chart.specs.Texts.{standing_text, standing_waits, text_of};
 
 use crate::cells::{Cell, Stroke, cell_of, stroke_of};
 use crate::chart::{Chart, Row};
@@ -17,6 +17,7 @@ use crate::ink::{
 };
 use crate::layout::{Layout, layout_of};
 use crate::standings::Standing;
+use crate::waiting::{waits_at, waits_in};
 use crate::words::words_of;
 use l4_types::errors::NoMemory;
 use std::alloc::Global;
@@ -35,13 +36,15 @@ fn push_cells(
     glyphs: &Glyphs,
     width: usize,
     stroke: &Stroke,
+    waits: &[bool],
     columns: &[Column],
 ) -> Result<(), NoMemory>
     ensures { OnOk result (out.new.items ≡ out.old.items ++
-        cells_text glyphs.now width stroke.now (enumerate_from 0 columns.now)) }
+        cells_text glyphs.now width stroke.now waits.now (enumerate_from 0 columns.now)) }
 {
     for (place, column) in columns.iter().enumerate() {
-        push_cell(out, width, &cell_of(glyphs, stroke, place, column))?;
+        let own = glyphs.for_line(waits_at(waits, place));
+        push_cell(out, width, &cell_of(&own, stroke, place, column))?;
     }
     Ok(())
 }
@@ -88,7 +91,14 @@ fn push_row(
 {
     let stroke = stroke_of(columns, &row.mark());
     push_right_number(out, layout.number, row.number as u64)?;
-    push_cells(out, glyphs, layout.cell, &stroke, columns)?;
+    push_cells(
+        out,
+        glyphs,
+        layout.cell,
+        &stroke,
+        row.waits.as_slice(),
+        columns,
+    )?;
     push_line(out, glyphs, layout.line, row)?;
     out.extend_from_slice(row.changes.as_slice())?;
     push_text(out, "\n")
@@ -110,6 +120,17 @@ fn push_rows(
     Ok(())
 }
 
+// Which threads wait behind the last row.
+fn all_waiting(alloc: Global, standings: &[Standing<'_>]) -> Result<Vec<bool>, NoMemory>
+    ensures { IfOk result (λ waits. waits.items ≡ map standing_waits standings.now) }
+{
+    let mut waits = Vec::with_capacity(alloc, standings.len())?;
+    for standing in standings {
+        waits.push(waits_in(standing.state))?;
+    }
+    Ok(waits)
+}
+
 // Appends the lines of threads, with the mark of what one of them is in, where there is room for words
 // of rows.
 fn push_standing_cells(
@@ -117,17 +138,18 @@ fn push_standing_cells(
     glyphs: &Glyphs,
     layout: &Layout,
     columns: &[Column],
+    waits: &[bool],
     standing: &Standing<'_>,
 ) -> Result<(), NoMemory>
     ensures { OnOk result (out.new.items ≡ out.old.items ++
-        standing_cells glyphs.now layout.now columns.now standing.now) }
+        standing_cells glyphs.now layout.now columns.now waits.now standing.now) }
 {
     if layout.line == 0 {
         return Ok(());
     }
     let stroke = stroke_of(columns, &standing.mark());
     push_spaces(out, layout.number)?;
-    push_cells(out, &glyphs.opened(), layout.cell, &stroke, columns)
+    push_cells(out, &glyphs.opened(), layout.cell, &stroke, waits, columns)
 }
 
 // Appends what a thread is in.
@@ -136,12 +158,13 @@ fn push_standing(
     glyphs: &Glyphs,
     layout: &Layout,
     columns: &[Column],
+    waits: &[bool],
     standing: &Standing<'_>,
 ) -> Result<(), NoMemory>
     ensures { OnOk result (out.new.items ≡ out.old.items ++
-        standing_text glyphs.now layout.now columns.now standing.now) }
+        standing_text glyphs.now layout.now columns.now waits.now standing.now) }
 {
-    push_standing_cells(out, glyphs, layout, columns, standing)?;
+    push_standing_cells(out, glyphs, layout, columns, waits, standing)?;
     push_text(out, "  ")?;
     standing.push_words(out)?;
     push_text(out, "\n")
@@ -154,11 +177,13 @@ fn push_standings(
     chart: &Chart<'_, '_>,
 ) -> Result<(), NoMemory>
     ensures { OnOk result (out.new.items ≡ out.old.items ++
-        flat_map (standing_text glyphs.now layout.now chart.now.columns.items)
-        chart.now.standings.items) }
+        flat_map (standing_text glyphs.now layout.now chart.now.columns.items
+        (map standing_waits chart.now.standings.items)) chart.now.standings.items) }
 {
+    let waits = all_waiting(*out.allocator(), chart.standings.as_slice())?;
+    let columns = chart.columns.as_slice();
     for standing in &chart.standings {
-        push_standing(out, glyphs, layout, chart.columns.as_slice(), standing)?;
+        push_standing(out, glyphs, layout, columns, waits.as_slice(), standing)?;
     }
     Ok(())
 }
@@ -224,11 +249,24 @@ fn push_heading(
     push_text(out, "\n")
 }
 
+// Says what to do, where there is no room for the words of rows.
+fn push_hint(out: &mut Vec<u8>, layout: &Layout) -> Result<(), NoMemory>
+    ensures { OnOk result (out.new.items ≡ out.old.items ++ hint_text layout.now) }
+{
+    if layout.line > 0 {
+        return Ok(());
+    }
+    push_text(
+        out,
+        "too wide for words: l4run chart FILE TRACE --threads ID,.. shows some threads\n",
+    )
+}
+
 /// Draws a chart as text on a terminal of `width` columns: two lines of heading, a line for each
 /// row and for what each thread is in, and the lines of circles. If the threads take more columns
 /// than there are, lines are longer, and the words of rows are left out; those of what threads are
-/// in stand alone. Words of rows that do not fit are cut off. What changes in registers stands
-/// below its row.
+/// in stand alone, and a last line says how to see fewer threads. Words of rows that do not fit are
+/// cut off. What changes in registers stands below its row.
 pub fn text_of(
     alloc: Global,
     chart: &Chart<'_, '_>,
@@ -243,5 +281,6 @@ pub fn text_of(
     push_rows(&mut out, glyphs, &layout, chart)?;
     push_standings(&mut out, glyphs, &layout, chart)?;
     out.extend_from_slice(chart.circles.as_slice())?;
+    push_hint(&mut out, &layout)?;
     Ok(out)
 }

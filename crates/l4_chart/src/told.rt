@@ -1,5 +1,5 @@
 //! What is told of a step beside its line: where its send goes to, the instruction that it runs,
-//! and what it changes in registers.
+//! what it changes in registers, and who waits behind it.
 ghost use Rattle.std.specs.Prelude.{◌≡◌, OnOk, IfOk, is_some, true};
 ghost use Rattle.l4_model.specs.Steps.{next};
 ghost use Rattle.l4_model.specs.World.{World as ModelWorld};
@@ -7,18 +7,21 @@ ghost use Rattle.l4_types.specs.StepView.{seen};
 ghost use Rattle.l4_audit.specs.Inner.Audited.{IsPlaced};
 ghost use Rattle.l4_json.specs.Steps.{behind, destination, runner};
 ghost use Rattle.l4_chart.specs.Charts.{row_of};
-ghost use Rattle.l4_chart.specs.Told.{known_before, step_destination, step_instruction, told_at};
+ghost use Rattle.l4_chart.specs.Told.{changing, known_before, step_destination, step_instruction};
+ghost use Rattle.l4_chart.specs.Told.{told_at};
 
 use crate::changes::{all_held, changes_since};
 use crate::chart::Row;
 use crate::columns::Column;
 use crate::listing::{Instruction, Listing};
+use crate::waiting::all_waits;
 use l4_audit::world::World;
 use l4_types::errors::NoMemory;
 use l4_types::ids::{GlobalId, ThreadId};
 use l4_types::step_ref::StepRef;
 use l4_types::steps::Name;
 use std::alloc::Global;
+use std::marker::Model;
 
 // Where an undecided send goes to.
 fn destination(world: &World<'_>, name: Name) -> Option<ThreadId>
@@ -96,12 +99,42 @@ fn take(world: &mut World<'_>, step: &StepRef<'_>) -> Result<(), NoMemory>
     }
 }
 
-/// The row of a step that is possible, which is taken. What changes is told of the threads that are
-/// watched.
+/// Of which threads rows tell, and whether they tell what changes in registers.
+#[derive(Drop)]
+pub(crate) struct Watched<'v> {
+    pub(crate) columns: &'v [Column],
+    pub(crate) registers: bool,
+}
+
+impl<'v> Model for Watched<'v> {
+    ghost use Rattle.l4_chart.specs.Told.{Watched};
+
+    ghost Value = { Watched };
+
+    ghost view = { λ w. record { columns = w.columns.now; registers = w.registers } };
+}
+
+impl<'v> Watched<'v> {
+    // All threads that are shown.
+    fn columns(&self) -> &'v [Column]
+        ensures { result.now ≡ self.now.columns }
+    {
+        self.columns
+    }
+
+    // The threads of whose registers it is told what changes.
+    fn changing(&self) -> &'v [Column]
+        ensures { result.now ≡ changing self.now }
+    {
+        if self.registers { self.columns } else { &[] }
+    }
+}
+
+/// The row of a step that is possible, which is taken.
 pub(crate) fn told_at<'h, 't>(
     alloc: Global,
     listing: &Listing<'t>,
-    watched: &[Column],
+    watched: &Watched<'_>,
     world: &mut World<'_>,
     number: usize,
     step: StepRef<'h>,
@@ -116,15 +149,17 @@ pub(crate) fn told_at<'h, 't>(
 {
     let at = step_instruction(listing, world, &step);
     let known = known_before(world, &step);
-    let held = all_held(alloc, world, watched)?;
+    let held = all_held(alloc, world, watched.changing())?;
     take(world, &step)?;
     let to = step_destination(world, known, &step);
     let changes = changes_since(alloc, world, held.as_slice())?;
+    let waits = all_waits(alloc, world, watched.columns())?;
     Ok(Row {
         number,
         step,
         to,
         at,
         changes,
+        waits,
     })
 }

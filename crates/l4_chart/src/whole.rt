@@ -45,7 +45,7 @@ pub fn whole_text(
     ensures { IfOk result (λ text.
         text.items ≡ whole_text machine.now listing.now history.now.steps form) }
 {
-    let window = Window::new(1, history.len(), None, form.has_registers);
+    let window = Window::new(1, history.len(), None, form.has_registers, false);
     let chart = Chart::new(alloc, machine, listing, history, &window)?;
     text_of(alloc, &chart, glyphs_of(form), form.width)
 }

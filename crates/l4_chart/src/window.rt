@@ -16,14 +16,15 @@ fn has_thread(threads: &[GlobalId], thread: GlobalId) -> bool
     threads.iter().any(|chosen| *chosen == thread)
 }
 
-/// The steps from one number to another, both of them shown, the threads that are chosen, and
-/// whether what changes in their registers is told.
+/// The steps from one number to another, both of them shown, the threads that are chosen, whether what
+/// changes in their registers is told, and whether steps that concern a thread alone are left out.
 #[derive(Debug, Drop)]
 pub struct Window<'a> {
     first: usize,
     last: usize,
     threads: Option<&'a [GlobalId]>,
     registers: bool,
+    folds: bool,
 }
 
 impl<'a> Model for Window<'a> {
@@ -37,23 +38,27 @@ impl<'a> Model for Window<'a> {
       last = w.last;
       threads = option_copied w.threads;
       registers = w.registers;
+      folds = w.folds;
     } };
 }
 
 impl<'a> Window<'a> {
     /// The steps from one number to another, counted from 1, of these threads, or of all.
-    /// `registers`: whether it is told what they change in registers.
+    /// `registers`: whether it is told what they change in registers. `folds`: whether `local` steps
+    /// are left out.
     pub fn new(
         first: usize,
         last: usize,
         threads: Option<&'a [GlobalId]>,
         registers: bool,
+        folds: bool,
     ) -> Window<'a>
         ensures { result ≡ record {
           first = first;
           last = last;
           threads = option_copied threads.entry;
           registers = registers;
+          folds = folds;
         } }
     {
         Window {
@@ -61,6 +66,7 @@ impl<'a> Window<'a> {
             last,
             threads,
             registers,
+            folds,
         }
     }
 
@@ -77,6 +83,7 @@ impl<'a> Window<'a> {
             last,
             threads: self.threads,
             registers: self.registers,
+            folds: self.folds,
         }
     }
 
@@ -110,10 +117,18 @@ impl<'a> Window<'a> {
     {
         self.threads.is_none()
     }
+
     /// Whether it is told what the steps change in registers.
     pub fn has_registers(&self) -> bool
         ensures { result ≡ self.now.registers }
     {
         self.registers
+    }
+
+    /// Whether `local` steps are left out.
+    pub fn folds(&self) -> bool
+        ensures { result ≡ self.now.folds }
+    {
+        self.folds
     }
 }

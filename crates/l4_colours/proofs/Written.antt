@@ -2,8 +2,8 @@
 use Rattle.std.proofs.Common.{◌≡◌, ℕ, Bool, true, false, List, [], ◌∷◌, ◌++◌, append-nil, Option, Result, Ok, Err, MatchResult, refl, ap, sym, subst, ◌∙◌, append_assoc}
 use Rattle.std.specs.Prelude.{IsErrAnd}
 use Rattle.std.proofs.KnownBytes.{Appends-nil, Appends-trans}
-use Rattle.l4_jobs.proofs.Appending.{onto}
-use Rattle.l4_jobs.specs.Streams.{HasAppended, MayTake}
+use Rattle.l4_streams.proofs.Appending.{onto}
+use Rattle.l4_streams.specs.Streams.{HasAppended, MayTake}
 use Rattle.l4_colours.specs.Painted.{shown, TakesShown}
 
 pub then : (old mid new : Option (List ℕ)) (first second : List ℕ) (all : Bool) → MayTake old mid first true → MayTake mid new second all → MayTake old new (first ++ second) all

@@ -1,7 +1,7 @@
 -- Text with colours, as terminals read it.
 use Rattle.std.specs.Prelude.{◌≡◌, ℕ, Bool, true, false, ◌==◌, ◌&&◌, not, if◌then◌else◌, Option, List, [], ◌∷◌, ◌++◌, codes, flat_map, map}
 use Rattle.std.specs.List.{join_with_byte, slice_split}
-use Rattle.l4_jobs.specs.Streams.{MayTake}
+use Rattle.l4_streams.specs.Streams.{MayTake}
 use Rattle.l4_colours.specs.Tones.{line_tone}
 use Rattle.l4_colours.specs.declared.tones.Tone.{Tone}
 use Rattle.l4_colours.specs.declared.tones.Tone.TheVariants.{Plain, Good, Fair, Bad}

@@ -2,7 +2,7 @@
 //!
 //! A line is painted by its words: in red what is stuck for ever, in yellow what fails or waits in
 //! a circle, in green what is delivered. All else is left as it is. `PaintedOutput` is a sink of
-//! `l4_jobs`: what a job comes to is put into it, and it hands the painted lines on. It takes no
+//! `l4_streams`: what a job comes to is put into it, and it hands the painted lines on. It takes no
 //! memory for them. Where it paints nothing, it hands on the very bytes.
 //!
 //! ```rust

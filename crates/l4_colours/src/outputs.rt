@@ -1,13 +1,13 @@
 //! Which outputs have colours, and how lines go to them.
 ghost use Rattle.std.specs.Prelude.{◌≡◌, IfOk, MatchResult, false, flat_map, true};
-ghost use Rattle.l4_jobs.specs.Streams.{MayTake};
+ghost use Rattle.l4_streams.specs.Streams.{MayTake};
 ghost use Rattle.l4_colours.specs.Outputs.{is_painted, shows_colours};
 ghost use Rattle.l4_colours.specs.Painted.{shown, TakesShown};
 
 use crate::painting::paint;
-use l4_jobs::job::Colours;
-use l4_jobs::streams::{NotWritten, Sink};
-use l4_jobs::words::Asked;
+use l4_commands::job::Colours;
+use l4_commands::words::Asked;
+use l4_streams::streams::{NotWritten, Sink};
 use std::alloc::{AllocError, Global};
 use std::io::Write;
 

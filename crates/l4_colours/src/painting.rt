@@ -1,11 +1,11 @@
 //! Painted text, written without memory.
 ghost use Rattle.std.specs.Prelude.{◌≡◌, ◌++◌, ◌<◌, ◌≤◌, ◌-◌, IfSome, MatchOption, MatchResult};
 ghost use Rattle.std.specs.Prelude.{drop, length, take, true, false};
-ghost use Rattle.l4_jobs.specs.Streams.{MayTake};
+ghost use Rattle.l4_streams.specs.Streams.{MayTake};
 ghost use Rattle.l4_colours.specs.Painted.{begin_of, end, painted};
 
 use crate::tones::{Tone, is_plain, line_tone};
-use l4_jobs::streams::{NotWritten, Sink};
+use l4_streams::streams::{NotWritten, Sink};
 use l4_words::lines::split_once;
 use std::io::Write;
 

@@ -169,6 +169,7 @@ pub record IsChartOf (rows : List Row) (chart : ChartJob) : Type 0 where
   pub form : Some chart.form ≡ form_of (flags_in rows)
   pub width : Some chart.width ≡ number_in (codes "width") rows
   pub registers : chart.registers ≡ has_flag (codes "registers") rows
+  pub folds : chart.folds ≡ has_flag (codes "fold") rows
 
 -- Under whom threads run, how many endings should exist, and the ending whose trace is asked for.
 

@@ -86,6 +86,7 @@ chart_rules =
     ∷ number (codes "to") (codes "18446744073709551615" ∷ [])
     ∷ value (codes "threads")
     ∷ flag (codes "registers")
+    ∷ flag (codes "fold")
     ∷ number (codes "width") (codes "0" ∷ [])
     ∷ flag (codes "ascii")
     ∷ flag (codes "svg")

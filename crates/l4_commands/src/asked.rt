@@ -233,6 +233,7 @@ fn chart_job<'a>(matches: &ArgMatches<'a>) -> Option<ChartJob<'a>>
         form: form_of(&given_flags(matches))?,
         width: number(matches, "width")?,
         registers: has_flag(matches, "registers"),
+        folds: has_flag(matches, "fold"),
     })
 }
 

@@ -54,6 +54,8 @@ pub struct ChartJob<'a> {
     pub width: u64,
     /// Whether it is told what each step changes in registers.
     pub registers: bool,
+    /// Whether steps that concern their thread alone, `local`, are left out.
+    pub folds: bool,
 }
 
 /// Under whom a search lets the threads of a machine run.

@@ -269,6 +269,11 @@ const CHART_ARGUMENTS: &[Argument] = &[
     },
     REGISTERS,
     Argument {
+        name: "fold",
+        takes: Takes::Nothing,
+        help: "Leaves out steps that concern their thread alone, `local`",
+    },
+    Argument {
         name: "width",
         takes: Takes::Number {
             default: Some("0"),

@@ -2,8 +2,8 @@
 
 /// The version of the program and of the kit that proves it, and the profiles and formats that it
 /// reads.
-pub const VERSION: &str = "0.47
-rattle-kit-13f logic dac8208d650f15bf
+pub const VERSION: &str = "0.48
+rattle-kit-13b logic dac8208d650f15bf
 profiles 1 and 2, words of 64 and 32 bits";
 
 pub const RUN_EXAMPLE: &str = "Example: `l4run run ping.l4`, where the file ping.l4 has the lines
@@ -115,9 +115,9 @@ and what
   step       1.1       2.1
      1         *         |  local 1.1 (line 4: set 1 10)
      2         |         w  wait 2.1 (line 8)
-     3         *         |  local 1.1 (line 5: tag 0x70001)
-     4         o         |  begin 1.1#1 to 2.1 (line 6)
-     5         q         |  queue 1.1#1 to 2.1
+     3         *         :  local 1.1 (line 5: tag 0x70001)
+     4         o         :  begin 1.1#1 to 2.1 (line 6)
+     5         q         :  queue 1.1#1 to 2.1
      6         +-------->|  deliver 1.1#1 2.1 1.1 1.1 70001 a
      7         |         *  local 2.1
      8         *         |  local 1.1
@@ -126,7 +126,7 @@ and what
 
 Below the last step stands what each thread is in behind it, and what it waits for: with `--to 3` \
 behind step 3.
-There a send that has not arrived is an arrow `+...)`.
+There a send that has not arrived is an arrow `+...)`. The line of a thread is dotted where it waits.
 
 With `--registers` there is a line below a step for each thread in which it changes a register, or \
 who waits to send
@@ -134,6 +134,8 @@ there. Below step 6 these stand:
 
         1.1: MR0 0x0
         2.1: from 1.1, ActualSender 1.1, MR0 0x70001, MR1 0xa, senders none
+
+With `--fold` steps 1, 3, 7 and 8 are left out.
 
 On a terminal that shows them there are lines in place of these characters, unless `TERM` is dumb. \
 Without

@@ -9,8 +9,8 @@ use Rattle.l4_core_model.specs.Runs.{IsMachine}
 use Rattle.l4_core_model.specs.Schedules.{Entry}
 use Rattle.l4_explore.specs.Search.{Seen, depth_of, seen_at, unseen, IsCut, IsExplored}
 use Rattle.l4_explore.specs.Tries.{State}
-use Rattle.l4_machine.specs.Entries.{entry_from}
-use Rattle.l4_machine.specs.declared.entries.Entry as code
+use Rattle.l4_replay.specs.Entries.{entry_from}
+use Rattle.l4_replay.specs.declared.entries.Entry as code
 use Rattle.l4_states.specs.Choices.{choice, state_after}
 use Rattle.l4_states.specs.Endings.{ends_of, entries_of}
 use Rattle.l4_persistent.specs.Endings.{AreEndings}

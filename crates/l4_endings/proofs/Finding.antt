@@ -19,7 +19,7 @@ use Rattle.l4_core_model.specs.Runs.{Happened, IsMachine, Run, System, Ticks, do
 use Rattle.l4_bisimilar.specs.Alike.{contents}
 use Rattle.l4_core.specs.Processor.{Processor}
 use Rattle.l4_explore.specs.Tries.{deepest}
-use Rattle.l4_machine.specs.UnderWay.{UnderWay, IsProcessorOf, IsRun}
+use Rattle.l4_replay.specs.UnderWay.{UnderWay, IsProcessorOf, IsRun}
 use Rattle.l4_states.specs.Inner.Codes.{chained, content_code, local_code, number_code}
 use Rattle.l4_states.specs.Choices.{after_choices, after_entry, choice, state_after, state_in, IsEarly, IsNear, IsReached, LeadsEarly}
 use Rattle.l4_states.specs.Inner.Remembered.{cpu_of, known_of, local_at, pair_place, part_code, poster_at, poster_of, receiver_at, rests_at}

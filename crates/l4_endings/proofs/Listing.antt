@@ -10,7 +10,7 @@ use Rattle.l4_explore.specs.Inner.Views.{next_from, state_from}
 use Rattle.l4_explore.specs.declared.tries.Choice.{Choice}
 use Rattle.l4_explore.specs.declared.tries.Reached.{Reached}
 use Rattle.l4_core_model.specs.Runs.{System, opening_system}
-use Rattle.l4_machine.specs.UnderWay.{UnderWay}
+use Rattle.l4_replay.specs.UnderWay.{UnderWay}
 use Rattle.l4_states.specs.Choices.{after_choices, state_after, state_in}
 use Rattle.l4_endings.specs.Inner.Tried.{AreUpTo}
 use Rattle.l4_endings.specs.Inner.Walked.{AreChoices, IsWalked}

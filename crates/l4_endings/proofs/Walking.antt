@@ -10,8 +10,8 @@ use Rattle.l4_model.specs.Conditions.{◌>>=◌}
 use Rattle.l4_model.proofs.Chains.{some_is}
 use Rattle.l4_core_model.specs.Runs.{Event, IsMachine, System, Run, opening_run, opening_system}
 use Rattle.l4_core_model.specs.Schedules.{Entry}
-use Rattle.l4_machine.specs.Entries.{after_entry as after_entry_of_run}
-use Rattle.l4_machine.specs.UnderWay.{UnderWay, GoesOn, HasRun, IsRun}
+use Rattle.l4_replay.specs.Entries.{after_entry as after_entry_of_run}
+use Rattle.l4_replay.specs.UnderWay.{UnderWay, GoesOn, HasRun, IsRun}
 use Rattle.l4_states.specs.Choices.{after_choices, after_entry, choice, choice_of, state_after, state_in, IsEarly, IsNear, LeadsEarly}
 use Rattle.l4_states.proofs.Early.{AreLow, is_early, low_next, low_opening}
 use Rattle.l4_states.proofs.Endings.{replayed}

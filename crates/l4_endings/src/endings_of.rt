@@ -14,7 +14,7 @@ use l4_explore::found::Found;
 use l4_explore::listener::Listener;
 use l4_explore::progress::Progress;
 use l4_explore::search::{explore, explore_telling};
-use l4_machine::Entry;
+use l4_replay::Entry;
 use l4_rounds::choices::choice;
 use l4_script::machine::Machine;
 use l4_types::errors::NoMemory;

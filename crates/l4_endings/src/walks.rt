@@ -3,12 +3,12 @@ ghost use Rattle.std.specs.Prelude.{◌≡◌, ◌<◌, ◌*◌, ◌+◌, ◌/�
 ghost use Rattle.std.specs.Prelude.{length};
 ghost use Rattle.l4_model.specs.Machine.{Machine as MachineOfModel};
 ghost use Rattle.l4_core_model.specs.Runs.{Run};
-ghost use Rattle.l4_machine.specs.Entries.{after_entry};
-ghost use Rattle.l4_machine.specs.UnderWay.{GoesOn, HasRun, IsRun};
+ghost use Rattle.l4_replay.specs.Entries.{after_entry};
+ghost use Rattle.l4_replay.specs.UnderWay.{GoesOn, HasRun, IsRun};
 ghost use Rattle.l4_states.specs.Choices.{choice_of, IsNear};
 ghost use Rattle.l4_endings.specs.Inner.Walked.{AreChoices, IsWalked};
 
-use l4_machine::Walk;
+use l4_replay::Walk;
 use l4_rounds::choices::{choice, least_deadline};
 use l4_sets::Aims;
 use l4_types::errors::NoMemory;

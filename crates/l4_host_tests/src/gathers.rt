@@ -6,9 +6,10 @@ ghost use Rattle.l4_mail.specs.Inner.Fabrics.{most_room};
 
 use crate::processors::{processors_of, work};
 use crate::runs::machine_of;
-use l4_machine::{Outcome, RunFault, gather};
+use l4_machine::{Outcome, gather};
 use l4_proc::processor::Processor;
 use l4_proc::stops::Stop;
+use l4_replay::RunFault;
 use l4_reports::report_lines::write_report;
 use l4_samples::{ACROSS, call_begins, call_ends};
 use l4_script::machine::Machine;

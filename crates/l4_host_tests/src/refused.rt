@@ -4,7 +4,7 @@
 // does where memory is refused is tried with commands of the cases (`bench/refused_commands.py`).
 ghost use Rattle.std.specs.Prelude.{IfOk, OnOk, map};
 ghost use Rattle.l4_core_model.specs.Runs.{Run};
-ghost use Rattle.l4_machine.specs.UnderWay.{HasRun, IsRun};
+ghost use Rattle.l4_replay.specs.UnderWay.{HasRun, IsRun};
 ghost use Rattle.l4_mail.specs.Ports.{AreOneFabric};
 
 use crate::gathers::has;
@@ -14,12 +14,13 @@ use l4_audit::audit::{Audit, AuditFault};
 use l4_audit::auditor::Auditor;
 use l4_endings::{FoundEndings, endings};
 use l4_explore::progress::Unheard;
-use l4_machine::{Entry, Outcome, RunFault, Walk, replay, run};
+use l4_machine::{Outcome, replay, run};
 use l4_mail::rests::RestFault;
 use l4_proc::gate::Open;
 use l4_proc::processor::Processor;
 use l4_proc::resting::rest;
 use l4_proc::stops::{ProcFault, Stop};
+use l4_replay::{Entry, RunFault, Walk};
 use l4_samples::{ACROSS, ACROSS_TRACE, PING, call_begins, call_ends};
 use l4_script::machine::Machine;
 use l4_types::errors::NoMemory;

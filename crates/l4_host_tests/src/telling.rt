@@ -4,7 +4,7 @@ use l4_endings::{Looked, endings, endings_telling, entries_at};
 use l4_explore::found::Found;
 use l4_explore::listener::Listener;
 use l4_explore::progress::{Progress, Unheard};
-use l4_machine::Entry;
+use l4_replay::Entry;
 use l4_samples::ACROSS;
 use l4_script::machine::Machine;
 use std::alloc::{AllocError, Global};

@@ -33,12 +33,12 @@ use Rattle.l4_jobs.specs.Outputs.{Output}
 use Rattle.l4_jobs.specs.Performing.{IsDoneOrStopped, IsKeptOut, IsLinesOut, IsOpened, IsPerformed, IsStopped, IsTrulyDone, Sinks, asks_none, sinks}
 use Rattle.l4_jobs.specs.Searches.{IsAnswerBy, IsAnswerDone, IsDoneBy, IsEndingsDone, IsSearchDone, IsSearchDoneBy, fault_by, fault_of_endings, fault_of_limits, fault_of_question, fault_of_rests, first_fault, question_of, shown_of}
 use Rattle.l4_jobs.specs.Streaming.{HasBegunBy, IsAllButWritten, IsBegun, IsCutOff, IsSearchStop, IsStop, IsStopFor, fault_of_stop, is_streamed, stop_of, streamed_of}
-use Rattle.l4_jobs.specs.Streams.{GivenGives, TakesSome}
+use Rattle.l4_streams.specs.Streams.{GivenGives, TakesSome}
 use Rattle.l4_jobs.specs.declared.fault.Fault.{Fault}
 use Rattle.l4_jobs.specs.declared.streaming.Stop.{Stop}
 use Rattle.l4_jobs.specs.declared.streaming.Stop.TheVariants as stop
-use Rattle.l4_jobs.specs.declared.streams.Given.{Given}
-use Rattle.l4_jobs.specs.declared.streams.Given.TheVariants.{Nothing}
+use Rattle.l4_streams.specs.declared.streams.Given.{Given}
+use Rattle.l4_streams.specs.declared.streams.Given.TheVariants.{Nothing}
 use Rattle.l4_jobs.proofs.Making.{done_given}
 use Rattle.l4_jobs.proofs.Performed.{performed_as, performed_status, performed_true}
 

@@ -1,4 +1,3 @@
-pub mod Appending
 pub mod Audited
 pub mod Begun
 pub mod Behind

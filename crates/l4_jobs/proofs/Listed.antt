@@ -3,8 +3,8 @@ use Rattle.std.proofs.Common.{◌≡◌, ℕ, ◌+◌, None, Result, Ok, Err, Li
 use Rattle.std.specs.Prelude.{◌⊎◌, IfErr}
 use Rattle.l4_model.specs.Machine.{Machine}
 use Rattle.l4_core_model.specs.Schedules.{Entry}
-use Rattle.l4_machine.specs.declared.outcome.RunFault.{RunFault}
-use Rattle.l4_machine.specs.declared.outcome.RunFault.TheVariants.{NoMemory as RunOutOfMemory}
+use Rattle.l4_replay.specs.declared.fault.RunFault.{RunFault}
+use Rattle.l4_replay.specs.declared.fault.RunFault.TheVariants.{NoMemory as RunOutOfMemory}
 use Rattle.l4_schedules.specs.InFiles.{most_bytes, schedule_in_file}
 use Rattle.l4_schedules.proofs.Beginnings.{as_much}
 use Rattle.l4_jobs.specs.Inputs.{Gives}

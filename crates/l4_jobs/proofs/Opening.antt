@@ -5,7 +5,7 @@ use Rattle.l4_commands.specs.Files.{expected_of, file_of, second_file_of}
 use Rattle.l4_commands.specs.declared.job.Job.{Job}
 use Rattle.l4_jobs.specs.Performing.{AreUnopened, IsOpened, IsUnopened}
 use Rattle.l4_jobs.specs.declared.fault.Fault.{Fault}
-use Rattle.l4_jobs.specs.declared.streams.Given.{Given}
+use Rattle.l4_streams.specs.declared.streams.Given.{Given}
 
 pub last_unopened : {File : Type 0} (opens : List ℕ → Result File ErrorKind → Type 0) (job : Job)
     (machine second : Given File) (f : Fault) → IsOpened opens (Some (file_of job)) machine →

@@ -22,7 +22,7 @@ use Rattle.l4_jobs.specs.Performing.{AreUnopened, IsKeptOut, IsLinesOut, IsPerfo
 use Rattle.l4_jobs.specs.Runs.{IsRunDone, report_of, status_of_ending}
 use Rattle.l4_jobs.specs.Explanations.{IsExplained, told_line}
 use Rattle.l4_jobs.specs.FaultLines.{IsReported, fault_line}
-use Rattle.l4_jobs.specs.Streams.{IsWrittenApart}
+use Rattle.l4_streams.specs.Streams.{IsWrittenApart}
 use Rattle.l4_jobs.specs.declared.fault.Fault.{Fault}
 use Rattle.l4_jobs.specs.declared.fault.Fault.TheVariants as fault
 use Rattle.l4_jobs.proofs.Statuses.{done_status}

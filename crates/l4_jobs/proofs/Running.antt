@@ -6,11 +6,11 @@ use Rattle.l4_model.specs.Machine.{Machine}
 use Rattle.l4_core_model.specs.Runs.{Run}
 use Rattle.l4_core_model.specs.Schedules.{Entry, replay_entries}
 use Rattle.l4_expect.specs.Expected.{Expected}
-use Rattle.l4_machine.specs.Entries.{entries_fault, turns_fault}
+use Rattle.l4_replay.specs.Entries.{entries_fault, turns_fault}
 use Rattle.l4_machine.specs.Outcomes.{Findings, IsFoundFor, IsOutcomeOf, in_order}
 use Rattle.l4_rounds.specs.ThenRest.{HaveRest, rest_fault, then_rest}
-use Rattle.l4_machine.specs.declared.outcome.RunFault.{RunFault}
-use Rattle.l4_machine.specs.declared.outcome.RunFault.TheVariants.{Turns}
+use Rattle.l4_replay.specs.declared.fault.RunFault.{RunFault}
+use Rattle.l4_replay.specs.declared.fault.RunFault.TheVariants.{Turns}
 use Rattle.l4_schedules.specs.InFiles.{schedule_in_file}
 use Rattle.l4_schedules.specs.Written.{recorded_text}
 use Rattle.l4_schedules.proofs.ReadBack.{recorded_back}

@@ -42,6 +42,7 @@ part_of chart threads = record {
   last = chart.last;
   threads = threads;
   registers = chart.registers;
+  folds = chart.folds;
 }
 
 -- The width of a text in columns. 0 stands for 80.

@@ -20,5 +20,4 @@ pub mod Schedules
 pub mod Searches
 pub mod Steps
 pub mod Streaming
-pub mod Streams
 pub mod Traces

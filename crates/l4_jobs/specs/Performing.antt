@@ -15,11 +15,11 @@ use Rattle.l4_jobs.specs.Jobs.{IsDone, IsFaultFor, IsTrueFor}
 use Rattle.l4_jobs.specs.Outputs.{Output}
 use Rattle.l4_jobs.specs.Steps.{IsHeld, IsHeldUpTo, session_of}
 use Rattle.l4_jobs.specs.Streaming.{IsCutOff, fault_of_stop, streamed_of}
-use Rattle.l4_jobs.specs.Streams.{GivenGives}
+use Rattle.l4_streams.specs.Streams.{GivenGives}
 use Rattle.l4_jobs.specs.declared.fault.Fault.{Fault}
 use Rattle.l4_jobs.specs.declared.fault.Fault.TheVariants as fault
-use Rattle.l4_jobs.specs.declared.streams.Given.{Given}
-use Rattle.l4_jobs.specs.declared.streams.Given.TheVariants.{Source, Nothing}
+use Rattle.l4_streams.specs.declared.streams.Given.{Given}
+use Rattle.l4_streams.specs.declared.streams.Given.TheVariants.{Source, Nothing}
 
 -- What a sink takes: these bytes, all of them or not.
 abbrev pub Takes : Type 1

@@ -4,10 +4,10 @@ use Rattle.std.specs.Option.{option_map}
 use Rattle.l4_model.specs.Machine.{Machine}
 use Rattle.l4_core_model.specs.Runs.{Run as CoreRun}
 use Rattle.l4_core_model.specs.Schedules.{Entry, replay_entries}
-use Rattle.l4_machine.specs.Entries.{turns_fault}
+use Rattle.l4_replay.specs.Entries.{turns_fault}
 use Rattle.l4_machine.specs.Outcomes.{IsRunFor, in_order}
-use Rattle.l4_machine.specs.declared.outcome.RunFault.{RunFault}
-use Rattle.l4_machine.specs.declared.outcome.RunFault.TheVariants as run_fault
+use Rattle.l4_replay.specs.declared.fault.RunFault.{RunFault}
+use Rattle.l4_replay.specs.declared.fault.RunFault.TheVariants as run_fault
 use Rattle.l4_rounds.specs.ThenRest.{rest_fault, then_rest}
 use Rattle.l4_schedules.specs.InFiles.{schedule_in_file}
 use Rattle.l4_schedules.specs.Items.{schedule_of}

@@ -7,7 +7,7 @@ use Rattle.l4_steps.specs.Sessions.{lines_of, session_text}
 use Rattle.l4_jobs.specs.Inputs.{FailsWith, Gives}
 use Rattle.l4_jobs.specs.Outputs.{Output}
 use Rattle.l4_jobs.specs.Searches.{text_form}
-use Rattle.l4_jobs.specs.Streams.{MayGive}
+use Rattle.l4_streams.specs.Streams.{MayGive}
 use Rattle.l4_jobs.specs.declared.fault.Fault.{Fault}
 use Rattle.l4_jobs.specs.declared.fault.Fault.TheVariants as fault
 

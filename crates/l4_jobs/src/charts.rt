@@ -131,7 +131,7 @@ fn history_chart(
 {
     let refused = refused_step(alloc, machine, history)?;
     let (first, last) = (chart.first as usize, chart.last as usize);
-    let all = Window::new(first, last, threads, chart.registers);
+    let all = Window::new(first, last, threads, chart.registers, chart.folds);
     let window = all.until_refused(refused);
     let listing = Listing::of(alloc, text)?;
     let shown = Chart::new(alloc, machine, &listing, history, &window)?;

@@ -12,8 +12,7 @@
 //! found. Contracts also say which file is which, and which fault comes first. No contract says what
 //! the listener of a search is told, nor how early an ending is written.
 //!
-//! `streams` assumes what the system's files and streams do. `.ci/command-lines` tries it, also with
-//! streams that fail. `l4_cases` has what each command prints, and what a fault displays.
+//! `l4_cases` has what each command prints, and what a fault displays.
 //!
 //! ```rust
 //! let job = job_of(alloc, &["l4run", "run", "examples/first.l4"])?;
@@ -41,8 +40,8 @@ mod schedules;
 mod searches;
 mod steps;
 mod streaming;
-pub mod streams;
 mod trace_lines;
 mod trace_output;
 
 pub use l4_commands::{job, words};
+pub use l4_streams::streams;

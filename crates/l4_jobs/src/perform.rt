@@ -12,7 +12,7 @@ ghost use Rattle.l4_jobs.specs.Performing.{IsHeldOn, IsPerformed, IsPerformedOn,
 ghost use Rattle.l4_jobs.specs.Performing.{IsTrulyDone, IsTrulyDoneOn, IsUnopened, IsWrittenOut};
 ghost use Rattle.l4_jobs.specs.Performing.{asks_none, keeps_none, sinks};
 ghost use Rattle.l4_jobs.specs.Streaming.{is_streamed};
-ghost use Rattle.l4_jobs.specs.Streams.{GivenGives, IsWrittenApart};
+ghost use Rattle.l4_streams.specs.Streams.{GivenGives, IsWrittenApart};
 
 use crate::done::Done;
 use crate::explanations::tell;

@@ -2,7 +2,7 @@
 ghost use Rattle.std.specs.Prelude.{◌≡◌, ◌⊎◌, ℕ, List, IfOk, IfErr, Ok, Err, None, map};
 ghost use Rattle.l4_core_model.specs.Schedules.{replay_entries};
 ghost use Rattle.l4_commands.specs.Files.{list_name};
-ghost use Rattle.l4_machine.specs.Entries.{entries_fault, entry_from};
+ghost use Rattle.l4_replay.specs.Entries.{entries_fault, entry_from};
 ghost use Rattle.l4_machine.specs.Outcomes.{IsCompactReplay};
 ghost use Rattle.l4_schedules.specs.InFiles.{schedule_in_file};
 ghost use Rattle.l4_jobs.specs.Inputs.{IsRead};
@@ -14,7 +14,8 @@ use crate::fault::Fault;
 use crate::job::list_name;
 use crate::reading::read_list;
 use crate::streams::Source;
-use l4_machine::{CompactOutcome, Entry, RunFault, replay_compact};
+use l4_machine::{CompactOutcome, replay_compact};
+use l4_replay::{Entry, RunFault};
 use l4_rounds::with_rest;
 use l4_schedules::files::schedule_in_file;
 use l4_schedules::items::schedule_of;

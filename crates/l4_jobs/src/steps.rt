@@ -2,7 +2,7 @@
 ghost use Rattle.std.specs.Prelude.{◌≡◌, ◌⊎◌, ℕ, List, [], IfErr, IfOk, IfSome, None, Ok, false};
 ghost use Rattle.std.specs.Prelude.{map, true};
 ghost use Rattle.std.specs.Io.KnownBytes.{IsAtEnd};
-ghost use Rattle.l4_machine.specs.Entries.{entry_from};
+ghost use Rattle.l4_replay.specs.Entries.{entry_from};
 ghost use Rattle.l4_steps.specs.Replies.{reply_from, reply_to};
 ghost use Rattle.l4_steps.specs.Sessions.{IsSession, lines_of, session_text, told_of};
 ghost use Rattle.l4_jobs.specs.Inner.Holding.{GivesLine};
@@ -20,7 +20,7 @@ use crate::searches::text_form;
 use crate::streams::{Sink, Source};
 use l4_chart::listing::Listing;
 use l4_chart::whole::TextForm;
-use l4_machine::Entry;
+use l4_replay::Entry;
 use l4_script::machine::Machine;
 use l4_steps::law_session;
 use l4_steps::replies::{Reply, opening_text, reply_to};

@@ -10,7 +10,7 @@ ghost use Rattle.l4_jobs.specs.Outputs.{output_of};
 ghost use Rattle.l4_jobs.specs.Searches.{IsAnswerBy, IsAnswerDone, fault_of_rests};
 ghost use Rattle.l4_jobs.specs.Streaming.{HasBegunBy, IsAllButWritten, IsSearchStop, IsStopFor};
 ghost use Rattle.l4_jobs.specs.Streaming.{is_streamed, stop_of, streamed_of};
-ghost use Rattle.l4_jobs.specs.Streams.{TakesSome};
+ghost use Rattle.l4_streams.specs.Streams.{TakesSome};
 ghost use Rattle.l4_jobs.specs.declared.fault.Fault.TheVariants.{NoMemory as OutOfMemory};
 ghost use Rattle.l4_jobs.specs.declared.streaming.Stop.TheVariants.{Faulty};
 
@@ -112,7 +112,7 @@ struct Onto<'a, W> {
 
 impl<W: Sink> Teller for Onto<'_, W> {
     ghost use Rattle.std.proofs.Common.{refl, ◌∙◌};
-    ghost use Rattle.l4_jobs.specs.Inner.Taking.{some_joined};
+    ghost use Rattle.l4_streams.specs.Inner.Taking.{some_joined};
 
     ghost takes = { λ old new bytes all. (old.sink.ghost_name ≡ new.sink.ghost_name) ×
         TakesSome (W.takes old.sink.now new.sink.now) (new.sink.now ≡ old.sink.now) bytes all };

@@ -13,7 +13,7 @@ use Rattle.l4_model.specs.History.{Report, begun_name, report_of, state_of, wait
 use Rattle.l4_core_model.specs.Local.{declared, undeclared}
 use Rattle.l4_refines.specs.Laws.{IsUndeleted, destination_of, is_deleted_state}
 use Rattle.l4_refines.proofs.Relation.Rows.{Agrees, AgreesIn}
-use Rattle.l4_machine.specs.Inner.Heard.{IsToldBy, waits_by}
+use Rattle.l4_replay.specs.Inner.Heard.{IsToldBy, waits_by}
 
 -- Two threads that are told alike: in a report, and of the send that they have.
 pub record IsAlike (a b : Thread) : Type 0 where

@@ -12,10 +12,10 @@ use Rattle.l4_model.specs.Machine.{Machine, place_of}
 use Rattle.l4_model.specs.Steps.{Step}
 use Rattle.l4_model.specs.World.{Name, Send, Thread}
 use Rattle.l4_model.specs.Conditions.{◌>>=◌, ◌>>◌}
-use Rattle.l4_model.specs.History.{Report, begun_name, report_of}
+use Rattle.l4_model.specs.History.{begun_name}
 use Rattle.l4_model.proofs.Chains.{some_is}
-use Rattle.l4_core_model.specs.Local.{Local, declared, thread, undeclared}
-use Rattle.l4_core_model.specs.Runs.{Run, System, processors}
+use Rattle.l4_core_model.specs.Local.{Local, thread, undeclared}
+use Rattle.l4_core_model.specs.Runs.{Run, processors}
 use Rattle.l4_merge.specs.LocalTraces.{LocalTrace}
 use Rattle.l4_merge.specs.Merges.{EndsAt}
 use Rattle.l4_merge.proofs.Processors.{of_processor}
@@ -24,15 +24,11 @@ use Rattle.l4_mail.specs.Ports.{AreWhole}
 use Rattle.l4_proc.specs.Rests.{HaveHandledAll}
 use Rattle.l4_proc.specs.declared.processor.Processor.{Processor}
 use Rattle.l4_proc.proofs.Rested.{port_of}
-use Rattle.l4_refines.specs.Laws.{AreAllHandled, destination_of, home_report, home_thread, thread_of}
-use Rattle.l4_machine.specs.declared.station.Station as program
-use Rattle.l4_machine.specs.Stations.{Station, station_of}
-use Rattle.l4_machine.specs.UnderWay.{IsSystem}
+use Rattle.l4_refines.specs.Laws.{AreAllHandled, destination_of}
 use Rattle.l4_machine.specs.Gathers.{core_of, past_of, pasts_of, with_number, AreOfOne, HaveNumbers}
-use Rattle.l4_machine.specs.declared.homes.LastSend.{LastSend}
-use Rattle.l4_machine.specs.declared.homes.OwnerView.{OwnerView}
-use Rattle.l4_machine.specs.Inner.Heard.{waits_by}
-use Rattle.l4_machine.specs.Inner.Homes.{last_send, locals_of, sent_to, sent_waiting, AreAllOf, AreThreads}
+use Rattle.l4_replay.specs.declared.homes.OwnerView.{OwnerView}
+use Rattle.l4_replay.specs.Inner.Heard.{waits_by}
+use Rattle.l4_replay.specs.Inner.Homes.{last_send, locals_of, sent_to, sent_waiting, AreAllOf, AreThreads}
 use Rattle.l4_machine.proofs.InOneHand.{all_handled_between, found, nothing_left}
 
 -- Of processors in one hand
@@ -88,25 +84,6 @@ pub handled_there : (m : Machine) (ps : List Processor) (r : Run) → AreOfOne m
 handled_there m ps r all have whole ends handled = λ from to.
     nothing_left _ _ (sym (ends.mail from to) ∙ all_handled_between m ps all have whole handled from to)
 
--- Of stations
-
-pub stations_there : (m : Machine) (g : System) (ss : List Station) → IsSystem m g ss → AreAllOf m (map (λ (s : Station). s.core) ss)
-stations_there m g ss i = record {
-  count = length-map ss (λ (s : Station). s.core) ∙ i.for_each;
-  each = λ cpu c at. by cpu c (slice_get ss cpu) refl (sym (slice_get-map (λ (s : Station). s.core) ss cpu) ∙ at);
-}
-  where
-    by : (cpu : ℕ) (c : Core) (o : Option Station) → slice_get ss cpu ≡ o → option_map (λ (s : Station). s.core) o ≡ Some c → c.machine ≡ m
-    by cpu c None at is = cc
-    by cpu c (Some s) at is = ap (λ (c : Core). c.machine) (sym (some_is s.core c is)) ∙ (i.each cpu s at).machine
-
-locals_mapped : (ss : List Station) → locals_of (map (λ (s : Station). s.core) ss) ≡ map (λ (s : Station). s.core.local) ss
-locals_mapped [] = refl
-locals_mapped (s ∷ ss) = ap (λ (ls : List Local). s.core.local ∷ ls) (locals_mapped ss)
-
-pub station_locals : (m : Machine) (g : System) (ss : List Station) → IsSystem m g ss → locals_of (map (λ (s : Station). s.core) ss) ≡ g.locals
-station_locals m g ss i = locals_mapped ss ∙ sym i.locals
-
 -- The sends that wait
 
 sent_there : (m : Machine) (t : ℕ → Thread) (a : OwnerView) (i : ℕ) → AreThreads m t a → i < length m.threads →
@@ -152,23 +129,3 @@ pub all_wait_there : (m : Machine) (t : ℕ → Thread) (a : OwnerView) (h : Lis
     filter_map (sent_waiting m a.sends.items) h ≡ filter_map (waits_by m t) h
 all_wait_there m t a [] is = refl
 all_wait_there m t a (step ∷ h) is = ap₂ cons_option (waits_there m t a step is) (all_wait_there m t a h is)
-
--- A thread on its own processor
-
-pub home_there : (m : Machine) (cores : List Core) (i : ℕ) (c : Core) → slice_get cores (declared m i).cpu ≡ Some c → home_thread m (locals_of cores) i ≡ thread c.local i
-home_there m cores i c at =
-    ap (thread_of i) (slice_get-map (λ (c : Core). c.local) cores (declared m i).cpu ∙ ap (option_map (λ (c : Core). c.local)) at)
-
-pub report_there : (m : Machine) (cores : List Core) (i : ℕ) (c : Core) (report : Report) → slice_get cores (declared m i).cpu ≡ Some c → c.machine ≡ m →
-    report ≡ report_of (declared c.machine i).id (thread c.local i) → report ≡ home_report m (locals_of cores) i
-report_there m cores i c report at machine is =
-    is ∙ ap₂ (λ (m : Machine) (t : Thread). report_of (declared m i).id t) machine (sym (home_there m cores i c at))
-
-pub send_there : (m : Machine) (cores : List Core) (i : ℕ) (c : Core) (send : LastSend) →
-    slice_get cores (declared m i).cpu ≡ Some c →
-    send ≡ last_send (thread c.local i) → send ≡ last_send (home_thread m (locals_of cores) i)
-send_there m cores i c send at is = is ∙ ap last_send (sym (home_there m cores i c at))
-
-pub cores_mapped : (ss : List program.Station) → map (λ (s : program.Station). s.worker.core) ss ≡ map (λ (s : Station). s.core) (map station_of ss)
-cores_mapped [] = refl
-cores_mapped (s ∷ ss) = ap (λ (cores : List Core). s.worker.core ∷ cores) (cores_mapped ss)

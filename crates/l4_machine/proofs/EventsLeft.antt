@@ -8,7 +8,6 @@ use Rattle.std.proofs.lemmas.List.{map-set}
 use Rattle.std.proofs.lemmas.List.Sorted.{IsPermutation-trans}
 use Rattle.l4_model.specs.Machine.{Machine}
 use Rattle.l4_model.specs.Steps.{Step}
-use Rattle.l4_model.proofs.Chains.{some_is}
 use Rattle.l4_core_model.proofs.Lists.{all-map, all-map_with}
 use Rattle.l4_core_model.specs.Local.{Local}
 use Rattle.l4_machine.proofs.InLogs.{all_events_are}
@@ -285,15 +284,6 @@ shorter (l ∷ ls) zero e es here =
 shorter (l ∷ ls) (suc place) e es here =
     let rest = shorter ls place e es here in
     omega (arith, rest, length-append l (joined ls), length-append l (joined (set ls place es)))
-
--- What one event more leaves of a log.
-
-pub one_less : (es : List Event) (n : ℕ) (e : Event) → slice_get es n ≡ Some e → drop n es ≡ e ∷ drop (n + 1) es
-one_less [] n e at = absurd cc
-one_less (x ∷ es) zero e at = ap (λ x. x ∷ es) (some_is x e at)
-one_less (x ∷ es) (suc n) e at =
-    let next : suc (n + 1) ≡ suc n + 1 = omega arith in
-    one_less es n e at ∙ ap (λ k. e ∷ drop k (x ∷ es)) next
 
 pub stamp_left : (es : List Event) (n : ℕ) → option_map (λ (e : Event). e.stamp) (slice_get es n) ≡ first_stamp (drop n es)
 stamp_left [] zero = refl

@@ -25,10 +25,10 @@ use Rattle.l4_refines.proofs.Relation.Views.{home, is_about, is_locator, kept, l
 use Rattle.l4_machine.proofs.Alike.{IsAlike, agreeing_alike, all_at, same_alike, told_by_alike}
 use Rattle.l4_refines.proofs.Alone.{all_together}
 use Rattle.l4_core.specs.Processor.{Processor}
-use Rattle.l4_machine.specs.Stations.{Station}
-use Rattle.l4_machine.specs.UnderWay.{IsStation, IsSystem, letters_at}
-use Rattle.l4_machine.specs.Inner.Heard.{AreOfWorld, HaveRegisters, IsToldBy, answered, answers, heard_in, hears, hears_at, hears_all, hears_mail, hears_all_mail, with_thread}
-use Rattle.l4_machine.specs.Inner.Homes.{reports_of}
+use Rattle.l4_replay.specs.Stations.{Station}
+use Rattle.l4_replay.specs.UnderWay.{IsStation, IsSystem, letters_at}
+use Rattle.l4_replay.specs.Inner.Heard.{AreOfWorld, HaveRegisters, IsToldBy, answered, answers, heard_in, hears, hears_at, hears_all, hears_mail, hears_all_mail, with_thread}
+use Rattle.l4_replay.specs.Inner.Homes.{reports_of}
 
 -- One letter
 

@@ -19,7 +19,7 @@ use Rattle.l4_core_model.specs.Turns.{turn, advance}
 use Rattle.l4_core_model.specs.Runs.{Posted, System, is_between, letters, without_first, posted, taken, Action, Handles, Turns, Ticks, Happened, done, happens, Run, core_run, then_event, opening_run}
 use Rattle.l4_bisimilar.specs.Entries.{entry_of}
 use Rattle.l4_merge.proofs.Lists.{all-append}
-use Rattle.l4_machine.specs.Entries.{first_stranger, fault_of, is_entry}
+use Rattle.l4_replay.specs.Entries.{first_stranger, fault_of, is_entry}
 
 -- A system of the machine's processors, in which each letter under way was posted by one of them.
 record IsPeopled (m : Machine) (g : System) : Type 0 where

@@ -16,9 +16,9 @@ use Rattle.l4_types.specs.ReportView.{report_of_view}
 use Rattle.l4_machine.specs.declared.outcome.CompactOutcome.{CompactOutcome}
 use Rattle.l4_proc.specs.declared.processor.Processor.{Processor}
 use Rattle.l4_machine.specs.Gathered.{IsGathered}
-use Rattle.l4_machine.specs.Inner.Heard.{AreOfWorld, HaveRegisters, IsToldBy, waits_by}
+use Rattle.l4_replay.specs.Inner.Heard.{AreOfWorld, HaveRegisters, IsToldBy, waits_by}
 use Rattle.l4_machine.proofs.Alike.{same_alike, told_by_alike}
-use Rattle.l4_machine.specs.Inner.Homes.{EndsIn, reports_of}
+use Rattle.l4_replay.specs.Inner.Homes.{EndsIn, reports_of}
 use Rattle.l4_machine.specs.Outcomes.{Findings, IsFoundFor, IsOutcomeOf, IsSound, IsTrueOf, compact_findings_of, steps_of}
 
 -- A history has no first fault.

@@ -19,7 +19,7 @@ use Rattle.l4_proc.specs.Working.{past}
 use Rattle.l4_proc.specs.declared.log.Log.{Log}
 use Rattle.l4_proc.specs.declared.processor.Processor.{Processor}
 use Rattle.l4_proc.proofs.Ends.{as_many}
-use Rattle.l4_machine.specs.Entries.{entries_fault, most_events}
+use Rattle.l4_replay.specs.Entries.{entries_fault, most_events}
 use Rattle.l4_machine.specs.Inner.Teams.{count_events, AreInOrder}
 use Rattle.l4_machine.proofs.Lawful.{no_strangers}
 use Rattle.l4_machine.proofs.Members.{pasts_are}

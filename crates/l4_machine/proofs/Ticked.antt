@@ -33,7 +33,7 @@ use Rattle.l4_proc.specs.declared.processor.Processor.{Processor}
 use Rattle.l4_proc.proofs.Rested.{port_of}
 use Rattle.l4_machine.specs.Gathers.{AreResting}
 use Rattle.l4_machine.specs.Inner.Teams.{pasts, count_events, deadline_of, first_deadline, AreIdle, HasComeTo, HaveCome, HaveComeTo}
-use Rattle.l4_machine.proofs.Endings.{unarmed_is}
+use Rattle.l4_replay.proofs.Endings.{unarmed_is}
 use Rattle.l4_machine.proofs.Counting.{events_in, first_counted}
 use Rattle.l4_machine.proofs.InOneHand.{all_handled_between}
 use Rattle.l4_machine.proofs.Members.{some_there, mapped_range, in_order_gone_on, in_order_have_numbers, pasts_are}
@@ -329,12 +329,6 @@ pub both_near : (a b : Option ℕ) (bound : ℕ) → IfSome a (λ d. d < bound) 
 both_near None b bound p q = q
 both_near (Some a) None bound p q = p
 both_near (Some a) (Some b) bound p q = omega arith
-
-pub deadline_assoc : (a b c : Option ℕ) → earliest (earliest a b) c ≡ earliest a (earliest b c)
-deadline_assoc None b c = refl
-deadline_assoc (Some a) None c = refl
-deadline_assoc (Some a) (Some b) None = refl
-deadline_assoc (Some a) (Some b) (Some c) = let e : min (min a b) c ≡ min a (min b c) = omega arith in ap Some e
 
 pub first_and_rest : (ps : List Processor) (i : ℕ) (d : Processor) → i < length ps →
     first_deadline (drop i ps) ≡ earliest (deadline_of (get_or ps i d)) (first_deadline (drop (i + 1) ps))

@@ -38,7 +38,7 @@ use Rattle.l4_machine.specs.Inner.Teams.{pasts, count_events, AreIdle, AreInOrde
 use Rattle.l4_machine.proofs.Counting.{counted, turns_and_ticks}
 use Rattle.l4_machine.proofs.InOneHand.{whole_pasts, none_taken_beyond, none_taken_own}
 use Rattle.l4_machine.proofs.Members.{some_there, in_order_gone_on, in_order_same, in_order_have_numbers, pasts_are}
-use Rattle.l4_machine.proofs.Stamps.{local_stamp, letter_stamp}
+use Rattle.l4_replay.proofs.Stamps.{local_stamp, letter_stamp}
 
 -- What they do at work, and behind it at rest.
 pub record IsRound (m : Machine) (turns : ℕ) (olds mids news : List Processor) : Type 0 where

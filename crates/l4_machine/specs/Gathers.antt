@@ -8,15 +8,11 @@ use Rattle.l4_core_model.specs.Runs.{Event, processors, merged, told}
 use Rattle.l4_merge.specs.LocalTraces.{LocalTrace, empty_past, Extends, all_events}
 use Rattle.l4_merge.specs.Merges.{is_at_rest, SortAsMerged}
 use Rattle.l4_mail.specs.Ports.{place, AreOneFabric, IsApart}
-use Rattle.l4_mail.specs.declared.rests.RestFault.{RestFault}
-use Rattle.l4_mail.specs.declared.rests.RestFault.TheVariants as rest_fault
 use Rattle.l4_core.specs.Processor.{Processor as Core}
 use Rattle.l4_proc.specs.Logs.{events}
 use Rattle.l4_proc.specs.Rests.{HaveHandledAll}
 use Rattle.l4_proc.specs.Working.{past}
 use Rattle.l4_proc.specs.declared.processor.Processor.{Processor}
-use Rattle.l4_machine.specs.declared.outcome.RunFault.{RunFault}
-use Rattle.l4_machine.specs.declared.outcome.RunFault.TheVariants as run_fault
 
 -- The processor of this number among these.
 abbrev pub with_number : (cpu : ℕ) → List Processor → Option Processor
@@ -71,8 +67,3 @@ pub record AreResting (ps : List Processor) : Type 0 where
   pub each : (i : ℕ) (p : Processor) → slice_get ps i ≡ Some p →
       is_at_rest p.worker.core.machine p.worker.core.cpu p.worker.core.local ≡ true
   pub handled : HaveHandledAll ps
-
--- Why processors come to no outcome.
-abbrev pub fault_of_rest : RestFault → RunFault
-fault_of_rest rest_fault.Numbers = run_fault.Strangers
-fault_of_rest rest_fault.NoMemory = run_fault.NoMemory

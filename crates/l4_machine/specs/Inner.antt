@@ -1,8 +1,4 @@
 pub mod EventsLeft
-pub mod Heard
-pub mod Homes
-pub mod Inboxes
-pub mod Posters
 pub mod Recorded
 pub mod Rising
 pub mod Teams

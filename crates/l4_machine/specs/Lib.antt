@@ -1,10 +1,4 @@
-pub mod CoreRuns
-pub mod Entries
 pub mod Gathered
 pub mod Gathers
-pub mod InOrder
 pub mod Inner
-pub mod Ordered
 pub mod Outcomes
-pub mod Stations
-pub mod UnderWay

@@ -16,7 +16,7 @@ use Rattle.l4_types.specs.declared.reports.Ending.TheVariants.{Quiet}
 use Rattle.l4_types.specs.StepView.{step_of}
 use Rattle.l4_types.specs.ReportView.{report_of_view}
 use Rattle.l4_machine.specs.Gathers.{merged_steps}
-use Rattle.l4_machine.specs.Ordered.{told_steps}
+use Rattle.l4_replay.specs.Ordered.{told_steps}
 use Rattle.l4_machine.specs.declared.run_history.RunHistory.{RunHistory}
 use Rattle.l4_machine.specs.declared.run_history.RunHistory.TheVariants.{Steps, Logs, Ordered}
 use Rattle.l4_machine.specs.declared.outcome.CompactOutcome.{CompactOutcome}

@@ -12,38 +12,23 @@ ghost use Rattle.l4_types.specs.declared.reports.Ending.TheVariants.{Quiet};
 ghost use Rattle.l4_machine.specs.Gathers.{core_of, pasts_of, with_number, AreOfOne, AreResting};
 ghost use Rattle.l4_machine.specs.Gathers.{HaveNumbers};
 ghost use Rattle.l4_machine.specs.Gathered.{IsGathered};
-ghost use Rattle.l4_machine.specs.Inner.Homes.{IsAtHome};
+ghost use Rattle.l4_replay.specs.Inner.Homes.{IsAtHome};
 ghost use Rattle.l4_machine.specs.Outcomes.{IsTrueOf, compact_findings_of, findings_of};
 
-use crate::homes::OwnerView;
-use crate::laws::law_core_run;
 use crate::merging::{merged_history, place_of};
-use crate::outcome::{CompactOutcome, Outcome, RunFault, outcome_of};
+use crate::outcome::{CompactOutcome, Outcome, outcome_of};
 use crate::run_history::RunHistory;
 use l4_core::processor::Core;
 use l4_mail::rests::RestFault;
 use l4_merge::law_merge;
 use l4_proc::processor::Processor;
 use l4_proc::resting::rest;
+use l4_replay::homes::OwnerView;
+use l4_replay::{RunFault, law_core_run};
 use l4_script::machine::Machine;
 use l4_types::errors::NoMemory;
 use l4_types::reports::Ending;
 use std::alloc::Global;
-
-impl From<RestFault> for RunFault {
-    ghost use Rattle.std.specs.Prelude.{◌≡◌};
-    ghost use Rattle.l4_mail.specs.declared.rests.RestFault.{RestFault as Fault};
-    ghost use Rattle.l4_machine.specs.Gathers.{fault_of_rest};
-
-    ghost from_gives = { λ fault run. run ≡ fault_of_rest fault };
-
-    fn from(fault: RestFault) -> RunFault {
-        match fault {
-            RestFault::Numbers => RunFault::Strangers,
-            RestFault::NoMemory => RunFault::NoMemory,
-        }
-    }
-}
 
 /// The outcome of the processors of one `assemble` of this machine, in any order, for callers with
 /// threads of their own. No other thread may be at work on them. The history is in order of stamp,

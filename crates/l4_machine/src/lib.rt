@@ -17,40 +17,23 @@
 //! ```
 #![tactic(auto)]
 
-mod entries;
 mod gathering;
-mod homes;
-mod inbox;
 mod laws;
-mod letter_queue;
-mod listener;
 mod logs;
 mod merging;
-mod ordered;
 mod outcome;
 mod recording;
 mod run_history;
 mod runs;
-mod scheduler;
 mod schedules;
 mod searching;
-mod station;
 mod team;
-mod telling;
 mod unmerged;
-mod waiting;
-mod walk;
-mod workers;
 
-pub use entries::Entry;
 pub use gathering::gather;
-pub use laws::{law_core_run, law_one_outcome};
-pub use letter_queue::Letters;
-pub use listener::Listener;
+pub use laws::law_one_outcome;
 pub use logs::Logs;
-pub use ordered::OrderedLogs;
-pub use outcome::{CompactOutcome, Outcome, RunFault};
+pub use outcome::{CompactOutcome, Outcome};
 pub use run_history::RunHistory;
-pub use runs::{MOST_TURNS, run, run_compact, run_recorded};
-pub use schedules::{MOST_ENTRIES, MOST_EVENTS, replay, replay_compact};
-pub use walk::Walk;
+pub use runs::{run, run_compact, run_recorded};
+pub use schedules::{replay, replay_compact};

@@ -2,12 +2,12 @@
 ghost use Rattle.l4_machine.specs.Gathers.{HaveNumbers};
 ghost use Rattle.l4_machine.specs.Inner.Rising.{HaveRisingLogs, HaveRisingLogs-prop};
 
-use crate::listener::Listener;
 use crate::merging::tell_merged;
 use crate::searching::waiting_sends;
-use crate::waiting::Search;
 use l4_history::history::History;
 use l4_proc::processor::Processor;
+use l4_replay::Listener;
+use l4_replay::waiting::Search;
 use l4_script::machine::Machine;
 use l4_types::errors::NoMemory;
 use l4_types::ids::ThreadId;
@@ -26,7 +26,7 @@ pub struct Logs<'m> {
 impl<'m> Logs<'m> {
     ghost use Rattle.std.specs.Prelude.{◌≡◌, IfOk, OnOk, filter_map};
     ghost use Rattle.l4_machine.specs.Gathers.{merged_steps, AreOfOne};
-    ghost use Rattle.l4_machine.specs.Inner.Waiting.{sought, AreBegunOnce, IsSearch};
+    ghost use Rattle.l4_replay.specs.Inner.Waiting.{sought, AreBegunOnce, IsSearch};
 
     /// The logs of all processors of a machine.
     pub(crate) fn new(machine: &'m Machine, processors: Vec<Processor<'m>>) -> Logs<'m>

@@ -11,12 +11,12 @@ ghost use Rattle.l4_machine.specs.Inner.EventsLeft.{left, IsUnmerged};
 ghost use Rattle.l4_machine.specs.Inner.Recorded.{happened_left, actions_of};
 ghost use Rattle.l4_machine.specs.Inner.Rising.{HaveRisingLogs};
 
-use crate::listener::Listener;
 use crate::logs::Logs;
 use crate::run_history::RunHistory;
 use crate::unmerged::{Unmerged, count_left, tell_all, untold};
 use l4_history::history::History;
 use l4_proc::processor::Processor;
+use l4_replay::Listener;
 use l4_script::machine::Machine;
 use l4_types::errors::NoMemory;
 use std::alloc::Global;

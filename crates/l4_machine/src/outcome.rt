@@ -5,18 +5,17 @@ ghost use Rattle.l4_model.specs.World.{Thread};
 ghost use Rattle.l4_core_model.specs.Runs.{Run, at_rest, told};
 ghost use Rattle.l4_types.specs.ReportView.{report_of_view};
 ghost use Rattle.l4_types.specs.declared.reports.Ending.TheVariants.{Quiet};
-ghost use Rattle.l4_machine.specs.Inner.Heard.{AreOfWorld, HaveRegisters};
-ghost use Rattle.l4_machine.specs.Inner.Homes.{AreThreads};
+ghost use Rattle.l4_replay.specs.Inner.Heard.{AreOfWorld, HaveRegisters};
+ghost use Rattle.l4_replay.specs.Inner.Homes.{AreThreads};
 ghost use Rattle.l4_machine.specs.Outcomes.{IsOutcomeOf, IsSound, compact_findings_of, findings_of};
 ghost use Rattle.l4_machine.specs.Outcomes.{steps_of};
-ghost use Rattle.l4_machine.specs.declared.outcome.RunFault.TheVariants.{NoMemory as RunNoMemory};
 
-use crate::homes::OwnerView;
 use crate::run_history::RunHistory;
-use crate::waiting::Search;
 use l4_audit::audit::{AuditFault, check_history};
 use l4_history::history::History;
 use l4_model::law_begun_then_ended;
+use l4_replay::homes::OwnerView;
+use l4_replay::waiting::Search;
 use l4_script::machine::Machine;
 use l4_types::errors::NoMemory;
 use l4_types::ids::ThreadId;
@@ -74,28 +73,6 @@ impl CompactOutcome<'_> {
             ending: self.ending,
             turns: self.turns,
         })
-    }
-}
-
-/// Why there is no outcome.
-#[derive(Clone, Copy, PartialEq, Eq, Debug)]
-pub enum RunFault {
-    /// Memory was refused.
-    NoMemory,
-    /// The number of turns is 0 or above 1,000,000, or a schedule has more entries than there may
-    /// be.
-    Turns,
-    /// This entry of the schedule, counted from 1, is the first that is none of the machine.
-    Schedule(usize),
-    /// The processors are not exactly those of the machine, each once.
-    Strangers,
-}
-
-impl From<NoMemory> for RunFault {
-    ghost from_gives = { λ _ fault. fault ≡ RunNoMemory };
-
-    fn from(_: NoMemory) -> RunFault {
-        RunFault::NoMemory
     }
 }
 

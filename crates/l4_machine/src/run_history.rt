@@ -1,13 +1,12 @@
 //! The history of an outcome.
 ghost use Rattle.std.specs.Prelude.{◌≡◌, IfOk, OnOk, filter_map};
 ghost use Rattle.l4_machine.specs.Outcomes.{steps_of};
-ghost use Rattle.l4_machine.specs.Inner.Waiting.{sought, AreBegunOnce, IsSearch};
+ghost use Rattle.l4_replay.specs.Inner.Waiting.{sought, AreBegunOnce, IsSearch};
 
-use crate::listener::Listener;
 use crate::logs::Logs;
-use crate::ordered::OrderedLogs;
-use crate::waiting::Search;
 use l4_history::history::History;
+use l4_replay::waiting::Search;
+use l4_replay::{Listener, OrderedLogs};
 use l4_types::errors::NoMemory;
 use l4_types::ids::ThreadId;
 use l4_types::steps::Name;

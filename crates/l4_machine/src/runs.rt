@@ -1,22 +1,19 @@
 //! Runs of a machine by host threads.
 ghost use Rattle.std.specs.Prelude.{◌≡◌, ◌<◌, ◌≤◌, ◌↔◌, ◌⊎◌, IfErr, IfOk, IsErrOf, Some};
 ghost use Rattle.std.specs.Prelude.{None, map};
-ghost use Rattle.l4_machine.specs.Entries.{entries_fault, entry_from, most_turns};
-ghost use Rattle.l4_machine.specs.Entries.{turns_fault};
+ghost use Rattle.l4_replay.specs.Entries.{entries_fault, entry_from, most_turns};
+ghost use Rattle.l4_replay.specs.Entries.{turns_fault};
 ghost use Rattle.l4_machine.specs.Outcomes.{IsCompactOutcome, IsCompactReplay, IsOutcome};
 ghost use Rattle.l4_machine.specs.Outcomes.{IsTrueOf, compact_findings_of, findings_of};
 
-use crate::entries::Entry;
-use crate::outcome::{CompactOutcome, Outcome, RunFault};
+use crate::outcome::{CompactOutcome, Outcome};
 use crate::team::Team;
 use l4_proc::gate::Gate;
+use l4_replay::{Entry, MOST_TURNS, RunFault};
 use l4_script::machine::Machine;
 use l4_types::errors::NoMemory;
 use std::alloc::Global;
 use std::thread::Threads;
-
-/// A run has at most this many turns.
-pub const MOST_TURNS: u64 = 1_000_000;
 
 /// Runs a machine for `turns` turns, 1 to 1,000,000, or until nothing is left to do, in rounds. In
 /// a round each processor takes at most the turns that are left divided by the number of

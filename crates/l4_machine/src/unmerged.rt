@@ -12,10 +12,10 @@ ghost use Rattle.l4_machine.specs.Inner.Recorded.{happened_left, actions_of};
 ghost use Rattle.l4_machine.specs.Inner.Rising.{RiseFrom};
 ghost use Rattle.l4_machine.specs.Gathers.{events_of};
 
-use crate::listener::Listener;
 use l4_history::steps::Steps;
 use l4_proc::log::Log;
 use l4_proc::processor::Processor;
+use l4_replay::Listener;
 use l4_types::errors::NoMemory;
 
 /// A log whose last events are still to be merged.

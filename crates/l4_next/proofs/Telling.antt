@@ -16,12 +16,12 @@ use Rattle.l4_model.specs.Conditions.{◌>>=◌}
 use Rattle.l4_core_model.specs.Runs.{Action, Happened, Run, System, happens, opening_run, told}
 use Rattle.l4_core_model.specs.Schedules.{or_stays, Entry, entry_event, replay_entries}
 use Rattle.l4_core_model.proofs.Telling.{told-last}
-use Rattle.l4_machine.specs.Entries.{entries_fault, first_stranger, is_entry, most_events}
+use Rattle.l4_replay.specs.Entries.{entries_fault, first_stranger, is_entry, most_events}
 use Rattle.l4_rounds.proofs.Faults.{no_fault}
 use Rattle.l4_rounds.proofs.Rounds.{lawful_more, replays_more}
 use Rattle.l4_states.specs.Choices.{after_entry, choice}
 use Rattle.l4_trace.specs.Lines.{has_line, trace_of}
-use Rattle.l4_machine.specs.declared.outcome.RunFault.TheVariants.{Turns, Schedule}
+use Rattle.l4_replay.specs.declared.fault.RunFault.TheVariants.{Turns, Schedule}
 use Rattle.l4_next.specs.Nexts.{Next, are_spelled, choices, item_line, listed, next_by, next_text, nexts_fault, nexts_text}
 
 -- What happens by an entry

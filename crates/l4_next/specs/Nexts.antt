@@ -7,8 +7,8 @@ use Rattle.l4_model.specs.Steps.{Step}
 use Rattle.l4_model.specs.Conditions.{◌>>=◌}
 use Rattle.l4_core_model.specs.Runs.{System, happens}
 use Rattle.l4_core_model.specs.Schedules.{Entry, entry_event}
-use Rattle.l4_machine.specs.Entries.{fault_of, most_events}
-use Rattle.l4_machine.specs.declared.outcome.RunFault.{RunFault}
+use Rattle.l4_replay.specs.Entries.{fault_of, most_events}
+use Rattle.l4_replay.specs.declared.fault.RunFault.{RunFault}
 use Rattle.l4_schedules.specs.Items.{item_of}
 use Rattle.l4_states.specs.Choices.{choice, choice_count}
 use Rattle.l4_trace.specs.Lines.{has_line, trace_of}

@@ -5,14 +5,15 @@ ghost use Rattle.std.specs.Prelude.{drop, is_some, length, map, true};
 ghost use Rattle.std.specs.List.{list_all};
 ghost use Rattle.l4_core_model.specs.Runs.{told};
 ghost use Rattle.l4_core_model.specs.Schedules.{replay_entries};
-ghost use Rattle.l4_machine.specs.Entries.{entries_fault, entry_from, first_stranger, is_entry};
-ghost use Rattle.l4_machine.specs.Entries.{most_events};
+ghost use Rattle.l4_replay.specs.Entries.{entries_fault, entry_from, first_stranger, is_entry};
+ghost use Rattle.l4_replay.specs.Entries.{most_events};
 ghost use Rattle.l4_trace.specs.Lines.{has_line, trace_of};
 ghost use Rattle.l4_next.specs.Nexts.{are_spelled, item_line, listed, next_by, nexts, nexts_fault};
 ghost use Rattle.l4_next.specs.Nexts.{nexts_text};
 
 use l4_history::history::History;
-use l4_machine::{Entry, MOST_EVENTS, RunFault, replay_compact};
+use l4_machine::replay_compact;
+use l4_replay::{Entry, MOST_EVENTS, RunFault};
 use l4_rounds::choices::{choice, choice_count, is_possible};
 use l4_rounds::walk_behind;
 use l4_schedules::writing::write_schedule;

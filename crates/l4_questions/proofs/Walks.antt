@@ -3,7 +3,7 @@ use Rattle.std.proofs.Common.{◌≡◌, ◌≤◌, ℕ, inl, inr, true, false, 
 use Rattle.std.specs.Prelude.{Vec}
 use Rattle.l4_model.specs.Machine.{Machine}
 use Rattle.std.specs.List.{AllByRecursion}
-use Rattle.l4_machine.specs.declared.entries.Entry.{Entry}
+use Rattle.l4_replay.specs.declared.entries.Entry.{Entry}
 use Rattle.l4_expect.specs.Expected.{Expected}
 use Rattle.l4_questions.specs.Answers.{endings_after, IsAnswer}
 use Rattle.l4_questions.specs.Beside.{Shown}

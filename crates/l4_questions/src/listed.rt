@@ -1,6 +1,6 @@
 //! The entries of an ending, as a search lists them.
 ghost use Rattle.std.specs.Prelude.{◌≡◌, IfOk, map};
-ghost use Rattle.l4_machine.specs.Entries.{entry_from};
+ghost use Rattle.l4_replay.specs.Entries.{entry_from};
 ghost use Rattle.l4_model.specs.Machine.{Machine as ModelMachine};
 ghost use Rattle.l4_questions.specs.Endings.{Ending};
 ghost use Rattle.l4_questions.specs.Inner.Found.{led_ending, placed_by, IsLed, IsReplayed};
@@ -9,8 +9,9 @@ ghost use Rattle.l4_questions.specs.Placed.{list_head};
 use crate::found::FoundEnding;
 use l4_all_endings::trace_of;
 use l4_history::history::History;
-use l4_machine::{Entry, replay_compact};
+use l4_machine::replay_compact;
 use l4_outlooks::know_times;
+use l4_replay::Entry;
 use l4_schedules::writing::write_schedule;
 use l4_script::machine::Machine;
 use l4_types::errors::NoMemory;

@@ -2,7 +2,7 @@
 ghost use Rattle.std.specs.Prelude.{ℕ, ◌≡◌, ◌≤◌, min, IfOk, None, Some, Vec};
 ghost use Rattle.std.proofs.Common.{Global};
 ghost use Rattle.l4_explore.specs.Tries.{deepest};
-ghost use Rattle.l4_machine.specs.declared.entries.Entry.{Entry as EntryOfList};
+ghost use Rattle.l4_replay.specs.declared.entries.Entry.{Entry as EntryOfList};
 ghost use Rattle.l4_questions.specs.Limits.{question_fault};
 ghost use Rattle.l4_questions.specs.Inner.PlacedWalked.{IsWalkedBy, LeadsToAsked};
 
@@ -12,7 +12,7 @@ use crate::question::{Question, Wanted};
 use crate::walked::{MOST_STEPS, MOST_TOO_LONG, NEAREST, WALKS, is_any_asked};
 use l4_endings::endings;
 use l4_explore::progress::Progress;
-use l4_machine::Entry;
+use l4_replay::Entry;
 use l4_script::machine::Machine;
 use l4_types::errors::NoMemory;
 use l4_walks::PlacedWalks;

@@ -7,10 +7,10 @@ use Rattle.std.proofs.lemmas.List.{length-map, take_more}
 use Rattle.std.proofs.lemmas.Option.{get_or_from_slice_get}
 use Rattle.l4_model.specs.Machine.{Machine}
 use Rattle.l4_core_model.specs.Schedules.{turns_of, Entry, TurnOf, replay_entries}
-use Rattle.l4_machine.specs.declared.entries.Entry as code
-use Rattle.l4_machine.specs.declared.outcome.RunFault.TheVariants.{Turns, Schedule}
-use Rattle.l4_machine.specs.Entries.{entries_fault, entry_from, first_stranger, most_events, most_turns}
-use Rattle.l4_machine.proofs.Replays.{entry_at}
+use Rattle.l4_replay.specs.declared.entries.Entry as code
+use Rattle.l4_replay.specs.declared.fault.RunFault.TheVariants.{Turns, Schedule}
+use Rattle.l4_replay.specs.Entries.{entries_fault, entry_from, first_stranger, most_events, most_turns}
+use Rattle.l4_replay.proofs.Replays.{entry_at}
 use Rattle.l4_rounds.specs.ThenRest.{HaveRest}
 use Rattle.l4_rounds.proofs.Rounds.{rest_few}
 

@@ -5,7 +5,7 @@ use Rattle.std.proofs.Math.Seq.{take-length, take-append_seam}
 use Rattle.l4_model.specs.Machine.{Machine}
 use Rattle.l4_core_model.specs.Runs.{Run, opening_run}
 use Rattle.l4_core_model.specs.Schedules.{turns_of, Entry, replay_entries}
-use Rattle.l4_machine.specs.Entries.{after_entry}
+use Rattle.l4_replay.specs.Entries.{after_entry}
 use Rattle.l4_rounds.specs.ThenRest.{GoOn}
 use Rattle.l4_rounds.proofs.Rounds.{one_more, replays_few, replays_more, unchanged}
 

@@ -6,8 +6,8 @@ use Rattle.std.proofs.lemmas.Option.{slice_get-get_or}
 use Rattle.l4_model.specs.Machine.{Machine}
 use Rattle.l4_core_model.specs.Local.{opening_local}
 use Rattle.l4_core_model.specs.Runs.{Run}
-use Rattle.l4_machine.specs.Stations.{Station}
-use Rattle.l4_machine.specs.UnderWay.{UnderWay, IsRun}
+use Rattle.l4_replay.specs.Stations.{Station}
+use Rattle.l4_replay.specs.UnderWay.{UnderWay, IsRun}
 
 pub locals_of_run : (m : Machine) (r : Run) (w : UnderWay) → IsRun m r w →
     length r.system.locals ≡ m.cpus

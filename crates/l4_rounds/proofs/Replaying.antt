@@ -12,11 +12,11 @@ use Rattle.l4_core_model.specs.Runs.{Run, System, Ticks, opening_run}
 use Rattle.l4_core_model.specs.Schedules.{attempts_all, earliest, earliest_of, least_deadline, rounds, turns_in_order, turns_of}
 use Rattle.l4_core_model.specs.Schedules.{Entry, TurnOf, TickTo, replay_entries}
 use Rattle.l4_core.specs.Processor.{Processor}
-use Rattle.l4_machine.specs.declared.entries.Entry as code
-use Rattle.l4_machine.specs.Entries.{after_entry, entry_from, is_entry}
-use Rattle.l4_machine.specs.UnderWay.{UnderWay, GoesOn, HasRun, IsProcessorOf, IsRun}
-use Rattle.l4_machine.proofs.Replays.{as_many}
-use Rattle.l4_machine.proofs.Ticked.{deadline_assoc}
+use Rattle.l4_replay.specs.declared.entries.Entry as code
+use Rattle.l4_replay.specs.Entries.{after_entry, entry_from, is_entry}
+use Rattle.l4_replay.specs.UnderWay.{UnderWay, GoesOn, HasRun, IsProcessorOf, IsRun}
+use Rattle.l4_replay.proofs.Replays.{as_many}
+use Rattle.l4_replay.proofs.Endings.{deadline_assoc}
 use Rattle.l4_rounds.specs.ThenRest.{GoOn, in_rounds}
 use Rattle.l4_rounds.specs.Inner.Replays.{entries_of, run_of, HasGoneOn, IsReplay, IsReplayOf}
 use Rattle.l4_rounds.specs.declared.replays.Replay.{Replay}

@@ -13,7 +13,7 @@ use Rattle.l4_core_model.specs.Turns.{advance}
 use Rattle.l4_core_model.specs.Runs.{Action, Ticks, Happened, done, happens, processors, Run}
 use Rattle.l4_core_model.specs.Schedules.{or_stays, attempts, attempts_all, next_turn, turns_in_order, round, ticks, ticks_to, earliest_deadline, turns_of, has_gone_on, round_or_ticks, rounds}
 use Rattle.l4_core_model.specs.Schedules.{Entry, TurnOf, TickTo, entry_event, replays}
-use Rattle.l4_machine.specs.Entries.{after_entry, first_stranger, is_entry}
+use Rattle.l4_replay.specs.Entries.{after_entry, first_stranger, is_entry}
 use Rattle.l4_rounds.specs.ThenRest.{in_rounds}
 
 -- An event more, or none

@@ -4,9 +4,9 @@ use Rattle.std.specs.Option.{option_map}
 use Rattle.l4_model.specs.Machine.{Machine}
 use Rattle.l4_core_model.specs.Runs.{Run}
 use Rattle.l4_core_model.specs.Schedules.{rounds, turns_of, Entry, replay_entries}
-use Rattle.l4_machine.specs.Entries.{first_stranger, most_turns}
-use Rattle.l4_machine.specs.declared.outcome.RunFault.{RunFault}
-use Rattle.l4_machine.specs.declared.outcome.RunFault.TheVariants.{Turns, Schedule}
+use Rattle.l4_replay.specs.Entries.{first_stranger, most_turns}
+use Rattle.l4_replay.specs.declared.fault.RunFault.{RunFault}
+use Rattle.l4_replay.specs.declared.fault.RunFault.TheVariants.{Turns, Schedule}
 
 -- Rounds: one turn of each processor, rising, or ticks of all clocks if a round has no event. They
 -- go on until `turns` more turns are used up, or nothing goes on.

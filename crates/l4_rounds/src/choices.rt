@@ -4,14 +4,14 @@ ghost use Rattle.std.specs.Prelude.{true};
 ghost use Rattle.l4_model.specs.Machine.{Machine as MachineOfModel};
 ghost use Rattle.l4_core_model.specs.Runs.{Run, System};
 ghost use Rattle.l4_core_model.specs.Schedules.{TickOf};
-ghost use Rattle.l4_machine.specs.Entries.{entry_from, is_entry_of};
-ghost use Rattle.l4_machine.specs.UnderWay.{HasRun, IsRun};
+ghost use Rattle.l4_replay.specs.Entries.{entry_from, is_entry_of};
+ghost use Rattle.l4_replay.specs.UnderWay.{HasRun, IsRun};
 ghost use Rattle.l4_states.specs.Choices.{after_entry, choice, choice_of, IsNear};
 ghost use Rattle.l4_rounds.specs.Inner.Choices.{IsTickOf};
 
 use l4_core::processor::Core;
-use l4_machine::{Entry, Walk};
 use l4_refines::law_of_core_runs;
+use l4_replay::{Entry, Walk};
 use l4_types::steps::CLOCKS;
 
 /// The number of choices, at most 288. Each processor has one for the letters of each poster, one

@@ -6,7 +6,8 @@
 //! how it ends. `choices` has what may happen next behind a replay, each by a number.
 //!
 //! ```rust
-//! let outcome = replay_then_rest(alloc, &machine, &[Entry::Turn(1), Entry::Turn(0)], 10_000)?;
+//! let entries = with_rest(alloc, &machine, &[Entry::Turn(1), Entry::Turn(0)], 10_000)?;
+//! assert!(rt; entries.len() >= 2);
 //! ```
 #![tactic(auto)]
 
@@ -16,4 +17,4 @@ mod replays;
 mod rest;
 
 pub use laws::law_rest;
-pub use rest::{replay_then_rest, walk_behind, with_rest};
+pub use rest::{walk_behind, with_rest};

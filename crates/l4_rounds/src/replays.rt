@@ -5,10 +5,10 @@ ghost use Rattle.std.specs.Prelude.{◌&&◌, nat_lt};
 ghost use Rattle.l4_model.specs.Words.{clock_limit};
 ghost use Rattle.l4_core_model.specs.Schedules.{earliest, earliest_deadline, round, round_or_ticks};
 ghost use Rattle.l4_core_model.specs.Schedules.{ticks, ticks_to};
-ghost use Rattle.l4_machine.specs.Entries.{after_entry, entry_from, is_entry, most_turns};
+ghost use Rattle.l4_replay.specs.Entries.{after_entry, entry_from, is_entry, most_turns};
 ghost use Rattle.l4_rounds.specs.ThenRest.{in_rounds};
 
-use l4_machine::{Entry, Walk};
+use l4_replay::{Entry, Walk};
 use l4_script::machine::Machine;
 use l4_types::errors::NoMemory;
 use l4_types::steps::CLOCKS;

@@ -5,8 +5,8 @@ use Rattle.std.proofs.lemmas.Bool.{lt-ltb}
 use Rattle.std.proofs.lemmas.Bool.Decides.{nat_tests}
 use Rattle.std.proofs.lemmas.List.{take_all}
 use Rattle.l4_model.specs.Machine.{Machine}
-use Rattle.l4_machine.specs.declared.outcome.RunFault.TheVariants.{Turns}
-use Rattle.l4_machine.specs.Entries.{most_events}
+use Rattle.l4_replay.specs.declared.fault.RunFault.TheVariants.{Turns}
+use Rattle.l4_replay.specs.Entries.{most_events}
 use Rattle.l4_schedules.specs.InFiles.{list_in_file, most_bytes, schedule_in_file}
 use Rattle.l4_schedules.specs.Items.{schedule_within}
 

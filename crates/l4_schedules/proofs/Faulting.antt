@@ -6,8 +6,8 @@ use Rattle.std.proofs.lemmas.Bool.Decides.{nat_tests}
 use Rattle.std.proofs.lemmas.List.{take_all}
 use Rattle.l4_model.specs.Machine.{Machine}
 use Rattle.l4_core_model.specs.Schedules.{Entry}
-use Rattle.l4_machine.specs.declared.outcome.RunFault.TheVariants.{Turns, Schedule}
-use Rattle.l4_machine.specs.Entries.{is_entry, most_entries, most_events}
+use Rattle.l4_replay.specs.declared.fault.RunFault.TheVariants.{Turns, Schedule}
+use Rattle.l4_replay.specs.Entries.{is_entry, most_entries, most_events}
 use Rattle.l4_schedules.specs.declared.faulty.ItemHint.{ItemHint}
 use Rattle.l4_schedules.specs.declared.faulty.ItemHint.TheVariants.{LongFile, ManyItems, Processor}
 use Rattle.l4_schedules.specs.Faulty.{fault, fault_at, fault_in, faults_from, faults_within, file_faults, first_in, hint_by, list_faults, refusal, spelling_hint}

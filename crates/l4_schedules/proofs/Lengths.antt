@@ -6,7 +6,7 @@ use Rattle.std.proofs.lemmas.Bool.{and_parts, ltb-true}
 use Rattle.std.proofs.lemmas.Fmt.{length-decimal-le}
 use Rattle.l4_model.specs.Words.{clock_limit}
 use Rattle.l4_core_model.specs.Schedules.{Entry, TurnOf, TickOf, LetterOf, CoreOf, TickTo}
-use Rattle.l4_machine.specs.Entries.{is_entry_of}
+use Rattle.l4_replay.specs.Entries.{is_entry_of}
 use Rattle.l4_schedules.specs.Items.{item_of}
 use Rattle.l4_schedules.specs.Written.{in_lines, recorded_text, separator}
 

@@ -11,7 +11,7 @@ use Rattle.std.proofs.lemmas.List.Folds.{list_all-append}
 use Rattle.std.specs.Char.{digit_value}
 use Rattle.l4_model.specs.Words.{clock_limit}
 use Rattle.l4_core_model.specs.Schedules.{Entry, TurnOf, TickOf, LetterOf, CoreOf, TickTo}
-use Rattle.l4_machine.specs.Entries.{is_entry_of}
+use Rattle.l4_replay.specs.Entries.{is_entry_of}
 use Rattle.l4_schedules.specs.Items.{item_of}
 
 abbrev pub is_plain : ℕ → Bool

@@ -9,8 +9,8 @@ use Rattle.std.proofs.lemmas.List.{length-map}
 use Rattle.l4_model.specs.Machine.{Machine}
 use Rattle.l4_model.specs.Words.{clock_limit}
 use Rattle.l4_core_model.specs.Schedules.{Entry, TurnOf, TickOf, LetterOf, CoreOf, TickTo}
-use Rattle.l4_machine.specs.declared.outcome.RunFault.TheVariants.{Turns, Schedule}
-use Rattle.l4_machine.specs.Entries.{entries_fault, fault_of, first_stranger, is_entry, is_entry_of, most_events}
+use Rattle.l4_replay.specs.declared.fault.RunFault.TheVariants.{Turns, Schedule}
+use Rattle.l4_replay.specs.Entries.{entries_fault, fault_of, first_stranger, is_entry, is_entry_of, most_events}
 use Rattle.l4_schedules.specs.InFiles.{most_bytes, schedule_in_file}
 use Rattle.l4_schedules.specs.Items.{entry_of, item_of, if_entry, read_items, schedule_within}
 use Rattle.l4_schedules.specs.Written.{recorded_text, schedule_text}

@@ -5,8 +5,8 @@ use Rattle.std.specs.List.{list_all}
 use Rattle.std.proofs.lemmas.Bool.{and_parts}
 use Rattle.std.proofs.lemmas.Bool.Decides.{nat_tests}
 use Rattle.l4_core_model.specs.Schedules.{Entry, TurnOf, TickOf, LetterOf, CoreOf, TickTo}
-use Rattle.l4_machine.specs.Entries.{entry_from}
-use Rattle.l4_machine.specs.declared.entries.Entry as code
+use Rattle.l4_replay.specs.Entries.{entry_from}
+use Rattle.l4_replay.specs.declared.entries.Entry as code
 use Rattle.l4_schedules.specs.Items.{item_of}
 use Rattle.l4_schedules.specs.Written.{in_lines, is_first_core, schedule_text, separator}
 use Rattle.l4_schedules.proofs.Digits.{one_digit}

@@ -3,9 +3,9 @@ use Rattle.std.specs.Prelude.{ℕ, ◌+◌, ◌==◌, nat_lt, if◌then◌else�
 use Rattle.std.specs.List.{list_any}
 use Rattle.l4_model.specs.Machine.{Machine}
 use Rattle.l4_core_model.specs.Schedules.{Entry}
-use Rattle.l4_machine.specs.declared.outcome.RunFault.{RunFault}
-use Rattle.l4_machine.specs.declared.outcome.RunFault.TheVariants.{Turns, Schedule}
-use Rattle.l4_machine.specs.Entries.{is_entry, most_entries, most_events}
+use Rattle.l4_replay.specs.declared.fault.RunFault.{RunFault}
+use Rattle.l4_replay.specs.declared.fault.RunFault.TheVariants.{Turns, Schedule}
+use Rattle.l4_replay.specs.Entries.{is_entry, most_entries, most_events}
 use Rattle.l4_lint.specs.Spelling.{shown_word}
 use Rattle.l4_schedules.specs.declared.faulty.ItemHint.{ItemHint}
 use Rattle.l4_schedules.specs.declared.faulty.ItemHint.TheVariants.{ManyItems, LongFile, Processor, Empty, Blank, Tick, Core, Item}

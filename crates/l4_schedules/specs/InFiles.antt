@@ -4,9 +4,9 @@ use Rattle.std.specs.List.{join_by}
 use Rattle.l4_model.specs.Machine.{Machine}
 use Rattle.l4_core_model.specs.Schedules.{Entry}
 use Rattle.l4_words.specs.Lines.{parts_of}
-use Rattle.l4_machine.specs.declared.outcome.RunFault.{RunFault}
-use Rattle.l4_machine.specs.declared.outcome.RunFault.TheVariants.{Turns}
-use Rattle.l4_machine.specs.Entries.{most_events}
+use Rattle.l4_replay.specs.declared.fault.RunFault.{RunFault}
+use Rattle.l4_replay.specs.declared.fault.RunFault.TheVariants.{Turns}
+use Rattle.l4_replay.specs.Entries.{most_events}
 use Rattle.l4_schedules.specs.Items.{items_of, schedule_within}
 
 -- A line that begins with a semicolon, byte 59, is a comment, and is left out.

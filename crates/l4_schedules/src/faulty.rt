@@ -3,7 +3,7 @@ ghost use Rattle.std.specs.Prelude.{◌≡◌, ◌≤◌, ◌==◌, ◌++◌, �
 ghost use Rattle.std.specs.List.{list_any};
 ghost use Rattle.std.specs.Option.{option_map};
 ghost use Rattle.std.specs.String.{string_bytes};
-ghost use Rattle.l4_machine.specs.Entries.{entry_from, most_events};
+ghost use Rattle.l4_replay.specs.Entries.{entry_from, most_events};
 ghost use Rattle.l4_schedules.specs.Faulty.{fault, fault_at, fault_line, faults_from, faults_text};
 ghost use Rattle.l4_schedules.specs.Faulty.{faults_within, file_faults, first_hint, hint_by};
 ghost use Rattle.l4_schedules.specs.Faulty.{hint_of, hint_text, list_faults, number_text};
@@ -16,7 +16,7 @@ ghost use Rattle.l4_schedules.specs.declared.faulty.ItemHint.TheVariants as thes
 use crate::files::{MOST_FILE_BYTES, is_blank, list_in_file};
 use crate::items::{Items, entry_of, item_count};
 use l4_lint::spelling::push_shown;
-use l4_machine::{Entry, MOST_ENTRIES, MOST_EVENTS};
+use l4_replay::{Entry, MOST_ENTRIES, MOST_EVENTS};
 use l4_script::machine::Machine;
 use l4_types::errors::NoMemory;
 use std::alloc::{AllocError, Global};

@@ -2,15 +2,15 @@
 ghost use Rattle.std.specs.Prelude.{◌≡◌, ◌⊎◌, ◌++◌, codes, flat_map, map, reverse, OnOk, IfOk};
 ghost use Rattle.std.specs.Prelude.{IfErr, Ok, Err, None};
 ghost use Rattle.std.specs.List.{join_by};
-ghost use Rattle.l4_machine.specs.Entries.{entries_fault, entry_from};
-ghost use Rattle.l4_machine.specs.declared.outcome.RunFault.TheVariants.{NoMemory as OutOfMemory};
+ghost use Rattle.l4_replay.specs.Entries.{entries_fault, entry_from};
+ghost use Rattle.l4_replay.specs.declared.fault.RunFault.TheVariants.{NoMemory as OutOfMemory};
 ghost use Rattle.l4_schedules.specs.InFiles.{behind_blanks, is_blank, is_comment, kept_line};
 ghost use Rattle.l4_schedules.specs.InFiles.{list_in_file, schedule_in_file, trimmed};
 ghost use Rattle.l4_schedules.specs.InFiles.{without_comments};
 ghost use Rattle.l4_schedules.specs.Items.{items_of};
 
 use crate::items::{Items, schedule_within};
-use l4_machine::{Entry, MOST_EVENTS, RunFault};
+use l4_replay::{Entry, MOST_EVENTS, RunFault};
 use l4_script::machine::Machine;
 use l4_types::errors::NoMemory;
 use l4_words::lines::split_line;

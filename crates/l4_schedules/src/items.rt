@@ -6,14 +6,14 @@ ghost use Rattle.std.specs.Prelude.{true};
 ghost use Rattle.std.specs.Option.{option_map};
 ghost use Rattle.l4_model.specs.Machine.{most_processors};
 ghost use Rattle.l4_core_model.specs.Schedules.{Entry as ModelEntry};
-ghost use Rattle.l4_machine.specs.declared.outcome.RunFault.TheVariants.{NoMemory as OutOfMemory};
-ghost use Rattle.l4_machine.specs.Entries.{entries_fault, entry_from, is_entry_of, most_events};
+ghost use Rattle.l4_replay.specs.declared.fault.RunFault.TheVariants.{NoMemory as OutOfMemory};
+ghost use Rattle.l4_replay.specs.Entries.{entries_fault, entry_from, is_entry_of, most_events};
 ghost use Rattle.l4_schedules.specs.Items.{items_of, items_left, clock_of, processor_of};
 ghost use Rattle.l4_schedules.specs.Items.{entry_of, item_of};
 ghost use Rattle.l4_schedules.specs.Items.{letter_between, machine_entry, read_items, schedule_of};
 ghost use Rattle.l4_schedules.specs.Items.{schedule_within, tick_between, tick_of, turn_of};
 
-use l4_machine::{Entry, MOST_ENTRIES, RunFault};
+use l4_replay::{Entry, MOST_ENTRIES, RunFault};
 use l4_script::machine::Machine;
 use l4_types::errors::NoMemory;
 use l4_types::steps::CLOCKS;

@@ -2,7 +2,7 @@
 ghost use Rattle.std.specs.Prelude.{◌≡◌, ◌≤◌, ℕ, List, Ok, None};
 ghost use Rattle.l4_model.specs.Machine.{Machine, most_processors};
 ghost use Rattle.l4_core_model.specs.Schedules.{Entry};
-ghost use Rattle.l4_machine.specs.Entries.{entries_fault, fault_of, most_entries};
+ghost use Rattle.l4_replay.specs.Entries.{entries_fault, fault_of, most_entries};
 ghost use Rattle.l4_schedules.specs.Faulty.{fault_in, file_faults, first_in, list_faults};
 ghost use Rattle.l4_schedules.specs.InFiles.{schedule_in_file};
 ghost use Rattle.l4_schedules.specs.Items.{schedule_of};

@@ -3,13 +3,13 @@ ghost use Rattle.std.specs.Prelude.{◌≡◌, ◌<◌, ◌≤◌, ◌+◌, ◌%
 ghost use Rattle.std.specs.Prelude.{length, map, IfOk, OnOk};
 ghost use Rattle.std.specs.List.{list_all};
 ghost use Rattle.std.specs.Vec.{vec_capacity, vec_len};
-ghost use Rattle.l4_machine.specs.Entries.{entry_from};
+ghost use Rattle.l4_replay.specs.Entries.{entry_from};
 ghost use Rattle.l4_schedules.specs.Items.{item_of};
 ghost use Rattle.l4_schedules.specs.Written.{in_lines, is_first_core, recorded_text, schedule_text};
 ghost use Rattle.l4_schedules.specs.Written.{separator};
 
 use itoa::Buffer;
-use l4_machine::Entry;
+use l4_replay::Entry;
 use l4_types::errors::NoMemory;
 use std::alloc::Global;
 

@@ -11,8 +11,8 @@ use Rattle.l4_model.specs.Conditions.{◌>>=◌}
 use Rattle.l4_core_model.specs.Runs.{Happened, Run, happens, opening_run, told}
 use Rattle.l4_core_model.specs.Schedules.{or_stays, Entry, entry_event, replay_entries, replays, turns_of}
 use Rattle.l4_core_model.proofs.Telling.{told-last}
-use Rattle.l4_machine.specs.declared.outcome.RunFault.TheVariants.{Turns, Schedule as RunSchedule}
-use Rattle.l4_machine.specs.Entries.{after_entry, entries_fault, fault_of, first_stranger, is_entry, most_entries, most_events}
+use Rattle.l4_replay.specs.declared.fault.RunFault.TheVariants.{Turns, Schedule as RunSchedule}
+use Rattle.l4_replay.specs.Entries.{after_entry, entries_fault, fault_of, first_stranger, is_entry, most_entries, most_events}
 use Rattle.l4_next.specs.Nexts.{Next}
 use Rattle.l4_rounds.proofs.Faults.{no_fault}
 use Rattle.l4_rounds.proofs.Rounds.{lawful_more, replays_few, replays_more}

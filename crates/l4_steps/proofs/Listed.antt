@@ -12,7 +12,7 @@ use Rattle.l4_model.specs.Machine.{Machine}
 use Rattle.l4_model.specs.Conditions.{◌>>=◌}
 use Rattle.l4_core_model.specs.Runs.{Happened, System, happens}
 use Rattle.l4_core_model.specs.Schedules.{Entry, CoreOf, LetterOf, TickOf, entry_event, replay_entries}
-use Rattle.l4_machine.specs.Entries.{is_entry, is_entry_of}
+use Rattle.l4_replay.specs.Entries.{is_entry, is_entry_of}
 use Rattle.l4_next.specs.Nexts.{Next, choices, listed, next_by}
 use Rattle.l4_rounds.proofs.Possible.{own_of}
 use Rattle.l4_states.specs.Choices.{choice, choice_count, choice_of}

@@ -7,10 +7,10 @@ use Rattle.std.proofs.lemmas.Bool.Decides.{nat_tests}
 use Rattle.std.proofs.lemmas.List.Folds.{list_all-map, list_all_at}
 use Rattle.l4_model.specs.Machine.{Machine}
 use Rattle.l4_core_model.specs.Schedules.{Entry}
-use Rattle.l4_machine.specs.declared.entries.Entry as code
-use Rattle.l4_machine.specs.Entries.{entries_fault, entry_from, is_entry, most_entries}
-use Rattle.l4_machine.specs.declared.outcome.RunFault.{RunFault}
-use Rattle.l4_machine.specs.declared.outcome.RunFault.TheVariants.{Turns, Schedule}
+use Rattle.l4_replay.specs.declared.entries.Entry as code
+use Rattle.l4_replay.specs.Entries.{entries_fault, entry_from, is_entry, most_entries}
+use Rattle.l4_replay.specs.declared.fault.RunFault.{RunFault}
+use Rattle.l4_replay.specs.declared.fault.RunFault.TheVariants.{Turns, Schedule}
 use Rattle.l4_schedules.specs.Items.{items_of, read_items, schedule_of}
 use Rattle.l4_schedules.proofs.Lawful.{lawful_result}
 use Rattle.l4_words.specs.Numbers.{number_of}

@@ -7,7 +7,7 @@ use Rattle.l4_model.specs.Machine.{Machine}
 use Rattle.l4_core_model.specs.Schedules.{Entry}
 use Rattle.l4_chart.specs.Listings.{Listing}
 use Rattle.l4_chart.specs.declared.whole.TextForm.{TextForm}
-use Rattle.l4_machine.specs.Entries.{most_entries}
+use Rattle.l4_replay.specs.Entries.{most_entries}
 use Rattle.l4_steps.specs.Commands.{Command, Do, Back, Next, State, Chart, Record, Help, Quit, Unknown}
 use Rattle.l4_steps.specs.Possible.{next_behind}
 use Rattle.l4_steps.specs.Replies.{does, does_possible, few_text, goes_back, moves, named, reply_to_command, tells}

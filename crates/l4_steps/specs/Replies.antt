@@ -9,8 +9,8 @@ use Rattle.l4_core_model.specs.Schedules.{Entry, replay_entries}
 use Rattle.l4_chart.specs.Listings.{Listing}
 use Rattle.l4_chart.specs.Whole.{whole_text}
 use Rattle.l4_chart.specs.declared.whole.TextForm.{TextForm}
-use Rattle.l4_machine.specs.Entries.{entry_from, most_entries}
-use Rattle.l4_machine.specs.declared.outcome.RunFault.{RunFault}
+use Rattle.l4_replay.specs.Entries.{entry_from, most_entries}
+use Rattle.l4_replay.specs.declared.fault.RunFault.{RunFault}
 use Rattle.l4_reports.specs.ReportLines.{ending_at_rest, report_text}
 use Rattle.l4_schedules.specs.Items.{schedule_of}
 use Rattle.l4_schedules.specs.Written.{schedule_text}

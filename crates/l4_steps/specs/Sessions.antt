@@ -4,7 +4,7 @@ use Rattle.l4_model.specs.Machine.{Machine}
 use Rattle.l4_core_model.specs.Schedules.{Entry, replay_entries, turns_of}
 use Rattle.l4_chart.specs.Listings.{Listing}
 use Rattle.l4_chart.specs.declared.whole.TextForm.{TextForm}
-use Rattle.l4_machine.specs.Entries.{first_stranger, most_entries}
+use Rattle.l4_replay.specs.Entries.{first_stranger, most_entries}
 use Rattle.l4_steps.specs.Possible.{choices_text}
 use Rattle.l4_steps.specs.Replies.{Reply, reply_to}
 

@@ -5,8 +5,8 @@ ghost use Rattle.std.specs.List.{list_all};
 ghost use Rattle.l4_model.specs.History.{IsHistory};
 ghost use Rattle.l4_core_model.specs.Runs.{told};
 ghost use Rattle.l4_core_model.specs.Schedules.{replay_entries};
-ghost use Rattle.l4_machine.specs.Entries.{entries_fault, entry_from, first_stranger, is_entry};
-ghost use Rattle.l4_machine.specs.Entries.{most_events};
+ghost use Rattle.l4_replay.specs.Entries.{entries_fault, entry_from, first_stranger, is_entry};
+ghost use Rattle.l4_replay.specs.Entries.{most_events};
 ghost use Rattle.l4_machine.specs.Outcomes.{compact_findings_of, IsCompactReplay, IsTrueOf};
 ghost use Rattle.l4_schedules.specs.Items.{item_of};
 ghost use Rattle.l4_trace.specs.Lines.{trace_of};
@@ -14,8 +14,9 @@ ghost use Rattle.l4_steps.specs.Possible.{choice_text, choices_from, choices_tex
 
 use itoa::Buffer;
 use l4_history::history::History;
-use l4_machine::{CompactOutcome, Entry, replay_compact};
+use l4_machine::{CompactOutcome, replay_compact};
 use l4_next::law_next;
+use l4_replay::Entry;
 use l4_rounds::choices::{choice, choice_count, is_possible};
 use l4_rounds::walk_behind;
 use l4_schedules::writing::write_schedule;

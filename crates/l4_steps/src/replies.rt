@@ -3,8 +3,8 @@ ghost use Rattle.std.specs.Prelude.{◌≡◌, ◌≤◌, ◌++◌, [], IfOk, No
 ghost use Rattle.std.specs.Option.{option_map};
 ghost use Rattle.l4_core_model.specs.Runs.{told};
 ghost use Rattle.l4_core_model.specs.Schedules.{replay_entries};
-ghost use Rattle.l4_machine.specs.Entries.{entries_fault, entry_from, first_stranger, is_entry};
-ghost use Rattle.l4_machine.specs.Entries.{most_entries};
+ghost use Rattle.l4_replay.specs.Entries.{entries_fault, entry_from, first_stranger, is_entry};
+ghost use Rattle.l4_replay.specs.Entries.{most_entries};
 ghost use Rattle.l4_chart.specs.Whole.{whole_text};
 ghost use Rattle.l4_schedules.specs.Written.{schedule_text};
 ghost use Rattle.l4_steps.specs.Possible.{choices_text};
@@ -21,7 +21,7 @@ use crate::possible::{
 use itoa::Buffer;
 use l4_chart::listing::Listing;
 use l4_chart::whole::{TextForm, whole_text};
-use l4_machine::{Entry, MOST_ENTRIES, RunFault};
+use l4_replay::{Entry, MOST_ENTRIES, RunFault};
 use l4_reports::report_lines::write_report;
 use l4_schedules::items::schedule_of;
 use l4_schedules::writing::write_schedule;

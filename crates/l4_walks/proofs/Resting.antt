@@ -5,9 +5,9 @@ use Rattle.std.proofs.lemmas.List.{length-map, map-append}
 use Rattle.l4_model.specs.Machine.{Machine}
 use Rattle.l4_core_model.specs.Runs.{at_rest, opening_run}
 use Rattle.l4_core_model.specs.Schedules.{Entry}
-use Rattle.l4_machine.specs.Entries.{after_entry as after_entry_of_run, entry_from}
-use Rattle.l4_machine.specs.UnderWay.{GoesOn, IsRun, UnderWay}
-use Rattle.l4_machine.specs.declared.entries.Entry as code
+use Rattle.l4_replay.specs.Entries.{after_entry as after_entry_of_run, entry_from}
+use Rattle.l4_replay.specs.UnderWay.{GoesOn, IsRun, UnderWay}
+use Rattle.l4_replay.specs.declared.entries.Entry as code
 use Rattle.l4_states.specs.Choices.{after_entry, choice, IsLeastRun}
 use Rattle.l4_states.specs.Endings.{entries_of, led}
 use Rattle.l4_states.proofs.Chosen.{least_run}

@@ -3,14 +3,14 @@ ghost use Rattle.std.specs.Prelude.{◌≡◌, ◌<◌, ◌≤◌, ◌*◌, ◌+
 ghost use Rattle.std.specs.Prelude.{if◌then◌else◌, length};
 ghost use Rattle.l4_explore.specs.Tries.{deepest};
 ghost use Rattle.l4_core_model.specs.Runs.{Run, at_rest};
-ghost use Rattle.l4_machine.specs.Entries.{after_entry};
-ghost use Rattle.l4_machine.specs.UnderWay.{GoesOn, HasRun, IsRun};
+ghost use Rattle.l4_replay.specs.Entries.{after_entry};
+ghost use Rattle.l4_replay.specs.UnderWay.{GoesOn, HasRun, IsRun};
 ghost use Rattle.l4_model.specs.Machine.{Machine as MachineOfModel};
 ghost use Rattle.l4_states.specs.Choices.{choice_of, IsNear};
 ghost use Rattle.l4_walks.specs.Inner.Placed.{AreChoices, IsChoice, IsWalk};
 
 use crate::walks::{SEED, STREAM};
-use l4_machine::{Entry, Walk};
+use l4_replay::{Entry, Walk};
 use l4_rounds::choices::{choice, choice_count, is_possible, least_deadline};
 use l4_script::machine::Machine;
 use l4_types::errors::NoMemory;

@@ -2,8 +2,8 @@
 use Rattle.std.specs.Prelude.{◌≡◌, ℕ, Bool, true, Option, List, [], ◌∷◌, ◌++◌, flat_map}
 use Rattle.std.proofs.Common.{ap, append_assoc, refl, subst, sym, ◌∙◌}
 use Rattle.std.proofs.KnownBytes.{Appends-nil}
-use Rattle.l4_jobs.specs.Inner.Taking.{taken_on}
-use Rattle.l4_jobs.specs.Streams.{MayTake}
+use Rattle.l4_streams.specs.Inner.Taking.{taken_on}
+use Rattle.l4_streams.specs.Streams.{MayTake}
 use Rattle.l4_colours.specs.Painted.{shown, TakesShown}
 
 flat_map_append : {A B : Type 0} (f : A → List B) (xs ys : List A) →

@@ -6,8 +6,8 @@ use Rattle.l4_core_model.specs.Runs.{IsMachine}
 use Rattle.l4_core_model.specs.Schedules.{Entry}
 use Rattle.l4_explore.specs.Tries.{State, Next, LeadsOn, AreSchedules}
 use Rattle.l4_explore.specs.Search.{Seen}
-use Rattle.l4_machine.specs.Entries.{entry_from}
-use Rattle.l4_machine.specs.declared.entries.Entry as code
+use Rattle.l4_replay.specs.Entries.{entry_from}
+use Rattle.l4_replay.specs.declared.entries.Entry as code
 use Rattle.l4_states.specs.Choices.{state_after}
 use Rattle.l4_states.proofs.Following.{are_schedules}
 use Rattle.l4_persistent.specs.Inner.Ends.{AreOfSet}

@@ -5,7 +5,7 @@ use Rattle.l4_model.specs.Words.{period_limit}
 use Rattle.l4_model.specs.Machine.{Machine}
 use Rattle.l4_core_model.specs.Runs.{Run, opening_system}
 use Rattle.l4_states.specs.Choices.{after_choices}
-use Rattle.l4_machine.specs.UnderWay.{UnderWay, IsRun}
+use Rattle.l4_replay.specs.UnderWay.{UnderWay, IsRun}
 use Rattle.l4_persistent.proofs.Slow.{AreSlow}
 pub use Rattle.l4_endings.specs.Told.{AreChoices}
 

@@ -12,7 +12,7 @@ use Rattle.l4_endings.specs.Inner.Tried.{entries_from}
 use Rattle.l4_explore.specs.Search.{Seen}
 use Rattle.l4_futures.specs.Stuck.{names_one}
 use Rattle.l4_futures.specs.Traces.{trace_along}
-use Rattle.l4_machine.specs.declared.entries.Entry.{Entry}
+use Rattle.l4_replay.specs.declared.entries.Entry.{Entry}
 use Rattle.l4_reports.specs.ReportLines.{report_text}
 use Rattle.l4_states.specs.Endings.{entries_of}
 use Rattle.l4_types.specs.declared.reports.Ending.TheVariants.{Quiet}

@@ -3,7 +3,7 @@ use Rattle.std.specs.Prelude.{true, ◌≡◌, ℕ, Vec}
 use Rattle.std.proofs.Common.{Global}
 use Rattle.l4_model.specs.Machine.{Machine}
 use Rattle.l4_endings.specs.Inner.Tried.{entries_from}
-use Rattle.l4_machine.specs.declared.entries.Entry.{Entry}
+use Rattle.l4_replay.specs.declared.entries.Entry.{Entry}
 use Rattle.l4_walks.specs.Inner.Placed.{LeadsToRest}
 use Rattle.l4_questions.specs.Asked.{is_asked}
 use Rattle.l4_questions.specs.Inner.Found.{placed_by}

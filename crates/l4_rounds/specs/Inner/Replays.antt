@@ -3,8 +3,8 @@ use Rattle.std.specs.Prelude.{◌≡◌, None, List, map}
 use Rattle.l4_model.specs.Machine.{Machine}
 use Rattle.l4_core_model.specs.Runs.{Run}
 use Rattle.l4_core_model.specs.Schedules.{Entry, replay_entries}
-use Rattle.l4_machine.specs.Entries.{entry_from, first_stranger}
-use Rattle.l4_machine.specs.UnderWay.{UnderWay, IsRun}
+use Rattle.l4_replay.specs.Entries.{entry_from, first_stranger}
+use Rattle.l4_replay.specs.UnderWay.{UnderWay, IsRun}
 use Rattle.l4_rounds.specs.ThenRest.{GoOn}
 use Rattle.l4_rounds.specs.declared.replays.Replay.{Replay}
 

@@ -5,8 +5,8 @@ use Rattle.std.specs.List.{AllByRecursion}
 use Rattle.l4_model.specs.Machine.{Machine}
 use Rattle.l4_core_model.specs.Runs.{System, at_rest}
 use Rattle.l4_core_model.specs.Schedules.{Entry}
-use Rattle.l4_machine.specs.declared.entries.Entry as code
-use Rattle.l4_machine.specs.UnderWay.{UnderWay}
+use Rattle.l4_replay.specs.declared.entries.Entry as code
+use Rattle.l4_replay.specs.UnderWay.{UnderWay}
 use Rattle.l4_endings.specs.Inner.Tried.{entries_from}
 use Rattle.l4_endings.specs.Inner.Walked.{IsWalked}
 use Rattle.l4_states.specs.Choices.{after_entry, choice, choice_count}

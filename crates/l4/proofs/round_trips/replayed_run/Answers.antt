@@ -1,5 +1,5 @@
 use Rattle.std.proofs.Common.{map, subst}
-use Rattle.l4_machine.specs.Entries.{entry_from}
+use Rattle.l4_replay.specs.Entries.{entry_from}
 use Rattle.l4_machine.specs.Outcomes.{IsCompactReplay}
 use Rattle.l4.proofs.round_trips.replayed_run.Goals as goal
 

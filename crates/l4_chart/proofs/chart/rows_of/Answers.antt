@@ -4,15 +4,14 @@ use Rattle.l4_history.proofs.Read.{take_next}
 use Rattle.l4_types.specs.StepView.{seen}
 use Rattle.std.specs.Prelude.{filter}
 use Rattle.l4_chart.specs.Charts.{is_in, row_of}
-use Rattle.l4_chart.specs.Told.{told_of}
-use Rattle.l4_chart.specs.declared.columns.Column.{Column}
+use Rattle.l4_chart.specs.Told.{Watched, told_of}
 use Rattle.l4_chart.proofs.Walking.{all_rows, begun, goes_on, last_reached, placed_here, possible_here}
 use Rattle.l4_chart.proofs.chart.rows_of.Goals as goal
 use Rattle.l4_chart.proofs.chart.rows_of.Goals.{then-is_in+in_ok-push, else-is_in}
 
 pub loop-place-init : goal.loop-place-init
 loop-place-init c =
-    begun c.args.listing.now c.watched-watched.result.now (is_in c.args.window.now c.args.columns.now) (take c.args.count c.args.history.now.steps) c.args.world.now
+    begun c.args.listing.now c.watched-watched.result (is_in c.args.window.now c.args.columns.now) (take c.args.count c.args.history.now.steps) c.args.world.now
     (map row_of c.new-rows.result.items) c.requires.opening c.requires.possible (ap (map row_of) c.new-rows.ensures.items)
 
 pub told_at-requires-clause-placed : goal.told_at-requires-clause-placed
@@ -28,7 +27,7 @@ loop-place-preserved c =
     let l = c.loop-place in
     let m = c.args.world.now.machine in
     let listing = c.args.listing.now in
-    let told = c.watched-watched.result.now in
+    let told = c.watched-watched.result in
     let shown = is_in c.args.window.now c.args.columns.now in
     let steps = take c.args.count c.args.history.now.steps in
     let step = seen c.step-step.result in
@@ -51,7 +50,7 @@ returns-clause-rows c =
     let steps = take c.args.count c.args.history.now.steps in
     all_rows _ _ _ _ steps c.loop-place.place _ _ c.loop-place.invariant
     (omega (arith, length-take-le c.args.count c.args.history.now.steps c.requires.within, c.loop-place-test.false))
-    ∙ ap (λ (ws : List Column). filter (is_in c.args.window.now c.args.columns.now) (told_of c.args.world.now.machine c.args.listing.now ws steps))
+    ∙ ap (λ (ws : Watched). filter (is_in c.args.window.now c.args.columns.now) (told_of c.args.world.now.machine c.args.listing.now ws steps))
     c.watched-watched.ensures
 
 pub returns-clause-world : goal.returns-clause-world

@@ -1,5 +1,5 @@
 use Rattle.std.proofs.Common.{length}
-use Rattle.l4_jobs.specs.Streams.{HasAppended}
+use Rattle.l4_streams.specs.Streams.{HasAppended}
 use Rattle.l4_colours.specs.Painted.{painted}
 use Rattle.l4_colours.proofs.painting.paint.Given as goal
 

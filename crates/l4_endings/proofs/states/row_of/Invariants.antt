@@ -1,7 +1,7 @@
 use Rattle.std.proofs.Common.{◌≡◌, ℕ, ◌<◌, length}
 use Rattle.l4_model.specs.Machine.{Machine}
 use Rattle.l4_core_model.specs.Runs.{Run}
-use Rattle.l4_machine.specs.UnderWay.{IsRun}
+use Rattle.l4_replay.specs.UnderWay.{IsRun}
 use Rattle.l4_parts.specs.Inner.Known.{number_at, AreTrue, HasAt}
 use Rattle.l4_parts.specs.Inner.Numbers.{AreLonger}
 use Rattle.l4_endings.proofs.states.row_of.Given as goal

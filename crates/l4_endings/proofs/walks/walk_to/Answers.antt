@@ -2,7 +2,7 @@ use Rattle.std.proofs.Common.{◌+◌, ◌*◌, ◌<◌, get_or, length, take, a
 use Rattle.std.proofs.lemmas.List.{length-take-le, take_all}
 use Rattle.l4_model.specs.Machine.{Machine}
 use Rattle.l4_core_model.specs.Runs.{opening_run}
-use Rattle.l4_machine.specs.UnderWay.{IsRun}
+use Rattle.l4_replay.specs.UnderWay.{IsRun}
 use Rattle.l4_endings.specs.Inner.Walked.{IsWalked}
 use Rattle.l4_endings.proofs.Walking.{has_run, number_at, order_length, walked_more, walked_start}
 use Rattle.l4_endings.proofs.walks.walk_to.Goals as goal

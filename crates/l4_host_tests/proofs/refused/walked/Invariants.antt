@@ -1,5 +1,5 @@
 use Rattle.l4_core_model.specs.Runs.{Run}
-use Rattle.l4_machine.specs.UnderWay.{IsRun}
+use Rattle.l4_replay.specs.UnderWay.{IsRun}
 use Rattle.l4_host_tests.proofs.refused.walked.Given as goal
 
 -- It is a core run of the machine.

@@ -2,7 +2,7 @@ use Rattle.std.proofs.Common.{◌≡◌, [], inl, inr, refl}
 use Rattle.l4_commands.specs.declared.job.Job.TheVariants.{Step}
 use Rattle.l4_jobs.specs.Inputs.{gives_nothing}
 use Rattle.l4_jobs.specs.Performing.{asks_none, sinks}
-use Rattle.l4_jobs.specs.Streams.{GivenGives}
+use Rattle.l4_streams.specs.Streams.{GivenGives}
 use Rattle.l4_jobs.proofs.Performed.{unread_told}
 use Rattle.l4_jobs.proofs.Sessions.{text_held}
 use Rattle.l4_jobs.proofs.perform.perform_steps.Goals as goal

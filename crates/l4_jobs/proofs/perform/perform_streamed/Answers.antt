@@ -4,7 +4,7 @@ use Rattle.l4_jobs.specs.Inputs.{gives_nothing}
 use Rattle.l4_jobs.specs.Outputs.{output_of}
 use Rattle.l4_jobs.specs.Performing.{asks_none, sinks}
 use Rattle.l4_jobs.specs.Streaming.{IsStopFor}
-use Rattle.l4_jobs.specs.Streams.{GivenGives}
+use Rattle.l4_streams.specs.Streams.{GivenGives}
 use Rattle.l4_jobs.proofs.Begun.{all_written, search_stopped}
 use Rattle.l4_jobs.proofs.Performed.{fault_told}
 use Rattle.l4_jobs.proofs.perform.perform_streamed.Goals as goal

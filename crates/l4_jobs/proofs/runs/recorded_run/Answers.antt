@@ -1,7 +1,7 @@
 use Rattle.std.proofs.Common.{◌∙◌, List, Option, Some, ap, map}
 use Rattle.std.specs.Option.{option_copied, option_map}
-use Rattle.l4_machine.specs.Entries.{entry_from}
-use Rattle.l4_machine.specs.declared.entries.Entry.{Entry}
+use Rattle.l4_replay.specs.Entries.{entry_from}
+use Rattle.l4_replay.specs.declared.entries.Entry.{Entry}
 use Rattle.l4_schedules.specs.Written.{recorded_text}
 use Rattle.l4_jobs.specs.declared.done.Kept.{Kept}
 use Rattle.l4_jobs.proofs.Running.{asked_run_done, is_record}

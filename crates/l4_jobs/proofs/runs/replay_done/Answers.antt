@@ -1,7 +1,7 @@
 use Rattle.std.proofs.Common.{◌∙◌, List, Option, ap, map}
 use Rattle.std.specs.Option.{option_copied}
-use Rattle.l4_machine.specs.Entries.{entry_from}
-use Rattle.l4_machine.specs.declared.entries.Entry.{Entry}
+use Rattle.l4_replay.specs.Entries.{entry_from}
+use Rattle.l4_replay.specs.declared.entries.Entry.{Entry}
 use Rattle.l4_jobs.specs.declared.done.Kept.{Kept}
 use Rattle.l4_jobs.specs.Outputs.{list_of}
 use Rattle.l4_jobs.specs.Runs.{list_for}

@@ -1,6 +1,6 @@
 use Rattle.std.proofs.Common.{ℕ, Option, List, Some, map, ap, sym, ◌∙◌}
-use Rattle.l4_machine.specs.Entries.{entry_from}
-use Rattle.l4_machine.specs.declared.entries.Entry.{Entry}
+use Rattle.l4_replay.specs.Entries.{entry_from}
+use Rattle.l4_replay.specs.declared.entries.Entry.{Entry}
 use Rattle.l4_jobs.specs.Schedules.{continued_run}
 use Rattle.l4_jobs.proofs.Making.{both_ok}
 use Rattle.l4_jobs.proofs.Running.{rest_is}

@@ -2,7 +2,7 @@ use Rattle.std.proofs.Common.{◌≡◌, ◌⊎◌, ◌++◌, ℕ, List, [], map
 use Rattle.std.proofs.lemmas.Result.{err_from_is_err_and}
 use Rattle.l4_jobs.specs.Inner.Holding.{IsBehind}
 use Rattle.l4_core_model.specs.Schedules.{Entry}
-use Rattle.l4_machine.specs.Entries.{entry_from}
+use Rattle.l4_replay.specs.Entries.{entry_from}
 use Rattle.l4_steps.specs.Replies.{Reply, reply_to}
 use Rattle.l4_jobs.specs.declared.fault.Fault.TheVariants.{NoMemory as OutOfMemory, Write as NotTaken}
 use Rattle.l4_jobs.proofs.Holding.{at_some, broke, broke_reply, ended, opened, quits, unread, went_on}

@@ -1,5 +1,5 @@
 use Rattle.std.specs.Prelude.{map}
-use Rattle.l4_machine.specs.Entries.{entry_from}
+use Rattle.l4_replay.specs.Entries.{entry_from}
 use Rattle.l4_jobs.specs.Inner.Holding.{IsBehind}
 use Rattle.l4_jobs.proofs.steps.answer_lines.Given as goal
 

@@ -3,7 +3,7 @@ use Rattle.std.specs.Prelude.{slice_get}
 use Rattle.std.proofs.lemmas.Option.{slice_get_within, get_or_from_slice_get}
 use Rattle.l4_merge.specs.Merges.{is_at_rest}
 use Rattle.l4_proc.specs.declared.processor.Processor.{Processor}
-use Rattle.l4_machine.proofs.Inboxes.{below_next}
+use Rattle.l4_replay.proofs.Inboxes.{below_next}
 use Rattle.l4_machine.proofs.gathering.are_at_rest.Goals as goal
 
 abbrev AtRest : Processor → Type 0

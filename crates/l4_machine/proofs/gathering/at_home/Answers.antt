@@ -7,7 +7,7 @@ use Rattle.l4_core_model.specs.Local.{Local}
 use Rattle.l4_core_model.specs.Runs.{processors}
 use Rattle.l4_core.specs.Processor.{Processor as Core}
 use Rattle.l4_machine.specs.Gathers.{core_of, with_number}
-use Rattle.l4_machine.specs.Inner.Homes.{IsAtHome}
+use Rattle.l4_replay.specs.Inner.Homes.{IsAtHome}
 use Rattle.l4_machine.proofs.Cores.{all_there, locals_there, some_each}
 use Rattle.l4_machine.proofs.gathering.at_home.Goals as goal
 

@@ -6,7 +6,7 @@ use Rattle.l4_machine.specs.Gathers.{pasts_of}
 use Rattle.l4_core_model.specs.Local.{Local}
 use Rattle.l4_merge.specs.LocalTraces.{LocalTrace, all_events}
 use Rattle.l4_refines.specs.Laws.{home_thread}
-use Rattle.l4_machine.specs.Inner.Homes.{EndsIn}
+use Rattle.l4_replay.specs.Inner.Homes.{EndsIn}
 use Rattle.l4_machine.proofs.Cores.{handled_there}
 use Rattle.l4_machine.proofs.Outcomes.{known_at_home, sound}
 use Rattle.l4_machine.proofs.EventsLeft.{is_merge, logs_rise}

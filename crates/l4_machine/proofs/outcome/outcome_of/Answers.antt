@@ -2,9 +2,9 @@ use Rattle.std.proofs.Common.{refl, ap₂, ◌∙◌}
 use Rattle.std.specs.Prelude.{filter_map}
 use Rattle.std.proofs.lemmas.Result.{IfOk-weaker}
 use Rattle.l4_model.specs.Machine.{Machine}
-use Rattle.l4_machine.specs.Inner.Homes.{sent_waiting}
+use Rattle.l4_replay.specs.Inner.Homes.{sent_waiting}
 use Rattle.l4_machine.specs.Outcomes.{steps_of}
-use Rattle.l4_machine.specs.declared.homes.OwnerView.{OwnerView}
+use Rattle.l4_replay.specs.declared.homes.OwnerView.{OwnerView}
 use Rattle.l4_machine.proofs.Cores.{all_wait_there}
 use Rattle.l4_machine.proofs.Outcomes.{is_outcome_of_world}
 use Rattle.l4_machine.proofs.outcome.outcome_of.Goals as goal

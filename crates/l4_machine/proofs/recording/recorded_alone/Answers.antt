@@ -7,10 +7,10 @@ use Rattle.l4_core_model.specs.Schedules.{CoreOf, Entry}
 use Rattle.l4_proc.specs.Choices.{action_of}
 use Rattle.l4_proc.specs.Logs.{actions}
 use Rattle.l4_proc.specs.declared.log.Log.{Log}
-use Rattle.l4_machine.specs.Entries.{entry_from}
+use Rattle.l4_replay.specs.Entries.{entry_from}
 use Rattle.l4_machine.proofs.Named.{all_named, is_named, map_replicate, named, none_named, stays}
 use Rattle.l4_machine.proofs.Recorded.{as_many_actions}
-use Rattle.l4_machine.specs.declared.entries.Entry as code
+use Rattle.l4_replay.specs.declared.entries.Entry as code
 use Rattle.l4_machine.proofs.recording.recorded_alone.Goals as goal
 use Rattle.l4_machine.proofs.recording.recorded_alone.Goals.{in-Core, in_default}
 

@@ -5,7 +5,7 @@ use Rattle.l4_bisimilar.specs.Entries.{entry_of}
 use Rattle.l4_core_model.specs.Runs.{Event, merged}
 use Rattle.l4_core_model.specs.Schedules.{Entry}
 use Rattle.l4_merge.specs.Recorded.{actions_in}
-use Rattle.l4_machine.specs.Entries.{entry_from}
+use Rattle.l4_replay.specs.Entries.{entry_from}
 use Rattle.l4_machine.specs.Inner.EventsLeft.{first_stamp}
 use Rattle.l4_machine.specs.Inner.Recorded.{entries_left, happened_left}
 use Rattle.l4_machine.proofs.EventsLeft.{at_place, chosen, none_chosen}

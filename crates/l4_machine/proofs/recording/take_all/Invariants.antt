@@ -1,6 +1,6 @@
 use Rattle.std.proofs.Common.{◌≡◌, ◌++◌, length, map}
 use Rattle.std.specs.List.{AllByRecursion}
-use Rattle.l4_machine.specs.Entries.{entry_from}
+use Rattle.l4_replay.specs.Entries.{entry_from}
 use Rattle.l4_machine.specs.Inner.EventsLeft.{all_left, left, IsUnmerged}
 use Rattle.l4_machine.specs.Inner.Recorded.{entries_left}
 use Rattle.l4_machine.specs.Inner.Rising.{RiseFrom}

@@ -2,7 +2,7 @@ use Rattle.std.proofs.Common.{◌≡◌, ◌⊎◌, ◌+◌, ◌<◌, ◌≤◌,
 use Rattle.l4_model.specs.Machine.{Machine}
 use Rattle.l4_core_model.specs.Schedules.{Entry, replay_entries}
 use Rattle.l4_merge.specs.Rounds.{IsInRounds}
-use Rattle.l4_machine.specs.Entries.{entries_fault, entry_from}
+use Rattle.l4_replay.specs.Entries.{entries_fault, entry_from}
 use Rattle.l4_machine.specs.Gathers.{AreResting}
 use Rattle.l4_machine.specs.Outcomes.{IsFoundFor, IsOutcomeOf, compact_findings_of}
 use Rattle.l4_machine.specs.Inner.Teams.{count_events}

@@ -2,12 +2,12 @@ use Rattle.std.proofs.Common.{map, refl, sym, ◌∙◌, subst}
 use Rattle.l4_model.specs.History.{IsHistory}
 use Rattle.l4_core_model.specs.Runs.{opening_run}
 use Rattle.l4_core_model.specs.Schedules.{replay_entries}
-use Rattle.l4_machine.specs.Entries.{entry_from}
-use Rattle.l4_machine.specs.Inner.Heard.{heard_in}
-use Rattle.l4_machine.specs.UnderWay.{under_way}
+use Rattle.l4_replay.specs.Entries.{entry_from}
+use Rattle.l4_replay.specs.Inner.Heard.{heard_in}
+use Rattle.l4_replay.specs.UnderWay.{under_way}
 use Rattle.l4_machine.proofs.Heard.{heard_of_world}
-use Rattle.l4_machine.proofs.Replays.{as_many}
-use Rattle.l4_machine.proofs.Endings.{rests, are_resting}
+use Rattle.l4_replay.proofs.Replays.{as_many}
+use Rattle.l4_replay.proofs.Endings.{rests, are_resting}
 use Rattle.l4_machine.proofs.Outcomes.{sound}
 use Rattle.l4_machine.proofs.schedules.outcome_of_entries.Goals as goal
 

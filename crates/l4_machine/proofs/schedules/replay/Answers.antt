@@ -1,10 +1,10 @@
 use Rattle.std.proofs.Common.{◌≡◌, List, map, ap, sym, ◌∙◌, subst}
 use Rattle.l4_core_model.specs.Runs.{Run}
 use Rattle.l4_core_model.specs.Schedules.{Entry, replay_entries, numbered}
-use Rattle.l4_machine.specs.declared.entries.Entry as code
-use Rattle.l4_machine.specs.Entries.{entry_from}
+use Rattle.l4_replay.specs.declared.entries.Entry as code
+use Rattle.l4_replay.specs.Entries.{entry_from}
 use Rattle.l4_machine.specs.Outcomes.{Findings, IsOutcomeOf, findings_of}
-use Rattle.l4_machine.proofs.Replays.{numbers_replayed}
+use Rattle.l4_replay.proofs.Replays.{numbers_replayed}
 use Rattle.l4_machine.proofs.schedules.replay.Goals as goal
 
 pub returns-clause-ok : goal.returns-clause-ok

@@ -1,5 +1,5 @@
 use Rattle.std.proofs.Common.{None, arith}
-use Rattle.l4_machine.specs.Inner.Waiting.{sought}
+use Rattle.l4_replay.specs.Inner.Waiting.{sought}
 use Rattle.l4_machine.proofs.Enough.{next_log}
 use Rattle.l4_machine.proofs.searching.begin_all.Goals as goal
 

@@ -1,5 +1,6 @@
 use Rattle.std.proofs.Common.{◌≤◌, ◌+◌, drop}
-use Rattle.l4_machine.specs.Inner.Waiting.{all_at_end, count_sought, count_undecided, sought}
+use Rattle.l4_replay.specs.Inner.Waiting.{count_sought, count_undecided, sought}
+use Rattle.l4_machine.specs.Inner.Waiting.{all_at_end}
 use Rattle.l4_machine.proofs.searching.begin_all.Given as goal
 
 abbrev pub invariant-loop-log : goal.invariant-loop-log

@@ -5,7 +5,7 @@ use Rattle.l4_core_model.specs.Runs.{Event, merged, told}
 use Rattle.l4_machine.specs.Inner.EventsLeft.{first_stamp}
 use Rattle.l4_machine.proofs.EventsLeft.{at_place, chosen, none_chosen}
 use Rattle.l4_machine.proofs.Sought.{looked_at}
-use Rattle.l4_machine.specs.Inner.Waiting.{sought}
+use Rattle.l4_replay.specs.Inner.Waiting.{sought}
 use Rattle.l4_machine.specs.declared.unmerged.Unmerged.{Unmerged}
 use Rattle.l4_machine.proofs.searching.find_all.Goals as goal
 

@@ -4,7 +4,7 @@ use Rattle.std.specs.List.{AllByRecursion}
 use Rattle.l4_core_model.specs.Runs.{merged, told}
 use Rattle.l4_machine.specs.Inner.EventsLeft.{all_left, left, IsUnmerged}
 use Rattle.l4_machine.specs.Inner.Rising.{RiseFrom}
-use Rattle.l4_machine.specs.Inner.Waiting.{sought}
+use Rattle.l4_replay.specs.Inner.Waiting.{sought}
 use Rattle.l4_machine.proofs.searching.find_all.Given as goal
 
 abbrev pub invariant-loop-place : goal.invariant-loop-place

@@ -5,7 +5,7 @@ use Rattle.l4_model.specs.Steps.{Step}
 use Rattle.l4_proc.specs.Logs.{events}
 use Rattle.l4_machine.specs.Inner.EventsLeft.{first_stamp}
 use Rattle.l4_machine.specs.Gathers.{events_of}
-use Rattle.l4_machine.specs.Inner.Waiting.{sought}
+use Rattle.l4_replay.specs.Inner.Waiting.{sought}
 use Rattle.l4_machine.proofs.EventsLeft.{some_left, stamp_left}
 use Rattle.l4_machine.proofs.InLogs.{log_at}
 use Rattle.l4_machine.proofs.Sought.{found_first}

@@ -5,7 +5,8 @@ use Rattle.l4_model.specs.Steps.{Step}
 use Rattle.l4_proc.specs.Logs.{events}
 use Rattle.l4_machine.specs.Inner.EventsLeft.{left}
 use Rattle.l4_machine.specs.Gathers.{events_of}
-use Rattle.l4_machine.specs.Inner.Waiting.{at_end, count_sought, sought}
+use Rattle.l4_replay.specs.Inner.Waiting.{count_sought, sought}
+use Rattle.l4_machine.specs.Inner.Waiting.{at_end}
 use Rattle.l4_machine.proofs.Enough.{at_end_is, next_event}
 use Rattle.l4_machine.proofs.InLogs.{log_at}
 use Rattle.l4_machine.proofs.searching.missing_after.Goals as goal

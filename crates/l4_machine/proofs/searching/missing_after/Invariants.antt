@@ -1,6 +1,7 @@
 use Rattle.std.proofs.Common.{◌≤◌, ◌+◌, drop}
 use Rattle.l4_proc.specs.Logs.{events}
-use Rattle.l4_machine.specs.Inner.Waiting.{at_end, count_sought, sought}
+use Rattle.l4_replay.specs.Inner.Waiting.{count_sought, sought}
+use Rattle.l4_machine.specs.Inner.Waiting.{at_end}
 use Rattle.l4_machine.specs.Inner.EventsLeft.{left}
 use Rattle.l4_machine.proofs.searching.missing_after.Given as goal
 

@@ -3,7 +3,7 @@ use Rattle.std.specs.Prelude.{filter_map}
 use Rattle.l4_core_model.specs.Runs.{told}
 use Rattle.l4_model.specs.Steps.{Step}
 use Rattle.l4_proc.specs.Logs.{events}
-use Rattle.l4_machine.specs.Inner.Waiting.{sought}
+use Rattle.l4_replay.specs.Inner.Waiting.{sought}
 use Rattle.l4_machine.proofs.Sought.{one_passed}
 use Rattle.l4_machine.proofs.searching.next_sought.Goals as goal
 

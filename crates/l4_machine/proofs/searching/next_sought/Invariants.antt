@@ -1,6 +1,7 @@
 use Rattle.std.proofs.Common.{drop}
 use Rattle.l4_proc.specs.Logs.{events}
-use Rattle.l4_machine.specs.Inner.Waiting.{sought, HasPassed}
+use Rattle.l4_replay.specs.Inner.Waiting.{sought}
+use Rattle.l4_machine.specs.Inner.Waiting.{HasPassed}
 use Rattle.l4_machine.proofs.searching.next_sought.Given as goal
 
 abbrev pub invariant-loop-i : goal.invariant-loop-i

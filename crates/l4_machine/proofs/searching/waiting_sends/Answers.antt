@@ -6,7 +6,7 @@ use Rattle.l4_core_model.specs.Runs.{Event, merged, told}
 use Rattle.l4_machine.specs.Inner.EventsLeft.{all_left, left}
 use Rattle.l4_machine.specs.Gathers.{events_of, with_number}
 use Rattle.l4_machine.specs.Inner.Rising.{RiseFrom}
-use Rattle.l4_machine.specs.Inner.Waiting.{sought, AreBegunOnce}
+use Rattle.l4_replay.specs.Inner.Waiting.{sought, AreBegunOnce}
 use Rattle.l4_machine.specs.declared.unmerged.Unmerged.{Unmerged}
 use Rattle.l4_machine.proofs.EventsLeft.{all_left_are}
 use Rattle.l4_machine.proofs.searching.waiting_sends.Goals as goal

@@ -2,9 +2,11 @@ use Rattle.std.proofs.Common.{◌≤◌, refl, List, map, ap, ◌∙◌, subst}
 use Rattle.std.proofs.lemmas.Result.{IfOk-weaker}
 use Rattle.l4_core_model.specs.Runs.{merged, told}
 use Rattle.l4_machine.specs.Inner.EventsLeft.{all_left, left}
-use Rattle.l4_machine.specs.Inner.Waiting.{all_at_end, at_end, count_sought, count_undecided, sought}
+use Rattle.l4_replay.specs.Inner.Waiting.{count_sought, count_undecided, sought}
+use Rattle.l4_machine.specs.Inner.Waiting.{all_at_end, at_end}
 use Rattle.l4_machine.specs.declared.unmerged.Unmerged.{Unmerged}
-use Rattle.l4_machine.proofs.Enough.{enough_passed, few_sought}
+use Rattle.l4_replay.proofs.Enough.{few_sought}
+use Rattle.l4_machine.proofs.Enough.{enough_passed}
 use Rattle.l4_machine.proofs.searching.without_early.Goals as goal
 
 pub returns-in-Some-clause-passed : goal.returns-in-Some-clause-passed

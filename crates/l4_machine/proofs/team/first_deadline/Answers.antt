@@ -7,7 +7,8 @@ use Rattle.l4_core_model.specs.Schedules.{earliest}
 use Rattle.l4_core.specs.Processor.{Processor as Core}
 use Rattle.l4_proc.specs.declared.processor.Processor.{Processor}
 use Rattle.l4_machine.specs.Inner.Teams.{deadline_of, first_deadline}
-use Rattle.l4_machine.proofs.Ticked.{both_near, deadline_assoc, first_and_rest, nearer}
+use Rattle.l4_replay.proofs.Endings.{deadline_assoc}
+use Rattle.l4_machine.proofs.Ticked.{both_near, first_and_rest, nearer}
 use Rattle.l4_machine.proofs.team.first_deadline.Goals as goal
 
 pub loop-processor-preserved : goal.loop-processor-preserved

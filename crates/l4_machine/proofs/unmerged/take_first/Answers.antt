@@ -4,7 +4,8 @@ use Rattle.std.specs.Option.{option_map}
 use Rattle.l4_core_model.specs.Runs.{Event}
 use Rattle.l4_proc.specs.Logs.{event_of}
 use Rattle.l4_machine.specs.Gathers.{events_of}
-use Rattle.l4_machine.proofs.EventsLeft.{one_less, some_left, stamp_left}
+use Rattle.l4_replay.proofs.Sought.{one_less}
+use Rattle.l4_machine.proofs.EventsLeft.{some_left, stamp_left}
 use Rattle.l4_machine.proofs.InLogs.{log_at}
 use Rattle.l4_machine.proofs.unmerged.take_first.Goals as goal
 

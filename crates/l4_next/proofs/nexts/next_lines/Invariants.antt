@@ -1,6 +1,6 @@
 use Rattle.std.proofs.Common.{◌≡◌, map, true}
 use Rattle.l4_core_model.specs.Schedules.{replay_entries}
-use Rattle.l4_machine.specs.Entries.{entry_from}
+use Rattle.l4_replay.specs.Entries.{entry_from}
 use Rattle.l4_next.specs.Nexts.{are_spelled, nexts_text}
 use Rattle.l4_next.proofs.Telling.{firsts}
 use Rattle.l4_next.proofs.nexts.next_lines.Given as goal

@@ -1,5 +1,5 @@
 use Rattle.std.proofs.Common.{◌++◌, ℕ, drop, map, ap, sym, ◌∙◌}
-use Rattle.l4_machine.specs.Entries.{entry_from}
+use Rattle.l4_replay.specs.Entries.{entry_from}
 use Rattle.l4_trace.specs.Lines.{trace_of}
 use Rattle.std.specs.List.{list_all}
 use Rattle.l4_trace.specs.Lines.{has_line}

@@ -2,9 +2,9 @@ use Rattle.std.proofs.Common.{◌≡◌, ◌++◌, ◌∷◌, [], Bor, length, m
 use Rattle.std.specs.Prelude.{slice_index_or}
 use Rattle.std.proofs.lemmas.List.{length-map, length-take-le, take_all}
 use Rattle.l4_model.specs.Machine.{Machine}
-use Rattle.l4_machine.specs.declared.entries.Entry.TheVariants.{Turn}
-use Rattle.l4_machine.specs.Entries.{entry_from, is_entry}
-use Rattle.l4_machine.proofs.Replays.{entry_at, lawful-next, stranger_here}
+use Rattle.l4_replay.specs.declared.entries.Entry.TheVariants.{Turn}
+use Rattle.l4_replay.specs.Entries.{entry_from, is_entry}
+use Rattle.l4_replay.proofs.Replays.{entry_at, lawful-next, stranger_here}
 use Rattle.l4_rounds.specs.Inner.Replays.{entries_of}
 use Rattle.l4_rounds.proofs.Faults.{next_taken}
 use Rattle.l4_rounds.proofs.rest.replayed.Goals as goal

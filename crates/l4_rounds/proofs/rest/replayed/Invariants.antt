@@ -1,5 +1,5 @@
 use Rattle.std.proofs.Common.{◌≡◌, ◌+◌, drop, map, take}
-use Rattle.l4_machine.specs.Entries.{entry_from, first_stranger}
+use Rattle.l4_replay.specs.Entries.{entry_from, first_stranger}
 use Rattle.l4_rounds.specs.Inner.Replays.{entries_of, IsReplay}
 use Rattle.l4_rounds.proofs.rest.replayed.Given as goal
 

@@ -1,8 +1,8 @@
 use Rattle.std.proofs.Common.{◌≡◌, None, length, map, subst, arith}
 use Rattle.std.proofs.lemmas.List.{length-map}
 use Rattle.l4_core_model.specs.Schedules.{replay_entries}
-use Rattle.l4_machine.specs.Entries.{entry_from, first_stranger}
-use Rattle.l4_machine.specs.UnderWay.{IsRun}
+use Rattle.l4_replay.specs.Entries.{entry_from, first_stranger}
+use Rattle.l4_replay.specs.UnderWay.{IsRun}
 use Rattle.l4_rounds.proofs.Faults.{no_fault}
 use Rattle.l4_rounds.proofs.rest.walk_behind.Goals as goal
 

@@ -1,7 +1,7 @@
 use Rattle.std.proofs.Common.{◌≡◌, Bor, length, ap, sym, ◌∙◌, arith}
 use Rattle.std.proofs.lemmas.List.{length-map}
 use Rattle.l4_model.specs.Machine.{Machine}
-use Rattle.l4_machine.specs.Entries.{entry_from, first_stranger}
+use Rattle.l4_replay.specs.Entries.{entry_from, first_stranger}
 use Rattle.l4_rounds.specs.Inner.Replays.{entries_of}
 use Rattle.l4_rounds.proofs.Faults.{all_few, in_range, no_fault}
 use Rattle.l4_rounds.proofs.rest.with_rest.Goals as goal

@@ -1,5 +1,5 @@
 use Rattle.std.proofs.Common.{◌≡◌, ◌≤◌, ◌+◌, ◌++◌, length, map}
-use Rattle.l4_machine.specs.Entries.{most_events}
+use Rattle.l4_replay.specs.Entries.{most_events}
 use Rattle.l4_schedules.specs.Faulty.{faults_from}
 use Rattle.l4_schedules.specs.Items.{items_of}
 use Rattle.l4_schedules.specs.Inner.Views.{fault_of}

@@ -1,6 +1,6 @@
 use Rattle.std.proofs.Common.{◌≡◌, ◌≤◌, ◌+◌, length}
 use Rattle.std.specs.Prelude.{map}
-use Rattle.l4_machine.specs.Entries.{entry_from, most_events}
+use Rattle.l4_replay.specs.Entries.{entry_from, most_events}
 use Rattle.l4_schedules.specs.Items.{read_items}
 use Rattle.l4_schedules.proofs.items.read_turns.Given as goal
 

@@ -1,5 +1,5 @@
 use Rattle.std.proofs.Common.{◌≤◌, length, map, arith}
-use Rattle.l4_machine.specs.Entries.{entry_from, most_events}
+use Rattle.l4_replay.specs.Entries.{entry_from, most_events}
 use Rattle.l4_schedules.specs.Items.{items_of}
 use Rattle.l4_schedules.proofs.Lawful.{lawful_result}
 use Rattle.l4_schedules.proofs.items.schedule_within.Goals as goal

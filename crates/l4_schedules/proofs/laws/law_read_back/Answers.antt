@@ -1,4 +1,4 @@
-use Rattle.l4_machine.specs.Entries.{most_entries}
+use Rattle.l4_replay.specs.Entries.{most_entries}
 use Rattle.l4_schedules.proofs.ReadBack.{read_back, recorded_back}
 use Rattle.l4_schedules.proofs.laws.law_read_back.Goals as goal
 

@@ -1,6 +1,6 @@
 use Rattle.std.proofs.Common.{◌≡◌, ◌+◌, ◌++◌, ◌∙◌, arith, length, map, ap, ap₂, sym, append_assoc, rules}
 use Rattle.std.proofs.lemmas.List.{length-map, length-take-le, map-append, take-append-drop}
-use Rattle.l4_machine.specs.Entries.{entry_from}
+use Rattle.l4_replay.specs.Entries.{entry_from}
 use Rattle.l4_schedules.specs.Written.{in_lines}
 use Rattle.l4_schedules.proofs.WholeLines.{in_lines-append}
 use Rattle.l4_schedules.proofs.writing.push_lines.Goals as goal

@@ -1,6 +1,6 @@
 use Rattle.std.proofs.Common.{◌≡◌, ◌++◌, map, take}
 use Rattle.std.specs.Prelude.{codes, flat_map}
-use Rattle.l4_machine.specs.Entries.{entry_from}
+use Rattle.l4_replay.specs.Entries.{entry_from}
 use Rattle.l4_schedules.specs.Items.{item_of}
 use Rattle.l4_schedules.proofs.writing.push_others.Given as goal
 

@@ -1,6 +1,6 @@
 use Rattle.l4_core_model.specs.Schedules.{replay_entries}
 use Rattle.l4_schedules.proofs.ReadBack.{read_back}
-use Rattle.l4_machine.specs.Entries.{most_entries}
+use Rattle.l4_replay.specs.Entries.{most_entries}
 use Rattle.l4_steps.proofs.Done.{within_list}
 use Rattle.l4_steps.proofs.Reported.{report_is}
 use Rattle.l4_steps.proofs.laws.law_replay.Goals as goal

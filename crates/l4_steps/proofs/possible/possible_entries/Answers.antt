@@ -2,7 +2,7 @@ use Rattle.std.proofs.Common.{◌≡◌, ℕ, ◌+◌, ◌/◌, ◌%◌, ◌∷�
 use Rattle.std.specs.Prelude.{is_some}
 use Rattle.std.proofs.lemmas.List.{map-append}
 use Rattle.l4_core_model.specs.Schedules.{replay_entries}
-use Rattle.l4_machine.specs.Entries.{entry_from}
+use Rattle.l4_replay.specs.Entries.{entry_from}
 use Rattle.l4_states.specs.Choices.{choice, choice_of}
 use Rattle.l4_next.specs.Nexts.{next_by}
 use Rattle.l4_steps.proofs.Listed.{listed_more, listed_same}

@@ -2,7 +2,7 @@ use Rattle.std.proofs.Common.{◌∷◌, [], map, ap, ◌∙◌, arith}
 use Rattle.std.proofs.lemmas.List.{length-map, map-append}
 use Rattle.l4_core_model.specs.Runs.{told}
 use Rattle.l4_core_model.specs.Schedules.{replay_entries}
-use Rattle.l4_machine.specs.Entries.{entries_fault, entry_from}
+use Rattle.l4_replay.specs.Entries.{entries_fault, entry_from}
 use Rattle.l4_steps.proofs.Done.{choice_written, room}
 use Rattle.l4_steps.proofs.possible.write_choice.Goals as goal
 

@@ -1,6 +1,6 @@
 use Rattle.std.proofs.Common.{map, ap, ◌∙◌}
 use Rattle.std.specs.List.{list_all}
-use Rattle.l4_machine.specs.Entries.{entry_from, is_entry}
+use Rattle.l4_replay.specs.Entries.{entry_from, is_entry}
 use Rattle.l4_steps.proofs.Listed.{own_possible}
 use Rattle.l4_steps.proofs.possible.write_choices.Goals as goal
 

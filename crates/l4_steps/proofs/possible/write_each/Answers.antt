@@ -1,4 +1,4 @@
-use Rattle.l4_machine.specs.declared.entries.Entry.TheVariants.{Turn}
+use Rattle.l4_replay.specs.declared.entries.Entry.TheVariants.{Turn}
 use Rattle.l4_steps.proofs.Named.{own_at}
 use Rattle.l4_steps.proofs.possible.write_each.Goals as goal
 

@@ -3,7 +3,7 @@ use Rattle.std.proofs.lemmas.List.{length-map, map-append}
 use Rattle.std.proofs.lemmas.Result.{IfOk-weaker}
 use Rattle.l4_core_model.specs.Runs.{told}
 use Rattle.l4_core_model.specs.Schedules.{replay_entries, turns_of}
-use Rattle.l4_machine.specs.Entries.{entries_fault, entry_from, first_stranger}
+use Rattle.l4_replay.specs.Entries.{entries_fault, entry_from, first_stranger}
 use Rattle.l4_rounds.proofs.Rounds.{lawful_more}
 use Rattle.l4_steps.specs.Replies.{did_text, moves}
 use Rattle.l4_steps.proofs.Done.{did_written, is_refused, is_taken, room}

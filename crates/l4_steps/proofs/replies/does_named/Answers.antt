@@ -1,6 +1,6 @@
 use Rattle.std.proofs.Common.{map, ap, sym, ◌∙◌}
 use Rattle.std.specs.Option.{option_map}
-use Rattle.l4_machine.specs.Entries.{entry_from}
+use Rattle.l4_replay.specs.Entries.{entry_from}
 use Rattle.l4_steps.proofs.Named.{own_named}
 use Rattle.l4_steps.proofs.replies.does_named.Goals as goal
 

@@ -1,7 +1,7 @@
 use Rattle.std.proofs.Common.{◌-◌, [], length, map, take, ap, sym, ◌∙◌, arith}
 use Rattle.std.proofs.lemmas.List.{length-map, take-map}
 use Rattle.std.proofs.lemmas.Result.{IfOk-weaker}
-use Rattle.l4_machine.specs.Entries.{entry_from, first_stranger}
+use Rattle.l4_replay.specs.Entries.{entry_from, first_stranger}
 use Rattle.l4_steps.specs.Replies.{moves}
 use Rattle.l4_steps.proofs.Done.{is_back, taken}
 use Rattle.l4_steps.proofs.replies.goes_back.Goals as goal

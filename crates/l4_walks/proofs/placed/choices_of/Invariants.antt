@@ -1,5 +1,5 @@
 use Rattle.l4_core_model.specs.Runs.{Run}
-use Rattle.l4_machine.specs.UnderWay.{IsRun}
+use Rattle.l4_replay.specs.UnderWay.{IsRun}
 use Rattle.l4_model.specs.Machine.{Machine}
 use Rattle.l4_walks.specs.Inner.Placed.{AreUpTo}
 use Rattle.l4_walks.proofs.placed.choices_of.Given as goal

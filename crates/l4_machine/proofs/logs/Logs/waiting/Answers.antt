@@ -1,6 +1,6 @@
 use Rattle.std.proofs.Common.{List, sym, subst}
 use Rattle.l4_machine.specs.Gathers.{merged_steps}
-use Rattle.l4_machine.specs.Inner.Waiting.{AreBegunOnce}
+use Rattle.l4_replay.specs.Inner.Waiting.{AreBegunOnce}
 use Rattle.l4_proc.specs.declared.processor.Processor.{Processor}
 use Rattle.l4_machine.proofs.logs.Logs.waiting.Goals as goal
 

@@ -1,6 +1,6 @@
 use Rattle.std.proofs.Common.{subst}
 use Rattle.l4_machine.specs.Outcomes.{steps_of}
-use Rattle.l4_machine.specs.Inner.Waiting.{AreBegunOnce}
+use Rattle.l4_replay.specs.Inner.Waiting.{AreBegunOnce}
 use Rattle.l4_machine.specs.declared.run_history.RunHistory.{RunHistory}
 use Rattle.l4_machine.proofs.run_history.RunHistory.waiting.Goals as goal
 

@@ -4,7 +4,7 @@ use Rattle.l4_model.specs.History.{IsHistory}
 use Rattle.l4_core_model.specs.Local.{Local}
 use Rattle.l4_merge.specs.LocalTraces.{LocalTrace, all_events}
 use Rattle.l4_refines.specs.Laws.{home_thread}
-use Rattle.l4_machine.specs.Inner.Homes.{EndsIn, IsAtHome}
+use Rattle.l4_replay.specs.Inner.Homes.{EndsIn, IsAtHome}
 use Rattle.l4_machine.proofs.Cores.{handled_there}
 use Rattle.l4_merge.proofs.Rest.{rests as run_rests, rested as run_rested}
 use Rattle.l4_merge.proofs.Sorted.{length-merged}

@@ -1,7 +1,7 @@
 use Rattle.std.proofs.Common.{◌≡◌, ◌≤◌, inl, inr, length, ap, refl, subst, ◌∙◌, arith}
 use Rattle.l4_model.specs.Machine.{Machine}
 use Rattle.l4_core_model.specs.Runs.{opening_run}
-use Rattle.l4_machine.specs.UnderWay.{IsRun}
+use Rattle.l4_replay.specs.UnderWay.{IsRun}
 use Rattle.l4_walks.specs.Inner.Placed.{IsChoice}
 use Rattle.l4_walks.proofs.Resting.{comes, started, went_on}
 use Rattle.l4_walks.proofs.placed.PlacedWalks.next_walk.Goals as goal

@@ -1,0 +1,8 @@
+use Rattle.std.proofs.Common.{◌≡◌, take}
+use Rattle.std.specs.Prelude.{flat_map}
+use Rattle.l4_chart.specs.Markup.{escaped_byte}
+use Rattle.l4_chart.proofs.markup.escaped.Given as goal
+
+abbrev pub invariant-loop-byte : goal.invariant-loop-byte
+invariant-loop-byte l =
+    l.bytes.items ≡ flat_map escaped_byte (take l.byte-index l.text)

@@ -1,9 +1,0 @@
-use Rattle.std.proofs.Common.{◌≡◌, map, take}
-use Rattle.l4_machine.specs.Entries.{entry_from}
-use Rattle.l4_core_model.specs.Schedules.{numbered}
-use Rattle.l4_machine.proofs.entries.entries_of.Given as goal
-
-abbrev pub invariant-loop-number : goal.invariant-loop-number
-invariant-loop-number l = record {
-  read : map entry_from l.entries.items ≡ map numbered (take l.number-index l.numbers);
-}

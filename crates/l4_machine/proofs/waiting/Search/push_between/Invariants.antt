@@ -1,9 +1,0 @@
-use Rattle.std.proofs.Common.{◌≡◌, ◌++◌, drop, take}
-use Rattle.std.specs.Prelude.{filter_map}
-use Rattle.l4_machine.specs.Inner.Waiting.{sought}
-use Rattle.l4_machine.proofs.waiting.Search.push_between.Given as goal
-
-abbrev pub invariant-loop-place : goal.invariant-loop-place
-invariant-loop-place l =
-    l.sends.items ++ filter_map (sought l.self) (drop l.place (take l.end l.history.steps))
-    ≡ l.initial.sends.items ++ filter_map (sought l.self) (drop l.start (take l.end l.history.steps))

@@ -1,7 +1,0 @@
-use Rattle.std.proofs.Common.{take}
-use Rattle.std.specs.List.{AllByRecursion}
-use Rattle.l4_machine.specs.Inner.Homes.{IsNotBelow}
-use Rattle.l4_machine.proofs.waiting.least_undecided.Given as goal
-
-abbrev pub invariant-loop-send : goal.invariant-loop-send
-invariant-loop-send l = AllByRecursion (IsNotBelow l.least) (take l.send-index l.sends)

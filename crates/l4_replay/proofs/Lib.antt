@@ -1,0 +1,18 @@
+pub mod Endings
+pub mod Action
+pub mod Cores
+pub mod Hearing
+pub mod Inboxes
+pub mod Opening
+pub mod Posting
+mod LetterQueues
+pub mod Replays
+pub mod Stamps
+pub mod Stations
+pub mod Systems
+pub mod Delivered
+pub mod Told
+pub mod InOrder
+pub mod Sought
+pub mod Enough
+pub mod Walks

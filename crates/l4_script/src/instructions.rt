@@ -249,17 +249,18 @@ impl Instr {
         }
     }
 
-    /// The same instruction, but that it goes on at this place, if it goes on at one.
-    pub(crate) fn with_place(&self, place: u64) -> Instr
-        ensures { instr_of result ≡ with_place place (instr_of self.now) }
+    /// Goes on at this place, if it goes on at one.
+    #[inline(always)]
+    pub(crate) fn set_place(&mut self, place: u64)
+        ensures { instr_of self.new ≡ with_place place (instr_of self.old) }
     {
-        match *self {
-            Instr::Jump(_) => Instr::Jump(place),
-            Instr::OnErr(_) => Instr::OnErr(place),
-            Instr::OnLabel(label, _) => Instr::OnLabel(label, place),
-            Instr::OnWord(source, word, _) => Instr::OnWord(source, word, place),
-            Instr::OnFrom(id, _) => Instr::OnFrom(id, place),
-            instr => instr,
+        match self {
+            Instr::Jump(at) => *at = place,
+            Instr::OnErr(at) => *at = place,
+            Instr::OnLabel(_, at) => *at = place,
+            Instr::OnWord(_, _, at) => *at = place,
+            Instr::OnFrom(_, at) => *at = place,
+            _ => {}
         }
     }
 }

@@ -93,7 +93,7 @@ impl Declaration {
         if let Some(place) = place
             && at < self.script.len()
         {
-            self.script[at] = self.script[at].with_place(place);
+            self.script[at].set_place(place);
         }
     }
 
@@ -270,6 +270,7 @@ impl Machine {
     }
 
     // Appends an instruction to the script of the thread that was declared last.
+    #[inline(always)]
     pub(crate) fn add_instruction(&mut self, instr: &Instr) -> Result<(), NoMemory>
         requires some { 0 < length self.old.threads }
         requires room { length (last_thread self.old).script < most_instructions }

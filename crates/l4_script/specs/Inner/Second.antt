@@ -1,8 +1,9 @@
 -- What the reader of scripts of version 2 keeps, as the definitions have it.
-use Rattle.std.specs.Prelude.{[]}
+use Rattle.std.specs.Prelude.{ℕ, ◌==◌, Bool, false, ◌||◌, Option, List, [], ◌∷◌}
 use Rattle.std.specs.Option.{option_copied, option_map}
 use Rattle.l4_script.specs.Inner.Headings.{heading_of}
 use Rattle.l4_script.specs.Inner.Scripts.{instr_of}
+use Rattle.l4_script.specs.Judged.{Judged, ◌>>=◌}
 use Rattle.l4_script.specs.declared.text.second.lines.Said.{Said}
 use Rattle.l4_script.specs.declared.text.second.operands.Place.{Place}
 use Rattle.l4_script.specs.declared.text.second.operands.Place.TheVariants as places
@@ -46,3 +47,14 @@ abbrev pub stage_of : Stage → texts.Stage
 stage_of stages.Start = texts.Start
 stage_of (stages.Processors heading) = texts.Processors (heading_of heading)
 stage_of (stages.Threads reading) = texts.Threads reading
+
+-- Begins with the first letter of `jump`, 106, or of what begins with `on`, 111.
+abbrev pub begins_as_branch : (word : List ℕ) → Bool
+begins_as_branch [] = false
+begins_as_branch (byte ∷ bytes) = byte == 106 || byte == 111
+
+-- An instruction that is judged, with its name if it has one, of a thread that may have it.
+unfoldable pub judged_line : (line : ℕ) → (label : Option (List ℕ)) → Judged statements.Unplaced →
+    texts.Reading → Judged texts.Reading
+judged_line line label judged r =
+    judged >>= λ said. texts.said_line line said (texts.with_label label r)

@@ -46,6 +46,7 @@ fn register(format: Format, word: &[u8]) -> Result<IdFrom, TextFaultKind>
 }
 
 /// Where an id is from: a register, an id or a name.
+#[inline(always)]
 #[tactic(auto, unfolding(crate::specs::Second::Operands::id_or_register_of))]
 pub fn id_or_register(
     format: Format,
@@ -62,6 +63,7 @@ pub fn id_or_register(
 }
 
 /// The same, or `last`.
+#[inline(always)]
 #[tactic(auto, unfolding(crate::specs::Second::Operands::id_or_last_of))]
 pub fn id_or_last(format: Format, names: &[Named<'_>], word: &[u8]) -> Result<IdFrom, TextFaultKind>
     ensures { Returns id_from_of result (id_or_last_of (format_of format) names.now word.now) }
@@ -141,6 +143,7 @@ fn counted(unit: u64, digits: &[u8]) -> Result<Period, TextFaultKind>
 
 /// A time as in version 1, or `5us`, `5ms`, `2s`: so many microseconds, thousands or millions of
 /// them, where a time means these exactly. Else `BadNumber`.
+#[inline(always)]
 #[tactic(auto, using(crate::proofs::Endings::plain_time))]
 pub fn second_time(word: &[u8]) -> Result<Period, TextFaultKind>
     ensures value { Returns period_of result (second_time_from word.now) }

@@ -12,6 +12,9 @@ ghost use Rattle.l4_script.specs.Texts.{LeadsOn};
 ghost use Rattle.l4_script.specs.Inner.Headings.{heading_of};
 ghost use Rattle.l4_script.specs.Inner.Scripts.{instr_of};
 ghost use Rattle.l4_script.specs.Inner.Second.{heir_of, place_of, said_of, stage_of};
+ghost use Rattle.l4_script.specs.Inner.Second.{begins_as_branch, judged_line};
+ghost use Rattle.l4_script.specs.Statements.{end_of};
+ghost use Rattle.l4_script.specs.Second.Statements.{goes_to, without_target};
 ghost use Rattle.l4_script.specs.Second.Texts.{label_of, found_place, missed_in, first_missed};
 ghost use Rattle.l4_script.specs.Second.Texts.{placed, settled, with_script_ended};
 ghost use Rattle.l4_script.specs.Second.Texts.{nothing_read, has_thread, has_script, may_name};
@@ -25,10 +28,10 @@ ghost use Rattle.l4_script.specs.Second.Texts.{after_line};
 ghost use Rattle.l4_script.specs.Second.Texts.{unless_faulty, ended, judged_at};
 
 use super::super::fault::{TextFault, TextFaultKind};
-use super::super::statements::{Heading, processors_line};
+use super::super::statements::{END, Heading, JUMP, ON_ERROR, is, only, processors_line};
 use super::lines::{Said, line_said};
-use super::names::{MOST_NAMES, Named, id_named, id_under, is_branch, is_name, thread_named};
-use super::operands::Place;
+use super::names::{MOST_NAMES, Named, id_named, id_under, is_name, thread_named};
+use super::operands::{Place, named_place};
 use super::statements::{Heir, declaration, format_line, instruction, plain};
 use crate::instructions::Instr;
 use crate::machine::{Declaration, MOST_INSTRUCTIONS, MOST_THREADS, Machine};
@@ -134,6 +137,7 @@ fn keep_label<'a>(labels: &mut Vec<Label<'a>>, label: Label<'a>) -> Result<(), N
     Ok(())
 }
 
+#[inline(always)]
 fn keep_target<'a>(
     targets: &mut Vec<Target<'a>>,
     line: usize,
@@ -144,7 +148,8 @@ fn keep_target<'a>(
         targets.old.items ++ target_at line at (option_map place_of place.entry)) }
 {
     if let Some(place) = place {
-        targets.push(Target { line, at, place })?;
+        targets.reserve(1)?;
+        targets.push_reserved(Target { line, at, place });
     }
     Ok(())
 }
@@ -452,6 +457,7 @@ impl<'a> Reading<'a> {
     }
 
     // Names the instruction that follows, where a line does.
+    #[inline(always)]
     fn label(&mut self, label: Option<&'a [u8]>) -> Result<(), NoMemory>
         requires { 0 < length self.old.machine.threads }
         ensures { OnOk result (self.new ≡ with_label (option_copied label.entry) self.old) }
@@ -525,9 +531,75 @@ impl<'a> Reading<'a> {
         }
     }
 
+    // The instruction `end`, with its name.
+    #[inline(always)]
+    #[tactic(auto, unfolding(crate::specs::Inner::Second::judged_line))]
+    fn end_line(
+        &mut self,
+        line: usize,
+        label: Option<&'a [u8]>,
+        mut operands: Words<'a>,
+    ) -> Result<(), TextFaultKind>
+        requires { 0 < length self.old.machine.threads }
+        ensures kept { IfErr result (λ kind. kind ≢ OutOfMemory → self.new ≡ self.old) }
+        ensures leads { Leads result self.new
+            (judged_line line (option_copied label.entry) (without_target (end_of operands.entry))
+            self.old) }
+    {
+        match operands.next() {
+            None => self.add(line, label, &Instr::End, None),
+            Some(_) => Err(TextFaultKind::BadLine),
+        }
+    }
+
+    // A `jump` or `onerr`, with its name.
+    #[inline(always)]
+    #[tactic(auto, unfolding(crate::specs::Inner::Second::judged_line))]
+    fn goes_to_line(
+        &mut self,
+        line: usize,
+        label: Option<&'a [u8]>,
+        instr: &Instr,
+        operands: Words<'a>,
+    ) -> Result<(), TextFaultKind>
+        requires { 0 < length self.old.machine.threads }
+        ensures kept { IfErr result (λ kind. kind ≢ OutOfMemory → self.new ≡ self.old) }
+        ensures leads { Leads result self.new
+            (judged_line line (option_copied label.entry)
+            (goes_to (instr_of instr.now) operands.entry) self.old) }
+    {
+        let target = named_place(only(operands)?)?;
+        self.add(line, label, instr, Some(target))
+    }
+
+    // An instruction that may name another, with its name. One whose words are a place alone is added
+    // as it stands.
+    #[tactic(auto, using(crate::proofs::Labelling::jump_so, crate::proofs::Labelling::on_error_so))]
+    fn branch_line(
+        &mut self,
+        line: usize,
+        label: Option<&'a [u8]>,
+        name: &[u8],
+        operands: Words<'a>,
+    ) -> Result<(), TextFaultKind>
+        requires script { has_script self.old ≡ true }
+        requires label { may_be_labelled self.old (option_copied label) ≡ Ok tt }
+        ensures kept { IfErr result (λ kind. kind ≢ OutOfMemory → self.new ≡ self.old) }
+        ensures leads { Leads result self.new
+            (labelled_instruction line (option_copied label.entry) name.now operands.entry self.old) }
+    {
+        if is(name, JUMP) {
+            return self.goes_to_line(line, label, &Instr::Jump(0), operands);
+        }
+        if is(name, ON_ERROR) {
+            return self.goes_to_line(line, label, &Instr::OnErr(0), operands);
+        }
+        self.any_instruction_line(line, label, name, operands)
+    }
+
     // An instruction of the last thread, with its name. One that names no other is added as it
     // stands, since what may name another is large.
-    #[tactic(auto, using(crate::proofs::Labelling::no_script, crate::proofs::Labelling::no_label, crate::proofs::Labelling::no_plain, crate::proofs::Labelling::plain_so))]
+    #[tactic(auto, using(crate::proofs::Labelling::no_script, crate::proofs::Labelling::no_label, crate::proofs::Labelling::end_so, crate::proofs::Labelling::no_plain, crate::proofs::Labelling::plain_so))]
     fn instruction_line(
         &mut self,
         line: usize,
@@ -543,8 +615,11 @@ impl<'a> Reading<'a> {
             return Err(TextFaultKind::BadLine);
         }
         self.may_be_labelled(label)?;
-        if is_branch(name) {
-            return self.any_instruction_line(line, label, name, operands);
+        if is(name, END) {
+            return self.end_line(line, label, operands);
+        }
+        if begins_as_branch(name) {
+            return self.branch_line(line, label, name, operands);
         }
         let format = self.format;
         match &plain(format, self.names.as_slice(), name, operands) {
@@ -570,11 +645,11 @@ impl<'a> Reading<'a> {
         let Some(name) = words.next() else {
             return self.label_line(label);
         };
-        if name == THREAD || name == NAME {
+        if is(name, THREAD) || is(name, NAME) {
             if label.is_some() {
                 return Err(TextFaultKind::BadLine);
             }
-            if name == THREAD {
+            if is(name, THREAD) {
                 return self.thread_line(alloc, words);
             }
             return self.name_line(words);
@@ -591,6 +666,17 @@ impl<'a> Reading<'a> {
             Some(fault) => Err(fault),
             None => Ok(self.machine),
         }
+    }
+}
+
+// Whether a word begins as the first word of each instruction that names another does.
+#[inline(always)]
+fn begins_as_branch(word: &[u8]) -> bool
+    ensures { result ≡ begins_as_branch word.now }
+{
+    match word.first() {
+        Some(byte) => *byte == b'j' || *byte == b'o',
+        None => false,
     }
 }
 

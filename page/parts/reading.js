@@ -54,7 +54,7 @@ function machineOf(text) {
         const script = machine.threads.at(-1)?.script;
         if (label && script) script.labels.set(label, script.length);
         const [word] = words;
-        if (word === "l4") Object.assign(machine, { bits: Number(words[2]) || 64, isOfTwo: words[3] === "2" });
+        if (word === "l4") Object.assign(machine, { bits: Number(words[2]) || 64, isOfTwo: Number(words[3]) === 2 });
         else if (word === "cpus") machine.cpus = Number(words[1]) || 0;
         else if (word === "name") names.set(words[1], names.get(words[2]) ?? words[2]);
         else if (word === "thread") addThreads(machine, words.map((it) => names.get(it) ?? it), place + 1);

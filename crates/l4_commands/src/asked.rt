@@ -98,7 +98,7 @@ fn asked_chart(matches: &ArgMatches<'_>) -> Option<TextChart>
 }
 
 // What `run` and `replay` print.
-fn printed(matches: &ArgMatches<'_>) -> Printed
+fn outputs(matches: &ArgMatches<'_>) -> Printed
     ensures { result ≡ printed_in (rows_in matches.now) }
 {
     let chart = asked_chart(matches);
@@ -111,7 +111,7 @@ fn printed(matches: &ArgMatches<'_>) -> Printed
 }
 
 // What `audit` prints.
-fn judged(matches: &ArgMatches<'_>) -> Judged
+fn audit_outputs(matches: &ArgMatches<'_>) -> Judged
     ensures { result ≡ judged_in (rows_in matches.now) }
 {
     Judged {
@@ -127,7 +127,7 @@ fn run_job<'a>(matches: &ArgMatches<'a>) -> Option<RunJob<'a>>
     Some(RunJob {
         file: text(matches, "file")?,
         turns: number(matches, "turns")?,
-        printed: printed(matches),
+        printed: outputs(matches),
         record_to: text(matches, "record"),
         expected: text(matches, "expect"),
     })
@@ -157,7 +157,7 @@ fn replay_job<'a>(matches: &ArgMatches<'a>) -> Option<ReplayJob<'a>>
         file: text(matches, "file")?,
         schedule: text(matches, "schedule")?,
         then_rest: rest(matches)?,
-        printed: printed(matches),
+        printed: outputs(matches),
         record_to,
         expected: text(matches, "expect"),
     })
@@ -182,7 +182,7 @@ fn audit_job<'a>(matches: &ArgMatches<'a>) -> Option<AuditJob<'a>>
     Some(AuditJob {
         file: text(matches, "file")?,
         trace: text(matches, "trace")?,
-        judged: judged(matches),
+        judged: audit_outputs(matches),
         json: has_flag(matches, "json"),
     })
 }

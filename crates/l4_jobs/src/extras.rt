@@ -8,7 +8,7 @@ ghost use Rattle.l4_model.specs.World.{World};
 ghost use Rattle.l4_waits.specs.Lines.{waits_text};
 
 use crate::job::{Extras, Printed};
-use crate::objects::told;
+use crate::objects::lines_or_objects;
 use l4_counts::lines;
 use l4_history::history::History;
 use l4_script::machine::Machine;
@@ -84,7 +84,7 @@ pub(crate) fn write_told_extras(
 {
     let mut lines = Vec::new(alloc);
     write_extras(alloc, printed.extras, machine, history, &mut lines)?;
-    let lines = told(alloc, printed.json, lines)?;
+    let lines = lines_or_objects(alloc, printed.json, lines)?;
     out.extend_from_slice(lines.as_slice())?;
     Ok(())
 }

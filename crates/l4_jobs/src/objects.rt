@@ -26,7 +26,11 @@ fn is_retold(job: &Job<'_>) -> bool
 }
 
 /// Lines as they are, or the object of each.
-pub(crate) fn told(alloc: Global, json: bool, lines: Vec<u8>) -> Result<Vec<u8>, NoMemory>
+pub(crate) fn lines_or_objects(
+    alloc: Global,
+    json: bool,
+    lines: Vec<u8>,
+) -> Result<Vec<u8>, NoMemory>
     ensures { IfOk result (λ objects. objects.items ≡ told json lines.items) }
 {
     if json {
@@ -48,7 +52,7 @@ pub(crate) fn told_done<'a>(
 {
     let json = is_retold(job);
     Ok(Done {
-        lines: told(alloc, json, done.lines)?,
+        lines: lines_or_objects(alloc, json, done.lines)?,
         list: done.list,
         said: done.said,
         status: done.status,

@@ -21,7 +21,7 @@ use crate::job::{EndingsJob, Job, StepJob};
 use crate::jobs::done_for_text;
 use crate::reading::read_text;
 use crate::steps::hold;
-use crate::streaming::{Stop, streamed, written_done};
+use crate::streaming::{Stop, streamed_search, written_done};
 use crate::streams::{Folder, Given, InFolder, NoRecords, Records, Sink, Source};
 use l4_explore::progress::{Progress, Unheard};
 use l4_script::machine::Machine;
@@ -339,7 +339,7 @@ pub fn perform_on_files<R: Threads + Sync, F: Folder, W: Sink, E: Sink, P: Progr
         Ok(files) => files,
         Err(fault) => return tell(alloc, explains, job.file(), b"", faults, &fault),
     };
-    if let Some(search) = streamed(job) {
+    if let Some(search) = streamed_search(job) {
         return perform_streamed(alloc, explains, &search, &mut files, out, faults, progress);
     }
     perform_over(

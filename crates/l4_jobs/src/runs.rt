@@ -21,7 +21,7 @@ use crate::done::{Done, Kept};
 use crate::extras::write_told_extras;
 use crate::fault::Fault;
 use crate::job::{NO_EXTRAS, Printed, ReplayJob, RunJob, TextChart};
-use crate::objects::told;
+use crate::objects::lines_or_objects;
 use crate::schedules::{asked_entries, whole_replay};
 use crate::searches::text_form;
 use crate::streams::Source;
@@ -70,7 +70,7 @@ fn lines_of(
         printed.report ≡ false → list_all has_line (steps_of outcome.now.history) ≡ true) }
 {
     match (printed.report, printed.json) {
-        (true, json) => told(alloc, json, report_of(alloc, outcome)?),
+        (true, json) => lines_or_objects(alloc, json, report_of(alloc, outcome)?),
         (false, true) => objects_of(alloc, text, machine, &outcome.history),
         (false, false) => trace_of(alloc, &outcome.history),
     }

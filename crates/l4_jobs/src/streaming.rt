@@ -95,7 +95,7 @@ fn is_streamed(search: &EndingsJob<'_>) -> bool
 }
 
 /// The search of a job whose endings are written as they are found, where it has one.
-pub(crate) fn streamed<'a>(job: &Job<'a>) -> Option<EndingsJob<'a>>
+pub(crate) fn streamed_search<'a>(job: &Job<'a>) -> Option<EndingsJob<'a>>
     ensures { result ≡ streamed_of job.now }
 {
     match *job {

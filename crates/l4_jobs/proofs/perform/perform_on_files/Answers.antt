@@ -20,7 +20,7 @@ returns-in-Err-clause-performed g c =
     refl c.tell.ensures.told c.tell.ensures.status
 
 pub perform_streamed-requires : goal.perform_streamed-requires
-perform_streamed-requires g c = record { streamed = (streamed_is c.args.job.now c.in-Some.search (sym c.streamed.ensures ∙ c.in-Some.is)).1 }
+perform_streamed-requires g c = record { streamed = (streamed_is c.args.job.now c.in-Some.search (sym c.streamed_search.ensures ∙ c.in-Some.is)).1 }
 
 pub returns-in-Some-clause-performed : goal.returns-in-Some-clause-performed
 returns-in-Some-clause-performed g c =
@@ -31,7 +31,7 @@ returns-in-Some-clause-performed g c =
       record { machine = files.machine; second = files.second; expects = files.expects },
       c.in-Ok.ensures.ok,
       streamed_as opens gives c.args.explains c.args.job.now c.in-Some.search (GivenGives gives files.machine) files.second (GivenGives gives files.expects) _ _ _ _ _
-          c.perform_streamed.result (sym c.streamed.ensures ∙ c.in-Some.is) c.in-Ok.ensures.ok.second c.perform_streamed.ensures,
+          c.perform_streamed.result (sym c.streamed_search.ensures ∙ c.in-Some.is) c.in-Ok.ensures.ok.second c.perform_streamed.ensures,
     )
 
 pub returns-in-Some-clause-headline : goal.returns-in-Some-clause-headline
@@ -43,7 +43,7 @@ returns-in-Some-clause-headline g c = λ right.
       c.in-Ok.ensures.ok.machine,
       true_or_stopped c.args.explains c.args.job.now (GivenGives gives files.machine) (GivenGives gives files.second) (GivenGives gives files.expects) _
           c.perform_streamed.result (streamed_as opens gives c.args.explains c.args.job.now c.in-Some.search (GivenGives gives files.machine) files.second
-          (GivenGives gives files.expects) (λ name bytes all. ⊥) _ _ _ _ c.perform_streamed.result (sym c.streamed.ensures ∙ c.in-Some.is) c.in-Ok.ensures.ok.second
+          (GivenGives gives files.expects) (λ name bytes all. ⊥) _ _ _ _ c.perform_streamed.result (sym c.streamed_search.ensures ∙ c.in-Some.is) c.in-Ok.ensures.ok.second
           c.perform_streamed.ensures) right,
     )
 
@@ -55,7 +55,7 @@ returns-in-Some-clause-statuses g c =
     status_or_stopped c.args.explains c.args.job.now (GivenGives gives files.machine) (GivenGives gives files.second) (GivenGives gives files.expects) _
     c.perform_streamed.result
     (streamed_as opens gives c.args.explains c.args.job.now c.in-Some.search (GivenGives gives files.machine) files.second (GivenGives gives files.expects)
-    (λ name bytes all. ⊥) _ _ _ _ c.perform_streamed.result (sym c.streamed.ensures ∙ c.in-Some.is) c.in-Ok.ensures.ok.second c.perform_streamed.ensures)
+    (λ name bytes all. ⊥) _ _ _ _ c.perform_streamed.result (sym c.streamed_search.ensures ∙ c.in-Some.is) c.in-Ok.ensures.ok.second c.perform_streamed.ensures)
 
 pub returns-clause-performed : goal.returns-clause-performed
 returns-clause-performed g c =

@@ -71,7 +71,7 @@ pub fn audited_run<R: Threads + Sync, G: Gate + Sync>(
     ensures range { IsErrOf result RunFault.Turns ↔ ((turns ≡ 0) ⊎ (most_turns < turns)) }
 {
     let outcome = run(rt, alloc, machine, turns, gate)?;
-    Ok(audited(alloc, machine, outcome)?)
+    Ok(audited_outcome(alloc, machine, outcome)?)
 }
 
 /// Replays a schedule of at most 1,000,000 entries. Writes its trace, reads the trace back and
@@ -90,7 +90,7 @@ pub fn audited_replay(
     ensures range { IsErrOf result RunFault.Turns ↔ (most_entries < length schedule.now) }
 {
     let outcome = replay(alloc, machine, schedule)?;
-    Ok(audited(alloc, machine, outcome)?)
+    Ok(audited_outcome(alloc, machine, outcome)?)
 }
 
 /// Runs a machine for `turns` turns, 1 to 1,000,000, as `run_recorded` does, and replays what was
@@ -134,7 +134,11 @@ fn replay_lawful<'m>(
 }
 
 // Writes the trace of an outcome, reads the trace back and audits the steps.
-fn audited(alloc: Global, machine: &Machine, outcome: Outcome) -> Result<AuditedOutcome, NoMemory>
+fn audited_outcome(
+    alloc: Global,
+    machine: &Machine,
+    outcome: Outcome,
+) -> Result<AuditedOutcome, NoMemory>
     requires { IsHistory machine.now (map step_of outcome.history.items) }
     ensures outcome { IfOk result (λ audited. audited.outcome ≡ outcome) }
     ensures audited { IfOk result (IsAudited machine.now) }

@@ -1,7 +1,7 @@
 use Rattle.std.proofs.Common.{map, ap, ◌∙◌}
 use Rattle.l4_types.specs.StepView.{step_of}
 use Rattle.l4_trace.specs.Reading.{steps_of}
-use Rattle.l4.proofs.round_trips.audited.Goals as goal
+use Rattle.l4.proofs.round_trips.audited_outcome.Goals as goal
 
 pub read_back-requires : goal.read_back-requires
 read_back-requires c = (

@@ -40,7 +40,7 @@ pub const NO_MEMORY: &[u8] = b"l4run: no memory\n";
 const NOT_UTF8: &[u8] = b"l4run: an argument is not UTF-8\n";
 
 // Faults and a status, and nothing else.
-fn told(alloc: Global, faults: Vec<u8>, status: u8) -> Answer
+fn fault_answer(alloc: Global, faults: Vec<u8>, status: u8) -> Answer
     ensures { answered result ≡ told faults.items status }
 {
     Answer {
@@ -62,7 +62,11 @@ fn refused(alloc: Global, fault: &WordsFault) -> Result<Answer, NoMemory>
             recorded: Vec::new(alloc),
             status: 0,
         }),
-        WordsFault::Usage(text) => Ok(told(alloc, Vec::from_slice(alloc, text.as_bytes())?, 2)),
+        WordsFault::Usage(text) => Ok(fault_answer(
+            alloc,
+            Vec::from_slice(alloc, text.as_bytes())?,
+            2,
+        )),
         WordsFault::NoMemory => Err(NoMemory),
     }
 }
@@ -111,7 +115,7 @@ fn answer_for(alloc: Global, job: &Job<'_>, files: &Files<'_>) -> Result<Answer,
 {
     match performed(alloc, job, files) {
         Ok(answer) => Ok(answer),
-        Err(fault) => Ok(told(alloc, line_of(alloc, &fault)?, 1)),
+        Err(fault) => Ok(fault_answer(alloc, line_of(alloc, &fault)?, 1)),
     }
 }
 
@@ -122,7 +126,7 @@ pub fn answer_of(alloc: Global, words: &[u8], files: &Files<'_>) -> Result<Answe
     ensures { IfOk result (λ answer. IsAnswer words.now (files_in files.now) (answered answer)) }
 {
     let Ok(text) = str::from_utf8(words) else {
-        return Ok(told(alloc, Vec::from_slice(alloc, NOT_UTF8)?, 2));
+        return Ok(fault_answer(alloc, Vec::from_slice(alloc, NOT_UTF8)?, 2));
     };
     let words = words_of(alloc, text)?;
     match job_of(alloc, words.as_slice()) {

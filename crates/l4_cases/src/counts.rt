@@ -4,7 +4,7 @@ use std::alloc::Global;
 use std::{io, str};
 
 // What is asked of a line, without the count: `= PART` of parts, `== LINE` of whole lines.
-fn asked(line: &str) -> Option<(&str, &str)> {
+fn counted_part(line: &str) -> Option<(&str, &str)> {
     let (mark, rest) = line.split_once(' ')?;
     let (_count, part) = rest.split_once(' ')?;
     (mark == "=" || mark == "==").then_some((mark, part))
@@ -21,7 +21,7 @@ fn count_of(lines: &[&str], line: &str) -> usize {
 /// often each is there.
 pub fn as_counted(alloc: Global, wanted: &[u8], written: Vec<u8>) -> io::Result<Vec<u8>> {
     let wanted = str::from_utf8(wanted).unwrap_or("");
-    if asked(wanted).is_none() {
+    if counted_part(wanted).is_none() {
         return Ok(written);
     }
     let text = str::from_utf8(written.as_slice()).unwrap_or("");
@@ -29,7 +29,7 @@ pub fn as_counted(alloc: Global, wanted: &[u8], written: Vec<u8>) -> io::Result<
     lines.sort()?;
     let mut counts = String::new(alloc);
     for line in wanted.lines() {
-        if let Some((mark, part)) = asked(line) {
+        if let Some((mark, part)) = counted_part(line) {
             let count = match mark {
                 "=" => text.matches(part).count(),
                 _ => count_of(lines.as_slice(), part),

@@ -138,7 +138,7 @@ pub fn always_answer<P: Progress>(
 }
 
 // The history of this number, of a world that meets a condition: it has the number 1.
-fn numbered(
+fn numbered_history(
     alloc: Global,
     machine: &Machine,
     number: u64,
@@ -174,7 +174,7 @@ pub fn always_trace<P: Progress>(
 {
     let (depth, most) = question.limits(machine)?;
     let verdict = verdict_of(alloc, machine, condition, depth, most, progress)?;
-    match numbered(alloc, machine, number, verdict.met.as_ref())? {
+    match numbered_history(alloc, machine, number, verdict.met.as_ref())? {
         None => Ok(None),
         Some(trace) => Ok(Some(lines_of(alloc, &trace)?)),
     }

@@ -28,7 +28,7 @@ use l4_types::errors::NoMemory;
 use std::alloc::Global;
 
 // The trace of the ending that an answer gives this number, or of the thread behind the endings.
-fn numbered(
+fn numbered_history(
     alloc: Global,
     machine: &Machine,
     question: &Question<'_>,
@@ -93,7 +93,7 @@ fn searched_trace<P: Progress>(
 {
     let found = all_endings(alloc, machine, depth, most, progress)?;
     let stuck = asked_stuck(alloc, machine, question, depth, most, progress)?;
-    let trace = numbered(
+    let trace = numbered_history(
         alloc,
         machine,
         question,

@@ -2,7 +2,7 @@ use Rattle.std.proofs.Common.{◌≡◌, ◌++◌, drop}
 use Rattle.std.specs.Prelude.{slice_get}
 use Rattle.l4_questions.specs.Answers.{asked_traces, numbered, traces_along}
 use Rattle.l4_questions.specs.Stuck.{stuck_traces}
-use Rattle.l4_questions.proofs.traces.numbered.Given as goal
+use Rattle.l4_questions.proofs.traces.numbered_history.Given as goal
 use Rattle.l4_stuck.specs.Stuck.{stuck_of}
 
 -- So many come before it from the next ending on.

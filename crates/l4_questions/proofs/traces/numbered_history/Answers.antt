@@ -18,7 +18,7 @@ use Rattle.l4_questions.specs.Inner.Found.{led_ending, IsLed}
 use Rattle.l4_questions.specs.Stuck.{stuck_traces}
 use Rattle.l4_questions.specs.declared.question.Question.{Question}
 use Rattle.l4_questions.proofs.StuckThreads.{at_place}
-use Rattle.l4_questions.proofs.traces.numbered.Goals as goal
+use Rattle.l4_questions.proofs.traces.numbered_history.Goals as goal
 
 -- The next ending is asked for or not.
 next : (m : Machine) (q : Question) (more : List (List Step)) (endings : List (Vec ℕ Global))

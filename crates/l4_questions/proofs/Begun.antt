@@ -3,8 +3,6 @@ use Rattle.std.proofs.Common.{◌≡◌, ℕ, ◌+◌, ◌≤◌, ◌⊎◌, inl
 use Rattle.std.specs.Prelude.{◌||◌, not}
 use Rattle.std.proofs.lemmas.List.{length-map, length-take, take-map, take-take, take_all}
 use Rattle.l4_model.specs.Machine.{Machine}
-use Rattle.l4_model.specs.Steps.{Step}
-use Rattle.l4_core_model.specs.Schedules.{Entry}
 use Rattle.l4_explore.specs.Search.{Seen}
 use Rattle.l4_explore.specs.Told.{Hears}
 use Rattle.l4_futures.specs.Endings.{AreAllEndings}

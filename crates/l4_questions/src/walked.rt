@@ -4,7 +4,6 @@ ghost use Rattle.std.specs.Prelude.{ℕ, ◌≡◌, ◌≤◌, min, IfOk, None, 
 ghost use Rattle.std.proofs.Common.{Global};
 ghost use Rattle.l4_explore.specs.Tries.{deepest};
 ghost use Rattle.l4_questions.specs.Limits.{question_fault};
-ghost use Rattle.l4_questions.specs.Inner.Found.{IsLed};
 ghost use Rattle.l4_questions.specs.Inner.Walked.{IsWalkedBy, LeadsToAsked};
 
 use crate::asked::is_asked;

@@ -1,6 +1,5 @@
 use Rattle.std.proofs.Common.{◌≡◌, inl, inr, refl, rules, List, ℕ, []}
 use Rattle.std.specs.Prelude.{IfErr}
-use Rattle.std.specs.Option.{option_copied}
 use Rattle.std.proofs.lemmas.Result.{IfOk-weaker}
 use Rattle.l4_futures.specs.Traces.{trace_along}
 use Rattle.l4_questions.specs.Beside.{shown_as}

@@ -252,16 +252,6 @@ stop_for search text m expects expected out keeps_out is declares wants s = stop
     begun : (all : Bool) → (fault_of_rests m search ≡ None) × HasBegunBy search.scheduler out m (question_of search) (shown_of text search) all → IsCutOff search text expects out all
     begun all has = record { machine = m; expected = expected; begun = record { declares = declares; asked = wants; rests = has.0 }; wrote = has.1 }
 
-pub all_but_written : (search : EndingsJob) (text : List ℕ) (m : Machine) (expects : Gives) (expected : Option (List Expected)) (out : Takes) (left : Output) →
-    machine_of_text text ≡ Ok m → IsExpected (option_copied search.expected) (scope_of (Endings search)) expects expected → fault_of_rests m search ≡ None →
-    IsToldFirst out (λ lines. IsAnswerDone search text m expected (record left { lines = lines })) left.lines → IsAllButWritten search text expects out left
-all_but_written search text m expects expected out left declares wants rests first = record {
-  machine = m;
-  expected = expected;
-  begun = record { declares = declares; asked = wants; rests = rests };
-  answered = first;
-}
-
 -- What is written of it
 
 searched : (search : EndingsJob) (text : List ℕ) (m : Machine) (expected : Option (List Expected)) (o : Output) → is_streamed search ≡ true → fault_of_rests m search ≡ None →

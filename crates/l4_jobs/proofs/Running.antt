@@ -1,6 +1,6 @@
 -- What runs and replays come to.
-use Rattle.std.proofs.Common.{◌≡◌, ℕ, ◌<◌, ◌≤◌, Bool, true, false, Option, Some, None, Result, Ok, Err, List, refl, ap, sym, subst, inl, inr, ◌∙◌}
-use Rattle.std.specs.Prelude.{◌⊎◌, ◌==◌, ◌||◌, IfErr, IsSomeAnd, if◌then◌else◌, nat_lt}
+use Rattle.std.proofs.Common.{◌≡◌, ℕ, ◌<◌, ◌≤◌, Bool, true, false, Option, Some, None, Ok, List, refl, ap, sym, inl, inr, ◌∙◌}
+use Rattle.std.specs.Prelude.{◌⊎◌, ◌==◌, ◌||◌, if◌then◌else◌, nat_lt}
 use Rattle.std.proofs.lemmas.Bool.{eqb-true, ltb-true, or_cases}
 use Rattle.l4_model.specs.Machine.{Machine}
 use Rattle.l4_core_model.specs.Runs.{Run}
@@ -9,20 +9,15 @@ use Rattle.l4_expect.specs.Expected.{Expected}
 use Rattle.l4_replay.specs.Entries.{entries_fault, turns_fault}
 use Rattle.l4_machine.specs.Outcomes.{Findings, IsFoundFor, IsOutcomeOf, in_order}
 use Rattle.l4_rounds.specs.ThenRest.{HaveRest, rest_fault, then_rest}
-use Rattle.l4_replay.specs.declared.fault.RunFault.{RunFault}
 use Rattle.l4_replay.specs.declared.fault.RunFault.TheVariants.{Turns}
 use Rattle.l4_schedules.specs.InFiles.{schedule_in_file}
 use Rattle.l4_schedules.specs.Written.{recorded_text}
 use Rattle.l4_schedules.proofs.ReadBack.{recorded_back}
-use Rattle.l4_commands.specs.Files.{list_name}
 use Rattle.l4_commands.specs.declared.job.Printed.{Printed}
 use Rattle.l4_jobs.specs.Expectations.{status_by, unmet_by}
-use Rattle.l4_jobs.specs.Inputs.{FailsWith, Gives}
 use Rattle.l4_jobs.specs.Outputs.{Output}
 use Rattle.l4_jobs.specs.Runs.{IsRecord, IsRecorded, IsRunDone, IsWritten, list_for, report_of, status_of_ending}
-use Rattle.l4_jobs.specs.Schedules.{IsReplayAsked, IsReplayFault, IsRunAsked, asked_schedule, fault_of_result, continued_run, run_of_schedule, unless_fault}
-use Rattle.l4_jobs.specs.declared.fault.Fault.{Fault}
-use Rattle.l4_jobs.specs.declared.fault.Fault.TheVariants as fault
+use Rattle.l4_jobs.specs.Schedules.{IsReplayAsked, IsRunAsked, asked_schedule, continued_run, run_of_schedule, unless_fault}
 
 -- A number of turns that is not refused is lawful.
 pub lawful : (turns : ℕ) → ((turns ≡ 0) ⊎ (1000000 < turns) → ⊥) → turns_fault turns ≡ None
@@ -90,22 +85,3 @@ pub is_recorded : (m : Machine) (f : Findings) (entries : List Entry) (name : Op
     list ≡ list_for name entries → IsRecorded name m f list
 is_recorded m f entries None list few outcome are is = is
 is_recorded m f entries (Some name) list few outcome are is = (recorded_text entries, is, is_record m f entries (recorded_text entries) few outcome are refl)
-
--- A schedule that has a fault has it whether the replay goes on or not.
-pub faulty_anyway : (m : Machine) (rest : Option ℕ) (schedule : Result (List Entry) RunFault) (f : Fault) →
-    fault_of_result (run_of_schedule m None schedule) ≡ Some f → fault_of_result (run_of_schedule m rest schedule) ≡ Some f
-faulty_anyway m rest (Ok entries) f is = absurd (let bad : None ≡ Some f = is in cc)
-faulty_anyway m rest (Err e) f is = is
-
-pub replay_faulty : {X : Type 0} (m : Machine) (rest : Option ℕ) (list : List ℕ) (gives : Gives) (r : Result X Fault) (f : Fault) →
-    IfErr r (λ e. e ≡ f) → (f ≡ fault.NoMemory) ⊎ IsReplayFault m None list gives f → IfErr r (λ e. (e ≡ fault.NoMemory) ⊎ IsReplayFault m rest list gives e)
-replay_faulty m rest list gives (Ok x) f is faulty = tt
-replay_faulty m rest list gives (Err e) f is (inl none) = inl (is ∙ none)
-replay_faulty m rest list gives (Err e) f is (inr (inl unread)) =
-    inr (inl (subst (λ x. IsSomeAnd (list_name list) (λ name. FailsWith name gives x)) (sym is) unread))
-replay_faulty m rest list gives (Err e) f is (inr (inr run)) =
-    inr (inr (record {
-      text = run.text;
-      read = run.read;
-      faulty = faulty_anyway m rest (asked_schedule m list run.text) f run.faulty ∙ ap (λ (g : Fault). Some g) (sym is);
-    }))

@@ -1,26 +1,14 @@
 -- What a session on a text came to, for the source that gives the text.
-use Rattle.std.proofs.Common.{◌≡◌, ◌⊎◌, ℕ, Bool, Option, Result, Ok, Err, List, refl, ap, sym, subst, inl, inr, ◌∙◌}
-use Rattle.l4_model.specs.Machine.{Machine}
-use Rattle.l4_script.specs.Faults.{no_memory}
+use Rattle.std.proofs.Common.{◌≡◌, ◌⊎◌, ℕ, Bool, Option, Ok, List, refl, ap, sym, subst, inl, inr, ◌∙◌}
 use Rattle.l4_script.specs.Versions.{machine_of_text}
-use Rattle.l4_script.specs.declared.text.fault.TextFault.{TextFault}
 use Rattle.l4_commands.specs.declared.job.Job.TheVariants.{Step}
 use Rattle.l4_commands.specs.declared.job.StepJob.{StepJob}
 use Rattle.l4_jobs.specs.Inner.Holding.{IsTextHeld}
 use Rattle.l4_jobs.specs.Inner.Reading.{IsReadAs}
 use Rattle.l4_jobs.specs.Inputs.{Gives, gives_nothing}
-use Rattle.l4_jobs.specs.Jobs.{IsFaultFor, text_fault}
 use Rattle.l4_jobs.specs.Performing.{IsHeldBy, IsHeldOut, IsPerformed, Sinks}
 use Rattle.l4_jobs.specs.Steps.{session_of}
-use Rattle.l4_jobs.specs.declared.fault.Fault.{Fault}
-use Rattle.l4_jobs.specs.declared.fault.Fault.TheVariants as fault
 use Rattle.l4_jobs.proofs.Performed.{fault_told}
-
-pub text_faulty : (step : StepJob) (d : Result Machine TextFault) (t : TextFault) (f : Fault) → f ≡ text_fault t.line t.kind →
-    (t ≡ no_memory) ⊎ (d ≡ Err t) → (f ≡ fault.NoMemory) ⊎ IsFaultFor (Step step) d gives_nothing gives_nothing f
-text_faulty step d t f is (inl none) = inl (is ∙ ap (λ (of : TextFault). text_fault of.line of.kind) none)
-text_faulty step d t f is (inr same) =
-    inr (subst (λ of. IsFaultFor (Step step) of gives_nothing gives_nothing f) (sym same) (refl, is))
 
 pub text_held : (explains : Bool) (step : StepJob) (machine : Gives) (known : Option (List ℕ)) (read slice : List ℕ) (s : Sinks) (status : ℕ) →
     (all : List ℕ) × machine (Ok all) × IsReadAs read all → slice ≡ read → s.keeps_list → IsTextHeld explains step slice known s status →

@@ -1,5 +1,5 @@
 -- A session: what is told of the lines of an input.
-use Rattle.std.specs.Prelude.{◌≡◌, ◌⊎◌, ◌++◌, ℕ, Bool, true, false, Option, None, Some, Ok, List, [], codes}
+use Rattle.std.specs.Prelude.{◌≡◌, ◌⊎◌, ◌++◌, ℕ, Bool, true, false, Option, None, Some, List, [], codes}
 use Rattle.l4_model.specs.Machine.{Machine}
 use Rattle.l4_chart.specs.Listings.{listing_of}
 use Rattle.l4_commands.specs.declared.job.StepJob.{StepJob}

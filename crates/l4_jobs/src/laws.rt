@@ -1,5 +1,5 @@
 //! Laws of what is printed: of records, of traces, and of faults.
-ghost use Rattle.std.specs.Prelude.{◌≡◌, ℕ, List, None, Some, Option};
+ghost use Rattle.std.specs.Prelude.{◌≡◌, ℕ, List, Some, Option};
 ghost use Rattle.l4_commands.specs.Files.{list_name};
 ghost use Rattle.l4_commands.specs.declared.job.Job.{Job as AJob};
 ghost use Rattle.l4_commands.specs.declared.job.Printed.{Printed};

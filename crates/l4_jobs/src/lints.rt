@@ -6,8 +6,7 @@ ghost use Rattle.l4_commands.specs.Files.{list_name, list_name_in, shown_name};
 ghost use Rattle.l4_lint.specs.Faults.{faults_of};
 ghost use Rattle.l4_schedules.specs.Faulty.{faults_text, file_faults};
 ghost use Rattle.l4_jobs.specs.Inputs.{FailsWith, IsRead};
-ghost use Rattle.l4_jobs.specs.Lints.{IsLinted, IsListLinted, asked_faults, named_faults};
-ghost use Rattle.l4_jobs.specs.Lints.{status_of_list};
+ghost use Rattle.l4_jobs.specs.Lints.{IsLinted, IsListLinted, named_faults};
 ghost use Rattle.l4_jobs.specs.Outputs.{output_of};
 ghost use Rattle.l4_jobs.specs.declared.fault.Fault.TheVariants.{NoMemory as OutOfMemory};
 

@@ -3,13 +3,12 @@ ghost use Rattle.std.specs.Prelude.{◌≡◌, ◌⊎◌, ℕ, List, IfOk, IfErr
 ghost use Rattle.std.specs.List.{list_all};
 ghost use Rattle.std.specs.Option.{option_copied};
 ghost use Rattle.l4_model.specs.History.{IsHistory};
-ghost use Rattle.l4_core_model.specs.Runs.{Run as CoreRun};
 ghost use Rattle.l4_commands.specs.Files.{list_name};
 ghost use Rattle.l4_expect.specs.Unmet.{expected_status};
 ghost use Rattle.l4_replay.specs.Entries.{entry_from};
 ghost use Rattle.l4_machine.specs.Outcomes.{compact_findings_of, steps_of};
 ghost use Rattle.l4_trace.specs.Lines.{has_line};
-ghost use Rattle.l4_jobs.specs.Expectations.{is_met_by, status_by, unmet_by};
+ghost use Rattle.l4_jobs.specs.Expectations.{status_by, unmet_by};
 ghost use Rattle.l4_jobs.specs.Inputs.{IsRead};
 ghost use Rattle.l4_jobs.specs.Outputs.{list_of, output_of};
 ghost use Rattle.l4_jobs.specs.Runs.{IsReplayJobDone, IsRunDone, IsRunJobDone, IsWritten};

@@ -1,5 +1,5 @@
 //! Writing the trace of a run from its history, in lines or in objects.
-ghost use Rattle.std.specs.Prelude.{◌≡◌, ◌++◌, ◌&&◌, List, IfOk, true};
+ghost use Rattle.std.specs.Prelude.{◌≡◌, ◌++◌, ◌&&◌, IfOk, true};
 ghost use Rattle.std.specs.List.{list_all};
 ghost use Rattle.std.proofs.Common.{◌∙◌, ap, ap₂, append-nil, append_assoc, refl, sym};
 ghost use Rattle.std.proofs.lemmas.Grind.{flat_map-append};

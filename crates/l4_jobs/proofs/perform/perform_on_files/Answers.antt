@@ -1,7 +1,6 @@
 use Rattle.std.proofs.Common.{◌≡◌, Some, inl, inr, refl, sym, ◌∙◌}
 use Rattle.l4_commands.specs.Files.{expected_of, file_of, second_file_of}
-use Rattle.l4_jobs.specs.Performing.{IsDoneOrStopped, sinks}
-use Rattle.l4_jobs.specs.Streaming.{streamed_of}
+use Rattle.l4_jobs.specs.Performing.{sinks}
 use Rattle.l4_streams.specs.Streams.{GivenGives, IsWrittenApart}
 use Rattle.l4_jobs.proofs.Performed.{apart_as, performed_as, performed_status, performed_true, unopened_told}
 use Rattle.l4_jobs.proofs.Begun.{status_or_stopped, streamed_as, streamed_is, true_or_stopped}

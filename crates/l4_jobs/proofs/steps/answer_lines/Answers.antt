@@ -1,4 +1,4 @@
-use Rattle.std.proofs.Common.{◌≡◌, ◌⊎◌, ◌++◌, ℕ, List, [], map, true, false, ap, sym, subst, ◌∙◌, arith, inl, refl}
+use Rattle.std.proofs.Common.{◌≡◌, ◌⊎◌, List, map, true, false, ap, sym, subst, ◌∙◌, inl, refl}
 use Rattle.std.proofs.lemmas.Result.{err_from_is_err_and}
 use Rattle.l4_jobs.specs.Inner.Holding.{IsBehind}
 use Rattle.l4_core_model.specs.Schedules.{Entry}

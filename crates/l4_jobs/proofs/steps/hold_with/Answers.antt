@@ -1,4 +1,4 @@
-use Rattle.std.proofs.Common.{◌≡◌, ◌++◌, ℕ, List, [], true, false, ap, sym, subst, ◌∙◌, refl, rules}
+use Rattle.std.proofs.Common.{◌≡◌, ℕ, List, [], true, false, subst, ◌∙◌, refl, rules}
 use Rattle.std.proofs.lemmas.Result.{IfErr-weaker, IfOk-weaker}
 use Rattle.std.specs.Prelude.{IfErr}
 use Rattle.l4_steps.specs.Possible.{choices_text}

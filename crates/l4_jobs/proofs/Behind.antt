@@ -15,7 +15,7 @@ use Rattle.l4_commands.specs.declared.job.Judged.{Judged}
 use Rattle.l4_commands.specs.declared.job.TheConstants.{NO_EXTRAS}
 use Rattle.l4_jobs.proofs.Spelled.{one_trace}
 
-nothing_behind : (e : Extras) (m : Machine) (w : World) (h : List Step) (lines : List ℕ) → e ≡ NO_EXTRAS → lines ≡ lines ++ behind e m w h
+pub nothing_behind : (e : Extras) (m : Machine) (w : World) (h : List Step) (lines : List ℕ) → e ≡ NO_EXTRAS → lines ≡ lines ++ behind e m w h
 nothing_behind e m w h lines none = sym (append-nil lines) ∙ ap (λ (x : Extras). lines ++ behind x m w h) (sym none)
 
 pub passed_history : (m : Machine) (text : List ℕ) (p : PassedTrace) (h : List Step) → HasPassed m text p → IsTraceOf text h → IsHistory m h
@@ -33,20 +33,6 @@ unreported false explain line text none = sym (append-nil line)
 no_report : (j : Judged) (m : Machine) (w : World) (h : List Step) (p : PassedTrace) (line : List ℕ) → tells_refusals j ≡ false →
     line ≡ line ++ report_where j.report m w h p.ending
 no_report j m w h p line none = unreported j.report j.explain line (report_text (view m w) (undecided_sends m w h) p.ending) none
-
-pub passed_alone : (j : Judged) (m : Machine) (text line : List ℕ) (p : PassedTrace) → tells_refusals j ≡ false → HasPassed m text p →
-    line ≡ passed_line p.steps p.ending → j.extras ≡ NO_EXTRAS → IsPassed j m text line
-passed_alone j m text line p untold passed is none = record {
-  steps = passed.steps;
-  reads = passed.reads;
-  world = passed.world;
-  reaches = passed.reaches;
-  ending = p.ending;
-  quiet = passed.quiet;
-  lines_are =
-      line_is m text line p passed is ∙ nothing_behind j.extras m passed.world passed.steps (passed_line (length passed.steps) p.ending) none
-      ∙ ap (λ l. l ++ behind j.extras m passed.world passed.steps) (no_report j m passed.world passed.steps p (passed_line (length passed.steps) p.ending) untold);
-}
 
 pub passed_behind : (j : Judged) (m : Machine) (text line all : List ℕ) (p : PassedTrace) (h : List Step) → tells_refusals j ≡ false → HasPassed m text p →
     line ≡ passed_line p.steps p.ending → IsTraceOf text h → ((w : World) → reached m h ≡ Some w → all ≡ line ++ behind j.extras m w h) →

@@ -3,14 +3,16 @@ use Rattle.std.specs.Prelude.{IfErr}
 use Rattle.l4_commands.specs.declared.job.TheConstants.{NO_EXTRAS}
 use Rattle.l4_trace.proofs.ReadTexts.{written}
 use Rattle.l4_jobs.specs.Audits.{fault_of_reading}
-use Rattle.l4_jobs.proofs.Behind.{passed_alone, passed_behind, passed_history}
+use Rattle.l4_jobs.proofs.Behind.{nothing_behind, passed_behind, passed_history}
 use Rattle.l4_jobs.proofs.Spelled.{line_fault}
 use Rattle.l4_jobs.proofs.audits.audit_lines.Goals as goal
 
 pub returns-then-eq-clause-ok : goal.returns-then-eq-clause-ok
 returns-then-eq-clause-ok c =
     let none : c.args.judged.extras ≡ NO_EXTRAS = search rules in
-    passed_alone c.args.judged c.args.machine.now c.args.trace.now _ c.in_ok-passed.passed c.requires c.in_ok-passed.ensures.ok c.in_ok-lines.ensures none
+    let passed = c.in_ok-passed.ensures.ok in
+    passed_behind c.args.judged c.args.machine.now c.args.trace.now _ _ c.in_ok-passed.passed passed.steps c.requires passed c.in_ok-lines.ensures
+    passed.reads (λ w reaches. nothing_behind c.args.judged.extras c.args.machine.now w passed.steps _ none)
 
 pub write_extras-requires : goal.write_extras-requires
 write_extras-requires c =

@@ -20,7 +20,7 @@ use Rattle.l4_questions.specs.declared.teller.TellFault.TheVariants.{NoAnswer, N
 use Rattle.l4_commands.specs.Files.{second_file_of}
 use Rattle.l4_commands.specs.declared.job.EndingsJob.{EndingsJob}
 use Rattle.l4_commands.specs.declared.job.Job.{Job}
-use Rattle.l4_commands.specs.declared.job.Job.TheVariants.{Run, Replay, Next, Audit, Chart, Endings, Lint, Step}
+use Rattle.l4_commands.specs.declared.job.Job.TheVariants.{Endings}
 use Rattle.l4_commands.specs.declared.job.Scheduler.{Scheduler}
 use Rattle.l4_commands.specs.declared.job.Scheduler.TheVariants.{Any, Placed}
 use Rattle.l4_jobs.specs.Expectations.{IsExpected, scope_of}
@@ -77,13 +77,7 @@ streamed_is (Endings e) search is = by (is_streamed e) refl is
     by : (b : Bool) → is_streamed e ≡ b → (if b then Some e else None) ≡ Some search → (Endings e ≡ Endings search) × (is_streamed search ≡ true)
     by true lines is = let same : e ≡ search = cc in (ap Endings same, subst (λ s. is_streamed s ≡ true) same lines)
     by false lines is = absurd (let bad = is in cc)
-streamed_is (Run run) search is = absurd (let bad = is in cc)
-streamed_is (Replay replay) search is = absurd (let bad = is in cc)
-streamed_is (Next next) search is = absurd (let bad = is in cc)
-streamed_is (Audit audit) search is = absurd (let bad = is in cc)
-streamed_is (Chart chart) search is = absurd (let bad = is in cc)
-streamed_is (Lint lint) search is = absurd (let bad = is in cc)
-streamed_is (Step step) search is = absurd (let bad = is in cc)
+streamed_is job search is = absurd (let bad = is in cc)
 
 -- What was told was taken
 

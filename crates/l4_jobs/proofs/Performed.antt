@@ -10,7 +10,7 @@ use Rattle.l4_script.specs.Versions.{machine_of_text}
 use Rattle.l4_script.specs.declared.text.fault.TextFault.{TextFault}
 use Rattle.l4_commands.specs.Files.{file_of}
 use Rattle.l4_commands.specs.declared.job.Job.{Job}
-use Rattle.l4_commands.specs.declared.job.Job.TheVariants.{Run, Replay, Next, Audit, Chart, Endings, Lint, Step}
+use Rattle.l4_commands.specs.declared.job.Job.TheVariants.{Run, Replay}
 use Rattle.l4_commands.specs.declared.job.Printed.{Printed}
 use Rattle.l4_jobs.specs.Expectations.{is_met_by}
 use Rattle.l4_jobs.specs.Inputs.{FailsWith, Gives}
@@ -60,21 +60,7 @@ of_kept o (Some p) s status (inr (f, named, kept, left, reported, one)) = inl on
 same_line : (explains : Bool) (file read all : List ℕ) (f : Fault) → IsReadAs read all → told_line explains file read f ≡ told_line explains file all f
 same_line false file read all f same = refl
 same_line true file read all (fault.Text line kind) same = ap (λ more. fault_line (fault.Text line kind) ++ more) (same.shown file)
-same_line true file read all fault.Turns same = refl
-same_line true file read all fault.Depth same = refl
-same_line true file read all fault.States same = refl
-same_line true file read all fault.Memory same = refl
-same_line true file read all fault.Ending same = refl
-same_line true file read all (fault.Schedule number) same = refl
-same_line true file read all (fault.Threads number) same = refl
-same_line true file read all (fault.Trace line) same = refl
-same_line true file read all (fault.Refused step) same = refl
-same_line true file read all (fault.Expectation line wrong) same = refl
-same_line true file read all (fault.Condition line wrong) same = refl
-same_line true file read all fault.NoMemory same = refl
-same_line true file read all (fault.Read name why) same = refl
-same_line true file read all (fault.Unwritten name) same = refl
-same_line true file read all fault.Write same = refl
+same_line true file read all f same = refl
 
 told_of_all : (explains : Bool) (file read all : List ℕ) (takes : Takes) (f : Fault) → IsReadAs read all → IsExplained explains file read takes f →
     IsExplained explains file all takes f
@@ -150,12 +136,7 @@ true_on : (job : Job) (text : List ℕ) (m : Machine) (second : Gives) (expected
     IsDoneOn job text m second expected o → IsTrueFor job text o.lines o.status
 true_on (Run run) text m second expected o declares is = (m, declares, run_true run.printed text m _ _ expected o is)
 true_on (Replay replay) text m second expected o declares (list, reads, is) = (m, declares, run_true replay.printed text m _ _ expected o is)
-true_on (Next next) text m second expected o declares is = tt
-true_on (Audit audit) text m second expected o declares is = tt
-true_on (Chart chart) text m second expected o declares is = tt
-true_on (Endings search) text m second expected o declares is = tt
-true_on (Lint lint) text m second expected o declares is = tt
-true_on (Step step) text m second expected o declares is = tt
+true_on job text m second expected o declares is = tt
 
 of_lint : (job : Job) (text lines : List ℕ) (status : ℕ) → is_lint job ≡ true → IsTrueFor job text lines status
 of_lint job text lines status is = subst (λ printed. IsTrueBy printed text lines status) (sym (prints_none job is)) tt
@@ -163,12 +144,7 @@ of_lint job text lines status is = subst (λ printed. IsTrueBy printed text line
     prints_none : (job : Job) → is_lint job ≡ true → printed_of job ≡ None
     prints_none (Run run) is = cc
     prints_none (Replay replay) is = cc
-    prints_none (Next next) is = refl
-    prints_none (Audit audit) is = refl
-    prints_none (Chart chart) is = refl
-    prints_none (Endings search) is = refl
-    prints_none (Lint lint) is = refl
-    prints_none (Step step) is = refl
+    prints_none job is = refl
 
 true_for : (job : Job) (text : List ℕ) (d : Result Machine TextFault) (second expects : Gives) (o : Output) → machine_of_text text ≡ d →
     IsInLinesFor job text d second expects o → IsTrueFor job text o.lines o.status
@@ -180,12 +156,7 @@ true_for job text (Err t) second expects o declares is = of_lint job text o.line
 unchanged : (job : Job) (text lines others : List ℕ) (status : ℕ) → others ≡ told (is_retold job) lines → IsTrueFor job text lines status → IsTrueFor job text others status
 unchanged (Run run) text lines others status is shown = subst (λ l. IsTrueFor (Run run) text l status) (sym is) shown
 unchanged (Replay replay) text lines others status is shown = subst (λ l. IsTrueFor (Replay replay) text l status) (sym is) shown
-unchanged (Next next) text lines others status is shown = tt
-unchanged (Audit audit) text lines others status is shown = tt
-unchanged (Chart chart) text lines others status is shown = tt
-unchanged (Endings search) text lines others status is shown = tt
-unchanged (Lint lint) text lines others status is shown = tt
-unchanged (Step step) text lines others status is shown = tt
+unchanged job text lines others status is shown = tt
 
 true_told : (job : Job) (text : List ℕ) (second expects : Gives) (o : Output) → IsDoneFor job text (machine_of_text text) second expects o →
     IsTrueFor job text o.lines o.status

@@ -176,19 +176,19 @@ class Editor {
         return made;
     }
 
-    // The words of a line in their colours, that of a mark underlined.
+    // The words of a line in their colours, that of a mark underlined. Blanks between them are spaces and tabs.
     static coloured(text, mark) {
         if (text.startsWith(";")) return [el("i", { className: `comment${mark ? ` under ${Editor.tone(mark)}` : ""}`, textContent: text })];
         const [, said, comment] = /^([^;]*)(.*)$/.exec(text);
         let column = 1;
         let isFirst = true;
-        const words = said.split(" ").flatMap((word, place) => {
+        const words = said.split(/([ \t])/).flatMap((word, place) => {
+            if (place % 2) return [word];
             const isMarked = mark && mark.column >= column && mark.column < column + Math.max(1, word.length);
             column += word.length + 1;
             const kind = Editor.kind(word, isFirst);
             if (word && kind !== "label") isFirst = false;
-            const made = el("i", { className: isMarked ? `${kind} under ${Editor.tone(mark)}` : kind, textContent: word });
-            return place ? [" ", made] : [made];
+            return [el("i", { className: isMarked ? `${kind} under ${Editor.tone(mark)}` : kind, textContent: word })];
         });
         const behind = comment && [el("i", { className: "comment", textContent: comment })];
         return mark && mark.column >= column ? [...words, el("i", { className: `under ${Editor.tone(mark)}`, textContent: "\u00a0" }), ...behind] : [...words, ...behind];

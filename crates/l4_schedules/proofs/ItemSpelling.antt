@@ -15,7 +15,7 @@ use Rattle.l4_words.proofs.Numerals.{decimal_is_read, decimal_is_written}
 use Rattle.l4_replay.specs.Entries.{is_entry_of}
 use Rattle.l4_schedules.specs.Items.{processor_of, clock_of, is_colon, at_colon, by_colon, letter_between, turn_of, tick_between, tick_of, entry_of, item_of}
 
-teen : (p : ℕ) → 10 ≤ p → p < 16 → decimal p ≡ 49 ∷ (48 + (p - 10)) ∷ []
+pub teen : (p : ℕ) → 10 ≤ p → p < 16 → decimal p ≡ 49 ∷ (48 + (p - 10)) ∷ []
 teen p least below =
     let tens : p / 10 ≡ 1 = omega arith in
     let ones : p % 10 ≡ p - 10 = omega arith in

@@ -5,6 +5,7 @@ pub mod InLines
 pub mod ItemSpelling
 pub mod Lawful
 pub mod Lengths
+pub mod NextTurns
 pub mod Plain
 pub mod ReadBack
 pub mod Splits

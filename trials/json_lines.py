@@ -216,7 +216,7 @@ def main(program, cases="crates/l4_cases/data", count=0):
                     # Its commands read the text behind the line, whatever file they name.
                     file = pathlib.Path(work, "text.l4")
                     file.write_text(machine, errors="surrogateescape")
-                    words = [str(file) if word == case.name else word for word in words]
+                    words = [str(file) if word == case.name or word.endswith(".l4") else word for word in words]
                 compare(program, words, given, folder, machine, counts)
     for what, number in sorted(counts.items()):
         print(f"{number:9} {what}")

@@ -1,56 +1,18 @@
 //! What is printed behind a trace, a report or the line of an audit.
 ghost use Rattle.std.specs.Prelude.{◌≡◌, ◌++◌, Some, OnOk};
-ghost use Rattle.l4_counts.specs.Lines.{counts_text};
-ghost use Rattle.l4_jobs.specs.Extras.{behind, text_where};
+ghost use Rattle.l4_jobs.specs.Extras.{behind};
 ghost use Rattle.l4_jobs.specs.Objects.{told};
 ghost use Rattle.l4_model.specs.History.{IsHistory, reached};
 ghost use Rattle.l4_model.specs.World.{World};
-ghost use Rattle.l4_waits.specs.Lines.{waits_text};
 
 use crate::job::{Extras, Printed};
 use crate::objects::lines_or_objects;
-use l4_counts::lines;
+use l4_counts::lines::write_counts;
 use l4_history::history::History;
 use l4_script::machine::Machine;
 use l4_types::errors::NoMemory;
 use l4_waits::lines::write_waits_after;
 use std::alloc::Global;
-
-// Appends who waits for whom behind the steps, where that is asked for.
-fn write_waits(
-    alloc: Global,
-    asked: bool,
-    machine: &Machine,
-    history: &History,
-    out: &mut Vec<u8>,
-) -> Result<(), NoMemory>
-    requires { IsHistory machine.now history.now.steps }
-    ensures { OnOk result ((w : World) → reached machine.now history.now.steps ≡ Some w →
-        out.new.items ≡ out.old.items ++ text_where asked (waits_text machine.now w)) }
-{
-    if !asked {
-        return Ok(());
-    }
-    write_waits_after(alloc, machine, history, out)
-}
-
-// Appends what each thread did in the steps, where that is asked for.
-fn write_counts(
-    alloc: Global,
-    asked: bool,
-    machine: &Machine,
-    history: &History,
-    out: &mut Vec<u8>,
-) -> Result<(), NoMemory>
-    requires { IsHistory machine.now history.now.steps }
-    ensures { OnOk result (out.new.items ≡
-        out.old.items ++ text_where asked (counts_text machine.now history.now.steps)) }
-{
-    if !asked {
-        return Ok(());
-    }
-    lines::write_counts(alloc, machine, history, out)
-}
 
 /// Appends what is asked for about the steps of a history: who waits for whom behind them, and then
 /// what each thread did.
@@ -65,8 +27,13 @@ pub(crate) fn write_extras(
     ensures { OnOk result ((w : World) → reached machine.now history.now.steps ≡ Some w →
         out.new.items ≡ out.old.items ++ behind extras machine.now w history.now.steps) }
 {
-    write_waits(alloc, extras.waits, machine, history, out)?;
-    write_counts(alloc, extras.counts, machine, history, out)
+    if extras.waits {
+        write_waits_after(alloc, machine, history, out)?;
+    }
+    if extras.counts {
+        write_counts(alloc, machine, history, out)?;
+    }
+    Ok(())
 }
 
 /// The same behind a trace or a report, told as these are.

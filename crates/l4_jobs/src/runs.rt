@@ -11,9 +11,9 @@ ghost use Rattle.l4_trace.specs.Lines.{has_line};
 ghost use Rattle.l4_jobs.specs.Expectations.{status_by, unmet_by};
 ghost use Rattle.l4_jobs.specs.Inputs.{IsRead};
 ghost use Rattle.l4_jobs.specs.Outputs.{list_of, output_of};
-ghost use Rattle.l4_jobs.specs.Runs.{IsReplayJobDone, IsRunDone, IsRunJobDone, IsWritten};
+ghost use Rattle.l4_jobs.specs.Runs.{IsReplayJobDone, IsRunJobDone, IsWritten};
 ghost use Rattle.l4_jobs.specs.Runs.{lines_by, list_for, report_of, status_of_ending};
-ghost use Rattle.l4_jobs.specs.Schedules.{IsReplayFault, IsRunAsked, fault_of_turns};
+ghost use Rattle.l4_jobs.specs.Schedules.{IsReplayFault, fault_of_turns};
 ghost use Rattle.l4_jobs.specs.declared.fault.Fault.TheVariants.{NoMemory as OutOfMemory};
 
 use crate::done::{Done, Kept};
@@ -200,52 +200,6 @@ fn outcome_done<'a>(
     })
 }
 
-// What a run that is not recorded comes to.
-fn plain_run<'a, R: Threads + Sync>(
-    rt: &R,
-    alloc: Global,
-    text: &[u8],
-    machine: &Machine,
-    turns: u64,
-    printed: Printed,
-    expected: Option<&Expectations<'_>>,
-) -> Result<Done<'a>, Fault<'a>>
-    ensures ok { IfOk result (λ done.
-        IsRunDone printed text.now machine.now (IsRunAsked machine.now turns) None
-        (option_copied expected.entry) (output_of done)) }
-    ensures err { IfErr result (λ fault. (fault ≡ OutOfMemory) ⊎
-        (fault_of_turns turns ≡ Some fault)) }
-{
-    let outcome = run_compact(rt, alloc, machine, turns, &Open)?;
-    Ok(outcome_done(alloc, printed, text, machine, outcome, expected, None)?)
-}
-
-// What a run that is recorded in the file of this name comes to.
-fn recorded_run<'a, R: Threads + Sync>(
-    rt: &R,
-    alloc: Global,
-    text: &[u8],
-    machine: &Machine,
-    turns: u64,
-    printed: Printed,
-    name: &'a str,
-    expected: Option<&Expectations<'_>>,
-) -> Result<Done<'a>, Fault<'a>>
-    ensures ok { IfOk result (λ done.
-        IsRunDone printed text.now machine.now (IsRunAsked machine.now turns) (Some name.now)
-        (option_copied expected.entry) (output_of done)) }
-    ensures err { IfErr result (λ fault. (fault ≡ OutOfMemory) ⊎
-        (fault_of_turns turns ≡ Some fault)) }
-{
-    machine.facts();
-    let (outcome, entries) = run_recorded(rt, alloc, machine, turns, &Open)?;
-    let list = Some(Kept {
-        name,
-        text: recorded_text(alloc, entries.as_slice())?,
-    });
-    Ok(outcome_done(alloc, printed, text, machine, outcome, expected, list)?)
-}
-
 /// What a run comes to on the machine that this text declares. It is recorded where a file is named
 /// for that.
 pub(crate) fn run_done<'a, R: Threads + Sync>(
@@ -261,19 +215,17 @@ pub(crate) fn run_done<'a, R: Threads + Sync>(
     ensures err { IfErr result (λ fault. (fault ≡ OutOfMemory) ⊎
         (fault_of_turns run.now.turns ≡ Some fault)) }
 {
-    match run.record_to {
-        None => plain_run(rt, alloc, text, machine, run.turns, run.printed, expected),
-        Some(name) => recorded_run(
-            rt,
-            alloc,
-            text,
-            machine,
-            run.turns,
-            run.printed,
-            name,
-            expected,
-        ),
-    }
+    let Some(name) = run.record_to else {
+        let outcome = run_compact(rt, alloc, machine, run.turns, &Open)?;
+        return Ok(outcome_done(alloc, run.printed, text, machine, outcome, expected, None)?);
+    };
+    machine.facts();
+    let (outcome, entries) = run_recorded(rt, alloc, machine, run.turns, &Open)?;
+    let list = Some(Kept {
+        name,
+        text: recorded_text(alloc, entries.as_slice())?,
+    });
+    Ok(outcome_done(alloc, run.printed, text, machine, outcome, expected, list)?)
 }
 
 // The record of a replay of these entries, where a file is named for it.

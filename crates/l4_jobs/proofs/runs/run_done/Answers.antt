@@ -1,0 +1,44 @@
+use Rattle.std.proofs.Common.{◌∙◌, List, Option, ap, map}
+use Rattle.std.specs.Option.{option_copied, option_map}
+use Rattle.l4_replay.specs.Entries.{entry_from}
+use Rattle.l4_replay.specs.declared.entries.Entry.{Entry}
+use Rattle.l4_schedules.specs.Written.{recorded_text}
+use Rattle.l4_jobs.specs.Outputs.{list_of}
+use Rattle.l4_jobs.specs.declared.done.Kept.{Kept}
+use Rattle.l4_jobs.proofs.Running.{asked_run_done, is_record}
+use Rattle.l4_jobs.proofs.runs.run_done.Goals as goal
+
+pub returns-in_default-clause-ok : goal.returns-in_default-clause-ok
+returns-in_default-clause-ok g c =
+    let m = c.args.machine.now in
+    let run = c.args.run.now in
+    let found = c.in_ok-outcome.ensures in
+    let done = c.in_ok-outcome_done.ensures in
+    asked_run_done run.printed c.args.text.now m run.turns (option_copied run.record_to) (option_copied c.args.expected) _ _
+    (λ refused. absurd (let err = found.range.1 refused in cc)) found.ok
+    (record {
+      written = done.lines;
+      said = done.said;
+      status_is = done.status;
+      recorded = rw c.in_default.is (ap (λ (list : Option Kept). list_of list) done.list);
+    })
+
+pub returns-clause-ok : goal.returns-clause-ok
+returns-clause-ok g c =
+    let m = c.args.machine.now in
+    let run = c.args.run.now in
+    let found = c.in_ok-outcome-2.ensures in
+    let done = c.in_ok-outcome_done-2.ensures in
+    let text = c.in_ok-recorded_text.ensures ∙ ap (λ (es : List Entry). recorded_text (map entry_from es)) c.as_slice.ensures.value in
+    asked_run_done run.printed c.args.text.now m run.turns (option_copied run.record_to) (option_copied c.args.expected) _ _
+    (λ refused. absurd (let err = found.range.1 refused in cc)) found.ok
+    (record {
+      written = done.lines;
+      said = done.said;
+      status_is = done.status;
+      recorded = rw c.in-Some.is (
+        _,
+        ap (λ (list : Option Kept). option_map (λ (kept : Kept). (kept.name.now, kept.text.items)) list) done.list,
+        is_record m _ _ _ c.facts.ensures.limit found.replayed found.lawful text,
+      );
+    })

@@ -1,12 +1,11 @@
 //! What a job comes to, for what its sources give.
-ghost use Rattle.std.specs.Prelude.{◌≡◌, ◌≢◌, ◌⊎◌, IfOk, IfErr, List, None, Ok, Some};
+ghost use Rattle.std.specs.Prelude.{◌≡◌, ◌≢◌, ◌⊎◌, IfOk, IfErr, None, Ok, Some};
 ghost use Rattle.std.specs.Option.{option_copied};
-ghost use Rattle.l4_expect.specs.Expected.{Expected, expectations_of};
 ghost use Rattle.l4_script.specs.Versions.{machine_of_text};
 ghost use Rattle.l4_script.specs.declared.text.fault.TextFaultKind.TheVariants.{NoMemory as NoMemoryKind};
 ghost use Rattle.l4_commands.specs.Files.{second_file_of};
 ghost use Rattle.l4_jobs.specs.Expectations.{scope_of};
-ghost use Rattle.l4_jobs.specs.Jobs.{IsAskedFault, IsDone, IsDoneFor, IsDoneOn, IsFault};
+ghost use Rattle.l4_jobs.specs.Jobs.{IsDone, IsDoneFor, IsDoneOn, IsFault};
 ghost use Rattle.l4_jobs.specs.Jobs.{IsFaultFor};
 ghost use Rattle.l4_jobs.specs.Jobs.{IsFaultOn, IsFaultyDone, IsInLinesFor, IsTextFault};
 ghost use Rattle.l4_jobs.specs.Outputs.{output_of};
@@ -82,47 +81,6 @@ fn scope_of(job: &Job<'_>) -> Scope
     }
 }
 
-// What a job comes to in lines, on the machine of a text, by this text of expectations.
-fn done_by<
-    'a,
-    S: Source,
-    P: Progress,
-    F: Fn(&Machine, RunJob<'a>, Option<&Expectations<'_>>) -> Result<Done<'a>, Fault<'a>>,
->(
-    alloc: Global,
-    job: &Job<'a>,
-    text: &[u8],
-    machine: &Machine,
-    second: &mut S,
-    asked: &[u8],
-    progress: &mut P,
-    run: F,
-) -> Result<Done<'a>, Fault<'a>>
-    requires callable { F.IsAlwaysCallable run }
-    requires runs { MakesRuns text.now (F.post run) }
-    requires parsed { machine_of_text text.now ≡ Ok machine.now }
-    ensures ok { IfOk result (λ done. (lines : List Expected) ×
-        (expectations_of (scope_of job.now) asked.now ≡ Ok lines) ×
-        IsDoneOn job.now text.now machine.now (S.gives second.old) (Some lines)
-        (output_of done)) }
-    ensures err { IfErr result (λ fault. (fault ≡ OutOfMemory) ⊎
-        IsAskedFault job.now machine.now (S.gives second.old)
-        (expectations_of (scope_of job.now) asked.now) fault) }
-    ensures unread { second_file_of job.now ≡ None → second.new ≡ second.old }
-{
-    let expected = Expectations::parse(alloc, scope_of(job), asked)?;
-    done_on(
-        alloc,
-        job,
-        text,
-        machine,
-        second,
-        Some(&expected),
-        progress,
-        run,
-    )
-}
-
 // What a job comes to in lines, on the machine of a text. What is expected of it is read and judged
 // first.
 fn done_for<
@@ -154,13 +112,14 @@ fn done_for<
         return done_on(alloc, job, text, machine, second, None, progress, run);
     };
     let asked = read_all(alloc, name, expects)?;
-    done_by(
+    let expected = Expectations::parse(alloc, scope_of(job), asked.as_slice())?;
+    done_on(
         alloc,
         job,
         text,
         machine,
         second,
-        asked.as_slice(),
+        Some(&expected),
         progress,
         run,
     )
@@ -185,38 +144,7 @@ fn done_without<'a>(
     }
 }
 
-// What a job comes to in lines for a text, which is parsed first. `run` makes a run.
-fn plain_done_of<
-    'a,
-    S: Source,
-    X: Source,
-    P: Progress,
-    F: Fn(&Machine, RunJob<'a>, Option<&Expectations<'_>>) -> Result<Done<'a>, Fault<'a>>,
->(
-    alloc: Global,
-    job: &Job<'a>,
-    text: &[u8],
-    second: &mut S,
-    expects: &mut X,
-    progress: &mut P,
-    run: F,
-) -> Result<Done<'a>, Fault<'a>>
-    requires callable { F.IsAlwaysCallable run }
-    requires runs { MakesRuns text.now (F.post run) }
-    ensures ok { IfOk result (λ done. IsInLinesFor job.now text.now (machine_of_text text.now)
-        (S.gives second.old) (X.gives expects.old) (output_of done)) }
-    ensures err { IfErr result (λ fault. (fault ≡ OutOfMemory) ⊎
-        IsFaultFor job.now (machine_of_text text.now) (S.gives second.old)
-        (X.gives expects.old) fault) }
-    ensures unread { second_file_of job.now ≡ None → second.new ≡ second.old }
-{
-    match Machine::parse(alloc, text) {
-        Ok(machine) => done_for(alloc, job, text, &machine, second, expects, progress, run),
-        Err(fault) => done_without(alloc, job, text, fault),
-    }
-}
-
-// What a job comes to for a text. `run` makes a run.
+// What a job comes to for a text, which is parsed first. `run` makes a run.
 pub(crate) fn done_of<
     'a,
     S: Source,
@@ -241,7 +169,10 @@ pub(crate) fn done_of<
         (X.gives expects.old) fault) }
     ensures unread { second_file_of job.now ≡ None → second.new ≡ second.old }
 {
-    let done = plain_done_of(alloc, job, text, second, expects, progress, run)?;
+    let done = match Machine::parse(alloc, text) {
+        Ok(machine) => done_for(alloc, job, text, &machine, second, expects, progress, run)?,
+        Err(fault) => done_without(alloc, job, text, fault)?,
+    };
     Ok(told_done(alloc, job, done)?)
 }
 

@@ -28,11 +28,10 @@ fn reason_text(alloc: Global, name: &str, reason: Reason) -> Result<Vec<u8>, NoM
 }
 
 // Why a line can't be asked for, where its kind alone does not say it.
-fn wrong_text(alloc: Global, wrong: Wrong) -> Result<Vec<u8>, NoMemory>
-    ensures { IfOk result (λ text. text.items ≡ wrong_text wrong) }
+fn wrong_text(wrong: Wrong) -> &'static str
+    ensures { result.now ≡ wrong_text wrong }
 {
-    let mut text = Vec::new(alloc);
-    let words = match wrong {
+    match wrong {
         Wrong::BadWord => {
             "no line that may be asked for has such a word there, or so few or so many words\n"
         }
@@ -42,10 +41,8 @@ fn wrong_text(alloc: Global, wrong: Wrong) -> Result<Vec<u8>, NoMemory>
         Wrong::Number => {
             "no number of a send may be asked for, but any send of a thread, as waiting 1.1#* 2.1\n"
         }
-        Wrong::BadLine | Wrong::Unknown => return Ok(text),
-    };
-    text.extend_from_slice(words.as_bytes())?;
-    Ok(text)
+        Wrong::BadLine | Wrong::Unknown => "",
+    }
 }
 
 // What explains a fault of a job on the text in this file.
@@ -60,7 +57,9 @@ fn explanation(
     match fault {
         Fault::Text { .. } => fault_shown(alloc, file, text),
         Fault::Read(name, reason) => reason_text(alloc, name, *reason),
-        Fault::Expectation(_, wrong) | Fault::Condition(_, wrong) => wrong_text(alloc, *wrong),
+        Fault::Expectation(_, wrong) | Fault::Condition(_, wrong) => {
+            Ok(Vec::from_slice(alloc, wrong_text(*wrong).as_bytes())?)
+        }
         _ => Ok(Vec::new(alloc)),
     }
 }

@@ -209,7 +209,7 @@ def main(program, cases="crates/l4_cases/data", count=0):
             machine, commands = commands_of(case)
             for words, given in commands:
                 words = [word for word in words if word != "--json"]
-                if not words or words[0] not in VERBS or {"--help", "-h", "--chart"} & {*words}:
+                if not words or words[0] not in VERBS or {"--help", "-h", "--chart", "--color"} & {*words}:
                     continue
                 folder = cases
                 if case.suffix == ".case":

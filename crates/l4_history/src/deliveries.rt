@@ -18,7 +18,7 @@ use l4_types::steps::Step;
 
 /// Whether a delivery shows the thread that sends.
 #[inline(always)]
-pub(crate) fn shows_sender(delivery: &DeliveryRef<'_>) -> bool
+pub fn shows_sender(delivery: &DeliveryRef<'_>) -> bool
     ensures { IsTrue result → ShowsSender delivery.now }
 {
     let sender = delivery.name.thread();
@@ -27,7 +27,7 @@ pub(crate) fn shows_sender(delivery: &DeliveryRef<'_>) -> bool
 
 /// The head of a delivery whose words begin at a place of the row. None where it takes more room.
 #[inline(always)]
-pub(crate) fn head(delivery: &DeliveryRef<'_>, threads: &mut Threads, start: u32) -> Option<Head>
+pub fn head(delivery: &DeliveryRef<'_>, threads: &mut Threads, start: u32) -> Option<Head>
     requires { slot_count ≤ length threads.old.slots.items }
     ensures kept { Keeps threads.old.slots.items threads.new.slots.items }
     ensures count { length threads.new.slots.items ≡ length threads.old.slots.items }
@@ -49,7 +49,7 @@ pub(crate) fn head(delivery: &DeliveryRef<'_>, threads: &mut Threads, start: u32
 
 /// What is told of a message beside its words, which begin at a place of the row.
 #[inline(always)]
-pub(crate) fn body(delivery: &DeliveryRef<'_>, start: u32) -> Body
+pub fn body(delivery: &DeliveryRef<'_>, start: u32) -> Body
     ensures { IsBodyOf delivery.now start result }
 {
     let message = &delivery.message;
@@ -64,7 +64,7 @@ pub(crate) fn body(delivery: &DeliveryRef<'_>, start: u32) -> Body
 
 /// A delivery as a step, with the ids that it shows.
 #[inline(always)]
-pub(crate) fn wide_head(delivery: &DeliveryRef<'_>, start: u32) -> Step<WideHead>
+pub fn wide_head(delivery: &DeliveryRef<'_>, start: u32) -> Step<WideHead>
     ensures { (w : WideHead) × (result ≡ Deliver w) × IsWideHeadOf delivery.now start w }
 {
     Step::Deliver(WideHead {
@@ -78,7 +78,7 @@ pub(crate) fn wide_head(delivery: &DeliveryRef<'_>, start: u32) -> Step<WideHead
 
 /// The delivery of the head at an index.
 #[inline(always)]
-pub(crate) fn delivery<'a>(
+pub fn delivery<'a>(
     threads: &Threads,
     heads: &[Head],
     words: &'a [u64],
@@ -101,7 +101,7 @@ pub(crate) fn delivery<'a>(
 
 /// The message that shows these ids.
 #[inline(always)]
-pub(crate) fn message<'a>(
+pub fn message<'a>(
     body: &Body,
     words: &'a [u64],
     shown: GlobalId,
@@ -122,7 +122,7 @@ pub(crate) fn message<'a>(
 
 /// The delivery of a head that may show other ids.
 #[inline(always)]
-pub(crate) fn wide_delivery<'a>(head: &WideHead, words: &'a [u64]) -> DeliveryRef<'a>
+pub fn wide_delivery<'a>(head: &WideHead, words: &'a [u64]) -> DeliveryRef<'a>
     requires { IsBody (length words.now) head.now.body }
     ensures { wide_delivery words.now head.now ≡ delivered result }
 {
@@ -137,7 +137,7 @@ pub(crate) fn wide_delivery<'a>(head: &WideHead, words: &'a [u64]) -> DeliveryRe
 /// The step that no record fits at an index. Inlined, though it is rare: a step that a call returns
 /// lies in memory, and so does each step that may be it.
 #[inline(always)]
-pub(crate) fn wide_step<'a>(wide: &[Step<WideHead>], words: &'a [u64], index: usize) -> StepRef<'a>
+pub fn wide_step<'a>(wide: &[Step<WideHead>], words: &'a [u64], index: usize) -> StepRef<'a>
     requires known { index < length wide.now }
     requires within { All (IsWide (length words.now)) wide.now }
     ensures { wide_at words.now (slice_get wide.now index) ≡ seen result }

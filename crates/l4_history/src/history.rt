@@ -31,12 +31,12 @@ const CHUNK_STEPS: usize = 64;
 /// deliveries lie in one row.
 #[derive(Drop)]
 pub struct History {
-    threads: Threads,
-    records: Vec<Record>,
-    heads: Vec<Head>,
+    pub threads: Threads,
+    pub records: Vec<Record>,
+    pub heads: Vec<Head>,
     // The steps that no record fits.
-    wide: Vec<Step<WideHead>>,
-    words: Vec<u64>,
+    pub wide: Vec<Step<WideHead>>,
+    pub words: Vec<u64>,
     room: usize,
 }
 

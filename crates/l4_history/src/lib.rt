@@ -19,10 +19,10 @@
 //! ```
 #![tactic(auto)]
 
-mod deliveries;
+pub mod deliveries;
 pub mod history;
-mod records;
-mod rows;
+pub mod records;
+pub mod rows;
 pub mod sink;
 pub mod steps;
-mod threads;
+pub mod threads;

@@ -13,7 +13,7 @@ const PAGED: usize = 16_384;
 const INDEXES: usize = 1 << 32;
 
 /// Makes room for more elements. Behind the first of them it makes room for many at once.
-pub(crate) fn reserve_more<T>(row: &mut Vec<T>, more: usize) -> Result<(), NoMemory>
+pub fn reserve_more<T>(row: &mut Vec<T>, more: usize) -> Result<(), NoMemory>
     ensures items { row.new.items ≡ row.old.items }
     ensures grown { vec_capacity row.old ≤ vec_capacity row.new }
     ensures ok { OnOk result (vec_len row.new + more ≤ vec_capacity row.new) }
@@ -27,7 +27,7 @@ pub(crate) fn reserve_more<T>(row: &mut Vec<T>, more: usize) -> Result<(), NoMem
 }
 
 /// The same, and sees to it that an index of 32 bits names each element.
-pub(crate) fn reserve_indexes<T>(row: &mut Vec<T>, more: usize) -> Result<(), NoMemory>
+pub fn reserve_indexes<T>(row: &mut Vec<T>, more: usize) -> Result<(), NoMemory>
     ensures items { row.new.items ≡ row.old.items }
     ensures grown { vec_capacity row.old ≤ vec_capacity row.new }
     ensures ok { OnOk result (HasRoom (vec_len row.new) (vec_capacity row.new) more) }
@@ -40,7 +40,7 @@ pub(crate) fn reserve_indexes<T>(row: &mut Vec<T>, more: usize) -> Result<(), No
 
 /// Appends words, for which there is room. Mostly a message has none.
 #[inline(always)]
-pub(crate) fn append(words: &mut Vec<u64>, more: &[u64])
+pub fn append(words: &mut Vec<u64>, more: &[u64])
     requires { vec_len words.old + length more.now ≤ vec_capacity words.old }
     ensures items { words.new.items ≡ words.old.items ++ more.now }
     ensures capacity { vec_capacity words.old ≤ vec_capacity words.new }

@@ -9,9 +9,9 @@ use std::marker::Model;
 /// Iterates over steps of a history in order, without copying their words.
 #[derive(Drop)]
 pub struct Steps<'a> {
-    pub(crate) history: &'a History,
-    pub(crate) next: usize,
-    pub(crate) end: usize,
+    pub history: &'a History,
+    pub next: usize,
+    pub end: usize,
 }
 
 impl<'a> Model for Steps<'a> {

@@ -14,8 +14,8 @@ const SLOTS: usize = 1024;
 /// The threads that steps name, each in the slot of its number. A slot keeps the first thread that
 /// came to it.
 #[derive(Drop)]
-pub(crate) struct Threads {
-    pub(crate) slots: Vec<GlobalId>,
+pub struct Threads {
+    pub slots: Vec<GlobalId>,
     ghost whole: { AllOrNone slots.items },
 }
 
@@ -30,7 +30,7 @@ fn home(thread: GlobalId) -> usize
 
 impl Threads {
     /// No threads, and no slots. It takes no memory.
-    pub(crate) fn new(alloc: Global) -> Threads
+    pub fn new(alloc: Global) -> Threads
         ensures { result.slots.items ≡ [] }
     {
         Threads {
@@ -39,7 +39,7 @@ impl Threads {
     }
 
     /// Makes all slots, where there are none. In each stands a thread that belongs into another one.
-    pub(crate) fn open(&mut self) -> Result<(), NoMemory>
+    pub fn open(&mut self) -> Result<(), NoMemory>
         ensures kept { Keeps self.old.slots.items self.new.slots.items }
         ensures ok { OnOk result (slot_count ≤ length self.new.slots.items) }
         ensures err { OnErr result (self.new.slots.items ≡ self.old.slots.items) }
@@ -53,7 +53,7 @@ impl Threads {
 
     /// The slot of a thread. None where another one has it: then nothing is changed.
     #[inline(always)]
-    pub(crate) fn slot_of(&mut self, thread: GlobalId) -> Option<u16>
+    pub fn slot_of(&mut self, thread: GlobalId) -> Option<u16>
         requires { slot_count ≤ length self.old.slots.items }
         ensures kept { Keeps self.old.slots.items self.new.slots.items }
         ensures count { length self.new.slots.items ≡ length self.old.slots.items }
@@ -85,7 +85,7 @@ impl Threads {
 
     /// The thread in a slot.
     #[inline(always)]
-    pub(crate) fn get(&self, slot: u16) -> GlobalId
+    pub fn get(&self, slot: u16) -> GlobalId
         requires { IsSlot self.now.slots.items slot }
         ensures { result ≡ thread_at self.now.slots.items slot }
     {

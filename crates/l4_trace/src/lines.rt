@@ -23,7 +23,7 @@ use l4_words::pieces::{
 const KEYWORD_BYTES: usize = 8;
 
 /// A line takes at most this many bytes, as that of a delivery whose message has the most words.
-pub(crate) const LONGEST_LINE: usize = 134 + WORD_BYTES * MOST_WORDS;
+pub const LONGEST_LINE: usize = 134 + WORD_BYTES * MOST_WORDS;
 
 // The line of a step, by the row of its keyword.
 macro_rules! write_rows {
@@ -63,7 +63,7 @@ pub fn write_step(step: &StepRef<'_>, out: &mut Vec<u8>) -> Result<(), NoMemory>
 /// its length known. One buffer serves many lines. Inlined: looking at a step costs less than
 /// making one to pass on.
 #[inline(always)]
-pub(crate) fn append_line(
+pub fn append_line(
     step: &StepRef<'_>,
     line: &mut [u8],
     out: &mut Vec<u8>,
@@ -80,7 +80,7 @@ pub(crate) fn append_line(
 
 // Writes the line of a step at the end of the room for a line. Returns where the line starts.
 #[inline(always)]
-fn write_line(step: &StepRef<'_>, line: &mut [u8]) -> usize
+pub fn write_line(step: &StepRef<'_>, line: &mut [u8]) -> usize
     requires { LONGEST_LINE ≤ length line.old }
     ensures within { result ≤ length line.new }
     ensures written { drop result line.new ≡ line_of (seen step.now) }

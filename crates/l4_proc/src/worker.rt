@@ -30,6 +30,7 @@ pub struct Worker<'m> {
 }
 
 // Handles a letter.
+#[inline(always)]
 fn handle(
     core: &mut Core<'_>,
     letter: &LetterRef<'_>,
@@ -171,6 +172,7 @@ impl<'m> Worker<'m> {
 
     /// Takes a turn as the event that has begun: handles the letter in hand, else takes the core's
     /// turn. If the turn is not taken, core and letter stay.
+    #[inline(always)]
     pub fn take_turn(&mut self) -> Result<(), Stop>
         requires open { IsOpen self.old.log.buffer }
         requires room { 0 < self.old.log.ends.room }

@@ -45,6 +45,7 @@ fn choice_of(run: &Scheduler<'_>, entry: Entry) -> Option<Choice>
 }
 
 /// Does what an entry asks for, if it can be done.
+#[inline(always)]
 pub(crate) fn take(run: &mut Scheduler<'_>, entry: &Entry) -> Result<(), NoMemory>
     requires run { HasRun (under_way run.old) }
     requires few { length (under_way run.old).order < 2 ^ 61 }

@@ -171,6 +171,7 @@ impl ProcessorState<'_> {
     }
 
     // The duty of a thread in a receive phase.
+    #[inline(always)]
     fn receive_duty(&self, place: usize) -> Option<Duty>
         requires { place < length self.now.machine.threads }
         ensures { option_map (duty_of self.now.local.owed place) result ≡

@@ -72,6 +72,7 @@ impl Core<'_> {
     }
 
     /// Gives a thread the message that another one sends, with this tag.
+    #[inline(always)]
     pub(super) fn receive_from(&mut self, place: usize, sender: usize, tag: MsgTag)
         requires receiver { IsReceiver self.old place }
         requires sender { sender < length self.old.machine.threads }

@@ -64,6 +64,7 @@ impl Core<'_> {
     }
 
     /// Delivers the message of a sender to a receiver.
+    #[inline(always)]
     pub(super) fn deliver<S: Sink>(
         &mut self,
         receiver: usize,
@@ -111,6 +112,7 @@ impl Core<'_> {
 
     // Ends a send that is decided here. A sender of this processor goes on at once, another one by
     // a letter.
+    #[inline(always)]
     fn end_send<S: Sink>(&mut self, place: usize, decision: Decision, buffer: &mut EventBuffer<S>)
         requires sender { IsSender self.old place }
         requires slots { 0 < buffer.old.slots }

@@ -5,7 +5,7 @@ ghost use Rattle.std.specs.Prelude.{MatchOption, OnOk, Ok, Err, None, Some, leng
 ghost use Rattle.std.specs.Prelude.{true};
 ghost use Rattle.std.specs.Option.{option_map};
 ghost use Rattle.l4_model.specs.Machine.{most_processors};
-ghost use Rattle.l4_core_model.specs.Schedules.{Entry as ModelEntry};
+ghost use Rattle.l4_core_model.specs.Schedules.{Entry as ModelEntry, TurnOf};
 ghost use Rattle.l4_replay.specs.declared.fault.RunFault.TheVariants.{NoMemory as OutOfMemory};
 ghost use Rattle.l4_replay.specs.Entries.{entries_fault, entry_from, is_entry_of, most_events};
 ghost use Rattle.l4_schedules.specs.Items.{items_of, items_left, clock_of, processor_of};
@@ -161,6 +161,37 @@ impl<'a> Items<'a> {
             _ => None,
         }
     }
+
+    // The next item as a number above 9, less 10, where it spells a processor in two digits and has a
+    // comma behind it. Else the item stays.
+    #[inline(always)]
+    fn next_second_digit(&mut self) -> Option<u8>
+        ensures { MatchOption result (self.new ≡ self.old) (λ digit.
+            (digit < 6) × (self.old ≡ (49 ∷ (48 + digit) ∷ []) ∷ self.new)) }
+    {
+        match self.rest {
+            Some([b'1', digit @ b'0'..=b'5', b',', rest @ ..]) => {
+                self.rest = Some(rest);
+                Some(digit - b'0')
+            }
+            _ => None,
+        }
+    }
+
+    // The next item as the number of a processor, where it spells one and has a comma behind it.
+    // Else the item stays.
+    #[inline(always)]
+    fn next_turn(&mut self) -> Option<u8>
+        ensures { MatchOption result (self.new ≡ self.old) (λ cpu.
+            (cpu < most_processors) × (item : List ℕ) × (self.old ≡ item ∷ self.new) ×
+            (entry_of item ≡ Some (TurnOf cpu))) }
+    {
+        if let Some(digit) = self.next_digit() {
+            return Some(digit);
+        }
+        let digit = self.next_second_digit()?;
+        Some(10 + digit)
+    }
 }
 
 // The first item of a list, and what follows its comma. None where there is no comma.
@@ -197,8 +228,8 @@ fn entries_of(
     Ok(entries)
 }
 
-// Appends the turns of the next items, as long as each is one digit. Mostly all items but the last
-// are.
+// Appends the turns of the next items, as long as each is the number of a processor. Mostly all
+// items but the last are.
 #[inline(always)]
 fn read_turns(
     machine: &Machine,
@@ -214,7 +245,7 @@ fn read_turns(
     ensures err { IfErr result (λ fault. (fault ≡ OutOfMemory) ⊎
         (read_items machine.now (map entry_from entries.old.items) items.old ≡ Err fault)) }
 {
-    'turns: while let Some(cpu) = items.next_digit() {
+    'turns: while let Some(cpu) = items.next_turn() {
         if cpu >= machine.cpus() {
             return Err(RunFault::Schedule(entries.len() + 1));
         }

@@ -8,7 +8,6 @@ use l4_script::machine::Machine;
 use l4_types::errors::NoMemory;
 use l4_types::letter_ref::LetterRef;
 use std::alloc::{AllocError, Global};
-use std::mem;
 
 /// For each processor of a machine the letters that came from it and were not taken yet.
 #[derive(Drop)]
@@ -67,17 +66,6 @@ impl Inbox {
         self.queues[usize::from(from)].push(letter)?;
         self.posters |= 1 << from;
         Ok(())
-    }
-
-    /// Takes all of it out, and leaves an inbox that no letter can come to.
-    pub(crate) fn take(&mut self) -> Inbox
-        ensures { result ≡ self.old }
-    {
-        let nothing = Inbox {
-            queues: Vec::new(*self.queues.allocator()),
-            posters: 0,
-        };
-        mem::replace(self, nothing)
     }
 
     /// The letters that came from a processor and were not taken yet.

@@ -191,10 +191,13 @@ fn deliver_first(stations: &mut [Station<'_>], from: u8, to: u8) -> Result<(), A
     requires next { option_map (λ p. p.0) (slice_get (letters_of stations.old from) 0) ≡ Some to }
     ensures { OnOk result (HasDeliveredOne from stations.old stations.new) }
 {
-    let mut inbox = stations[usize::from(to)].take_inbox();
-    let passed = stations[usize::from(from)].pass_letter(from, &mut inbox);
-    stations[usize::from(to)].put_inbox(inbox);
-    passed
+    if from < to {
+        let (front, back) = stations.split_at_mut(usize::from(to));
+        front[usize::from(from)].pass_on(from, &mut back[0])
+    } else {
+        let (front, back) = stations.split_at_mut(usize::from(from));
+        back[0].pass_on(from, &mut front[usize::from(to)])
+    }
 }
 
 // Whether none of these processors has anything to do, a deadline or a letter.

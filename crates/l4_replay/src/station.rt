@@ -149,20 +149,19 @@ impl<'m> Station<'m> {
         Ok(())
     }
 
-    /// Takes out the letters that have come, until they are put back.
-    pub(crate) fn take_inbox(&mut self) -> Inbox
-        ensures inbox { result ≡ self.old.inbox }
-        ensures worker { self.new.worker ≡ self.old.worker }
+    /// Passes the first of these letters on to the processor that it goes to. `from` is the number of
+    /// this processor. If memory is refused, nothing is changed.
+    #[inline(always)]
+    pub(crate) fn pass_on(&mut self, from: u8, to: &mut Station<'_>) -> Result<(), AllocError>
+        requires { from < length (letters_in to.old.inbox) }
+        ensures same { IsSameStation self.old self.new }
+        ensures worker { to.new.worker ≡ to.old.worker }
+        ensures rest { OnOk result (letters_out self.new ≡ drop 1 (letters_out self.old)) }
+        ensures come { OnOk result (IfSome (slice_get (letters_out self.old) 0) (λ p.
+            letters_in to.new.inbox ≡
+            changed (λ letters. letters ++ p.1 ∷ []) (letters_in to.old.inbox) from)) }
     {
-        self.inbox.take()
-    }
-
-    /// Puts letters back that were taken out.
-    pub(crate) fn put_inbox(&mut self, inbox: Inbox)
-        ensures inbox { self.new.inbox ≡ inbox }
-        ensures worker { self.new.worker ≡ self.old.worker }
-    {
-        self.inbox = inbox;
+        self.pass_letter(from, &mut to.inbox)
     }
 
     /// The least deadline that a thread is armed for, in ticks.

@@ -46,7 +46,8 @@ pub(crate) enum Duty {
 
 impl ProcessorState<'_> {
     /// Whether nobody has an id, as far as is known here: it is local, undeclared, or that of a
-    /// deleted thread.
+    /// deleted thread. It is a call of its own, so that what asks for it last can be inlined.
+    #[inline(never)]
     pub(crate) fn names_nobody(&self, id: ThreadId) -> bool
         ensures { result ≡ names_nobody self.now.machine self.now.local id }
     {
@@ -171,6 +172,7 @@ impl ProcessorState<'_> {
     }
 
     // The duty of a thread in a receive phase.
+    #[inline(always)]
     fn receive_duty(&self, place: usize) -> Option<Duty>
         requires { place < length self.now.machine.threads }
         ensures { option_map (duty_of self.now.local.owed place) result ≡

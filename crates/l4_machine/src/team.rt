@@ -300,6 +300,7 @@ pub(crate) fn earliest(a: Option<u64>, b: Option<u64>) -> Option<u64>
 }
 
 // Drains the mail. Returns whether no letter is left to handle.
+#[inline(always)]
 fn come_to_rest(alloc: Global, processors: &mut Vec<Processor<'_>>) -> Result<bool, NoMemory>
     requires one { AreOneFabric (map (λ p. p.port) processors.old.items) }
     requires all { are_all (map (λ p. p.port) processors.old.items) ≡ true }

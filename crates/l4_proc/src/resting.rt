@@ -140,7 +140,9 @@ pub fn rest(alloc: Global, processors: &mut Vec<Processor<'_>>) -> Result<bool, 
     rest_several(alloc, processors)
 }
 
-// Drains the mail of all processors of a fabric.
+// Drains the mail of all processors of a fabric. It is a call of its own: a lone processor is spared
+// the room for letters.
+#[inline(never)]
 fn rest_several(alloc: Global, processors: &mut Vec<Processor<'_>>) -> Result<bool, RestFault>
     requires one { AreOneFabric (map (λ p. p.port) processors.old.items) }
     requires all { are_all (map (λ p. p.port) processors.old.items) ≡ true }

@@ -145,7 +145,7 @@ pub fn work_together<R: Threads + Sync, G: Gate + Sync>(
 )
     ensures { HaveWorkedOn turns processors.old processors.new }
 {
-    if processors.is_empty() || count_busy(processors) < 2 {
+    if processors.len() < 2 || count_busy(processors) < 2 {
         work_in_order(rt, processors, turns, gate);
     } else {
         work_side_by_side(rt, processors, turns, gate);

@@ -88,7 +88,8 @@ impl<'m> Team<'m> {
     {
         self.machine.facts();
         for _ in 0..self.turns {
-            if self.events() >= self.turns || !self.go_on(rt, alloc, gate)? {
+            let events = self.events();
+            if events >= self.turns || !self.go_on(rt, alloc, gate, self.turns - events)? {
                 return Ok(());
             }
         }
@@ -128,16 +129,18 @@ impl<'m> Team<'m> {
     }
 
     // Does a round of turns, or, if there is nothing else to do, advances the clocks to the least
-    // deadline. Returns whether it did one of these.
+    // deadline. Returns whether it did one of these. So many turns are left.
     fn go_on<R: Threads + Sync, G: Gate + Sync>(
         &mut self,
         rt: &R,
         alloc: Global,
         gate: &G,
+        left: u64,
     ) -> Result<bool, NoMemory>
         requires team { IsTeam self.old }
         requires few { self.old.turns ≤ most_turns }
         requires left { count_events self.old.processors.items < self.old.turns }
+        requires count { left ≡ self.old.turns - count_events self.old.processors.items }
         ensures team { OnOk result (IsTeam self.new) }
         ensures machine { self.new.machine ≡ self.old.machine }
         ensures turns { self.new.turns ≡ self.old.turns }
@@ -148,7 +151,7 @@ impl<'m> Team<'m> {
             (count_events self.new.processors.items < self.old.turns + self.old.machine.now.cpus) }
     {
         if !self.is_idle() {
-            self.work(rt, alloc, gate)?;
+            self.work(rt, alloc, gate, left)?;
             return Ok(true);
         }
         match self.first_deadline() {
@@ -194,10 +197,12 @@ impl<'m> Team<'m> {
         rt: &R,
         alloc: Global,
         gate: &G,
+        left: u64,
     ) -> Result<(), NoMemory>
         requires team { IsTeam self.old }
         requires few { self.old.turns ≤ most_turns }
         requires left { count_events self.old.processors.items < self.old.turns }
+        requires count { left ≡ self.old.turns - count_events self.old.processors.items }
         requires busy { AreIdle self.old.processors.items ×
             HaveHandledAll self.old.processors.items → ⊥ }
         ensures team { OnOk result (IsTeam self.new) }
@@ -209,7 +214,7 @@ impl<'m> Team<'m> {
             (count_events self.new.processors.items < self.old.turns + self.old.machine.now.cpus) }
     {
         law_core_run();
-        let share = share(self.turns - self.events(), self.machine.cpus());
+        let share = share(left, self.machine.cpus());
         work_together(rt, self.processors.as_mut_slice(), share, gate);
         let all_handled = come_to_rest(alloc, &mut self.processors)?;
         check_stops(self.processors.as_slice())?;

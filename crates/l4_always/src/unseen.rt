@@ -22,8 +22,8 @@ fn writes_any(parts: &Parts, instr: &Instr) -> bool
     match *instr {
         Instr::Set(_, _)
         | Instr::Copy(_, _)
-        | Instr::Add(_, _)
-        | Instr::ShortAdd(_, _)
+        | Instr::Compute(_, _, _)
+        | Instr::ShortCompute(_, _, _)
         | Instr::From(_)
         | Instr::ShortFrom(_)
         | Instr::Tag(_) => parts.has(Part::Registers),

@@ -5,7 +5,7 @@ use Rattle.std.specs.List.{cons_option, list_all}
 use Rattle.std.specs.Option.{option_map}
 use Rattle.std.proofs.lemmas.Bool.{and_parts, and_from, ltb-true, lt-ltb, eq-eqb, eqb-true, false_from_ne_true, not_from_false}
 use Rattle.l4_model.specs.Words.{Format, W64, W32, GlobalId, Id, NilThread, AnyThread, AnyLocalThread, LocalThread, GlobalThread, Period, has_typed_words, has_word_in, id_in, same_format, is_global, is_word_in, last_register}
-use Rattle.l4_model.specs.Machine.{Declaration, Value, Word, Register, Sum, From, Assign, Instr, Run, Tag, Vs, Ipc, Ask, Jump, OnErr, OnLabel, OnWord, OnFrom, End, Machine, OrderKind, CancelSend, CancelReceive, CancelBoth, Delete, IdFrom, Fixed, Last, InRegister, instruction_at, same_space}
+use Rattle.l4_model.specs.Machine.{Declaration, Value, Word, Register, Computed, From, Assign, Instr, Run, Tag, Vs, Ipc, Ask, Jump, OnErr, OnLabel, OnWord, OnFrom, End, Machine, OrderKind, CancelSend, CancelReceive, CancelBoth, Delete, IdFrom, Fixed, Last, InRegister, instruction_at, same_space}
 use Rattle.l4_model.specs.World.{Context, Message, Name, Owed, Phase, Ready, Sending, Receiving, Ordering, Ended, Deleted, Receive, Send, Thread, World, is_alive, opening}
 use Rattle.l4_model.specs.Rules.{RunsAlone, Orders, act, ask_act, bit, id_from, failed, ipc_act, is_admitted, message_of, originator, permitted, ran, receive_phase, received, received_tag, register}
 use Rattle.l4_model.specs.Conditions.{◌>>=◌, Pending, undecided}
@@ -70,7 +70,7 @@ assigned_suits f a value h = register_suits a (and_parts (is_register a) (can_be
 written_suits : (f : Format) (size : ℕ) (i : Instr) → second_can_be_written f size i ≡ true → suits i ≡ true
 written_suits f size (Run (Assign a (Word word))) h = assigned_suits f a (Word word) h
 written_suits f size (Run (Assign a (Register b))) h = assigned_suits f a (Register b) h
-written_suits f size (Run (Assign a (Sum format word))) h = assigned_suits f a (Sum format word) h
+written_suits f size (Run (Assign a (Computed operation format word))) h = assigned_suits f a (Computed operation format word) h
 written_suits f size (From format a) h = register_suits a (and_parts (is_register a) (same_format format f) h).0
 written_suits f size (Tag word) h = (and_parts (is_word_in f word) (word / 2 ^ 6 % 64 == 0) h).1
 written_suits f size (Vs from) h = from_too f from h

@@ -7,7 +7,7 @@ use Rattle.std.proofs.lemmas.Bool.{and_parts, and_from, not-true}
 use Rattle.std.proofs.lemmas.List.{take_at}
 use Rattle.std.proofs.lemmas.List.Sums.{sum_by-cons, sum_by-append}
 use Rattle.l4_model.specs.Words.{Format, GlobalId}
-use Rattle.l4_model.specs.Machine.{Machine, Declaration, Word, Register, Sum, FromWord, Assign, Instr, Run, place_of, is_declared}
+use Rattle.l4_model.specs.Machine.{Machine, Declaration, Word, Register, Computed, FromWord, Assign, Instr, Run, place_of, is_declared}
 use Rattle.l4_model.specs.Steps.{Step}
 use Rattle.l4_model.specs.History.{IsHistory}
 use Rattle.l4_words.specs.Lines.{parts_of}
@@ -98,7 +98,7 @@ is_above : (f : Format) (size : ℕ) (i : Instr) → second_can_be_written f siz
 is_above f size (Run (Assign a (FromWord format))) h = (and_parts _ _ h).0
 is_above f size (Run (Assign a (Word word))) h = (and_parts _ _ h).0
 is_above f size (Run (Assign a (Register b))) h = (and_parts _ _ h).0
-is_above f size (Run (Assign a (Sum format word))) h = (and_parts _ _ h).0
+is_above f size (Run (Assign a (Computed operation format word))) h = (and_parts _ _ h).0
 is_above f size _ h = refl
 
 all_above : (f : Format) (size : ℕ) (script : List Instr) → list_all (second_can_be_written f size) script ≡ true → list_all writes_above script ≡ true

@@ -1,7 +1,8 @@
 -- What may stand behind the first word of a line.
-use Rattle.std.specs.Prelude.{ℕ, if◌then◌else◌, Option, Some, None, List, [], ◌∷◌, codes, slice_get}
+use Rattle.std.specs.Prelude.{ℕ, if◌then◌else◌, Option, Some, None, is_some, List, [], ◌∷◌, codes, slice_get}
 use Rattle.std.specs.Str.{bytes_eq}
 use Rattle.l4_model.specs.Options.{◌>>=◌}
+use Rattle.l4_script.specs.Operations.{operation_named}
 use Rattle.l4_lint.specs.declared.hints.Operand.{Operand}
 use Rattle.l4_lint.specs.declared.hints.Operand.TheVariants as operand
 use Rattle.l4_lint.specs.declared.hints.Lines.{Lines}
@@ -12,7 +13,7 @@ unfoldable pub instruction_operands : (name : List ℕ) → Option (List Operand
 instruction_operands name =
     if bytes_eq name (codes "set") then Some (operand.Register ∷ operand.Word ∷ [])
     else (if bytes_eq name (codes "copy") then Some (operand.Register ∷ operand.Source ∷ [])
-    else (if bytes_eq name (codes "add") then Some (operand.Register ∷ operand.Word ∷ [])
+    else (if is_some (operation_named name) then Some (operand.Register ∷ operand.Word ∷ [])
     else (if bytes_eq name (codes "tag") then Some (operand.Tag ∷ [])
     else (if bytes_eq name (codes "vs") then Some (operand.Id ∷ [])
     else (if bytes_eq name (codes "ipc")

@@ -7,6 +7,7 @@ ghost use Rattle.l4_lint.specs.Reading.{begins_script};
 
 use crate::bytes::split_word;
 use crate::hints::{Lines, Operand};
+use l4_script::text::operation;
 
 pub(crate) const FORMAT: &[u8] = b"l4";
 
@@ -17,8 +18,6 @@ pub(crate) const THREAD: &[u8] = b"thread";
 const SET: &[u8] = b"set";
 
 const COPY: &[u8] = b"copy";
-
-const ADD: &[u8] = b"add";
 
 const TAG: &[u8] = b"tag";
 
@@ -80,7 +79,7 @@ pub(crate) fn instruction_operands(name: &[u8]) -> Option<&'static [Operand]>
     if name == COPY {
         return Some(TWO_REGISTERS);
     }
-    if name == ADD {
+    if operation(name).is_some() {
         return Some(REGISTER_AND_WORD);
     }
     if name == TAG {

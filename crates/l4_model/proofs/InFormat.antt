@@ -7,9 +7,9 @@ use Rattle.std.proofs.lemmas.Bool.{and_parts, and_from, ltb-true, lt-ltb, eqb-tr
 use Rattle.std.proofs.lemmas.List.Folds.{list_all-append}
 use Rattle.std.proofs.lemmas.Slice.Eq.{bytes_eq-Decides}
 use Rattle.l4_model.specs.Words.{Format, W64, W32, word_limit, label_limit_in, is_word_in, same_format, GlobalId, Id, NilThread, AnyThread, AnyLocalThread, LocalThread, GlobalThread, has_word_in, word_by, word_in, number_limit, version_limit}
-use Rattle.l4_model.specs.Machine.{Machine, Declaration, Value, Word, Register, Sum, FromWord, Own, Assign, AssignTag, AssignVs, GoTo, GoToOnErr, GoToOnLabel, GoToOnWord, GoToOnFrom, Instr, Run, Ipc, Ask, End, OrderKind, CancelSend, CancelReceive, CancelBoth, Delete, instruction_at}
+use Rattle.l4_model.specs.Machine.{Machine, Declaration, Value, Word, Register, Computed, FromWord, Own, Assign, AssignTag, AssignVs, GoTo, GoToOnErr, GoToOnLabel, GoToOnWord, GoToOnFrom, Instr, Run, Ipc, Ask, End, OrderKind, CancelSend, CancelReceive, CancelBoth, Delete, instruction_at}
 use Rattle.l4_model.specs.World.{Context, Thread, World, Message, Send, Receive, Owed, Phase, Ready, Sending, Receiving, Ordering, Ended, Deleted, opening, opening_thread, is_alive}
-use Rattle.l4_model.specs.Rules.{assigned, words_after, ran, received_tag, is_cross, message_of, bit}
+use Rattle.l4_model.specs.Rules.{computed, assigned, words_after, ran, received_tag, is_cross, message_of, bit}
 use Rattle.l4_model.specs.Steps.{Step, Deliver, next}
 use Rattle.l4_model.specs.History.{run, reached}
 use Rattle.l4_model.specs.Effects.{fails, decided, receives, goes_on, asked, turned_send, turns_in, turns}
@@ -72,11 +72,11 @@ at_place f [] place h = refl
 at_place f (i ∷ script) zero h = (and_parts (writes_words f i) (list_all (writes_words f) script) h).0
 at_place f (i ∷ script) (suc place) h = at_place f script place (and_parts (writes_words f i) (list_all (writes_words f) script) h).1
 
-sum_fits : (f format : Format) (sum : ℕ) → same_format format f ≡ true → is_word_in f (sum % word_limit format) ≡ true
-sum_fits W64 W64 sum h = lt-ltb (sum % 2 ^ 64) (2 ^ 64) (omega arith)
-sum_fits W32 W32 sum h = lt-ltb (sum % 2 ^ 32) (2 ^ 32) (omega arith)
-sum_fits W64 W32 sum h = cc
-sum_fits W32 W64 sum h = cc
+counted_fits : (f format : Format) (n : ℕ) → same_format format f ≡ true → is_word_in f (n % word_limit format) ≡ true
+counted_fits W64 W64 n h = lt-ltb (n % 2 ^ 64) (2 ^ 64) (omega arith)
+counted_fits W32 W32 n h = lt-ltb (n % 2 ^ 32) (2 ^ 32) (omega arith)
+counted_fits W64 W32 n h = cc
+counted_fits W32 W64 n h = cc
 
 -- The word of an id is one of the format.
 
@@ -122,7 +122,7 @@ from_fits W32 W64 id h = cc
 assigned_fits : (f : Format) (value : Value) (a : ℕ) (c : Context) → gives_words f value ≡ true → list_all (is_word_in f) c.words ≡ true → is_word_in f (assigned c a value) ≡ true
 assigned_fits f (Word word) a c i h = i
 assigned_fits f (Register b) a c i h = all_at f c.words b h
-assigned_fits f (Sum format word) a c i h = sum_fits f format (slice_index c.words a + word) i
+assigned_fits f (Computed operation format word) a c i h = counted_fits f format (computed operation (slice_index c.words a) word) i
 assigned_fits f (FromWord format) a c i h = from_fits f format c.from i
 
 own_fits : (f : Format) (own : Own) (c : Context) → writes_words f (Run own) ≡ true → list_all (is_word_in f) c.words ≡ true → list_all (is_word_in f) (words_after c own) ≡ true

@@ -3,16 +3,16 @@
 use Rattle.std.specs.Prelude.{ℕ, ◌≡◌, Bool, true, ◌&&◌, Some, List, slice_get}
 use Rattle.std.specs.List.{list_all}
 use Rattle.l4_model.specs.Words.{Format, is_word_in, same_format}
-use Rattle.l4_model.specs.Machine.{Value, Word, Register, Sum, FromWord, Instr, Run, Assign, AssignTag, Declaration, Machine}
+use Rattle.l4_model.specs.Machine.{Value, Word, Register, Computed, FromWord, Instr, Run, Assign, AssignTag, Declaration, Machine}
 use Rattle.l4_model.specs.World.{Thread, World}
 use Rattle.l4_model.specs.Steps.{Step, Deliver}
 
--- Whether a value is a word of the format: a sum where the format counts it, and the word of `from`
--- in it. What is in a register is one already.
+-- Whether a value is a word of the format: what an operation makes where the format counts it,
+-- and the word of `from` in it. What is in a register is one already.
 abbrev pub gives_words : Format → Value → Bool
 gives_words f (Word word) = is_word_in f word
 gives_words f (Register b) = true
-gives_words f (Sum format word) = same_format format f
+gives_words f (Computed operation format word) = same_format format f
 gives_words f (FromWord format) = same_format format f
 
 -- Whether an instruction writes only words of the format. Beside values and tags, it writes the tag

@@ -17,12 +17,16 @@ pub data OrderKind : Type 0 where
   CancelBoth : OrderKind
   Delete : OrderKind
 
--- What a register becomes: a word, what another one has, the sum of what it has and a word, as a
--- format counts it, or the word of `from` in a format.
+-- How a number is made of two, as their sum.
+pub data Operation : Type 0 where
+  Sum : Operation
+
+-- What a register becomes: a word, what another one has, what an operation makes of it and a word,
+-- as a format counts it, or the word of `from` in a format.
 pub data Value : Type 0 where
   Word : (word : ℕ) → Value
   Register : (b : ℕ) → Value
-  Sum : (format : Format) (word : ℕ) → Value
+  Computed : Operation → (format : Format) (word : ℕ) → Value
   FromWord : (format : Format) → Value
 
 -- An instruction that concerns its thread alone. A register becomes a value, MR0 a tag, and
@@ -53,8 +57,11 @@ Set a word = Run (Assign a (Word word))
 pattern abbrev pub Copy : (a b : ℕ) → Instr
 Copy a b = Run (Assign a (Register b))
 
+pattern abbrev pub Compute : Operation → (format : Format) (a word : ℕ) → Instr
+Compute operation format a word = Run (Assign a (Computed operation format word))
+
 pattern abbrev pub Add : (format : Format) (a word : ℕ) → Instr
-Add format a word = Run (Assign a (Sum format word))
+Add format a word = Compute Sum format a word
 
 pattern abbrev pub From : (format : Format) (a : ℕ) → Instr
 From format a = Run (Assign a (FromWord format))

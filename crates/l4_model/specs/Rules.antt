@@ -2,7 +2,7 @@
 -- instruction asks for.
 use Rattle.std.specs.Prelude.{ℕ, ◌+◌, ◌*◌, ◌/◌, ◌%◌, ◌^◌, Bool, if◌then◌else◌, ◌==◌, not, ◌&&◌, false, Option, Some, None, is_some, unwrap_or, true, ◌∷◌, ◌++◌, List, take, drop, length, slice_index, slice_set}
 use Rattle.l4_model.specs.Words.{word_limit, GlobalId, Id, NilThread, AnyThread, AnyLocalThread, LocalThread, GlobalThread, same_id, is_same, Period, word_in, id_in, tag_of_word}
-use Rattle.l4_model.specs.Machine.{IdFrom, Fixed, Last, InRegister, OrderKind, Delete, Value, Word, Register, Sum, FromWord, Own, Assign, AssignTag, AssignVs, GoTo, GoToOnErr, GoToOnLabel, GoToOnWord, GoToOnFrom, Instr, Run, Ipc, Ask, End, Machine, is_declared, same_space, same_cpu}
+use Rattle.l4_model.specs.Machine.{IdFrom, Fixed, Last, InRegister, OrderKind, Delete, Operation, Sum, Value, Word, Register, Computed, FromWord, Own, Assign, AssignTag, AssignVs, GoTo, GoToOnErr, GoToOnLabel, GoToOnWord, GoToOnFrom, Instr, Run, Ipc, Ask, End, Machine, is_declared, same_space, same_cpu}
 use Rattle.l4_model.specs.World.{Name, Context, Receive, Message, Send, PendingOrder, Owed}
 
 -- Who is accepted (manual: Ipc, `FromSpecifier`): anythread takes every sender, anylocalthread
@@ -110,12 +110,17 @@ id_from c (InRegister format a) = unwrap_or (id_in format (register c a)) NilThr
 -- What an instruction that concerns its thread alone leaves: in the message registers, in
 -- VirtualSender, and as the place where the script goes on.
 
+-- The number that an operation makes of two.
+abbrev pub computed : Operation → (a b : ℕ) → ℕ
+computed Sum a b = a + b
+
 -- What is assigned to MR a. In 32 bits an id that has no word there counts as nilthread (own); no
 -- text of 32 bits has one.
 abbrev pub assigned : Context → (a : ℕ) → Value → ℕ
 assigned c a (Word word) = word
 assigned c a (Register b) = register c b
-assigned c a (Sum format word) = (register c a + word) % word_limit format
+assigned c a (Computed operation format word) =
+    computed operation (register c a) word % word_limit format
 assigned c a (FromWord format) = unwrap_or (word_in format c.from) 0
 
 abbrev pub words_after : Context → Own → List ℕ

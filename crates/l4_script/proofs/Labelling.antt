@@ -9,6 +9,7 @@ use Rattle.l4_model.specs.Machine.{Instr, Jump, OnErr}
 use Rattle.l4_script.specs.declared.text.fault.TextFaultKind.{TextFaultKind}
 use Rattle.l4_script.specs.declared.text.fault.TextFaultKind.TheVariants.{BadLine}
 use Rattle.l4_script.specs.Judged.{Judged}
+use Rattle.l4_script.specs.Operations.{operation_named}
 use Rattle.l4_script.specs.Statements.{end_of, value_of}
 use Rattle.l4_script.specs.Inner.Second.{begins_as_branch, judged_line}
 use Rattle.l4_script.specs.Second.Names.{Named, branches, id_under, is_among, is_declared_in}
@@ -58,7 +59,7 @@ no_branch (byte ∷ bytes) none = by (byte == 106) (byte == 111) none
 -- `end` by its word.
 end_said : (f : Format) (names : List Named) (name : List ℕ) (operands : List (List ℕ)) → bytes_eq name (codes "end") ≡ true
     → second_instruction_of f names name operands ≡ without_target (end_of operands)
-unfolding second_instruction_of plain_of value_of second_other_of
+unfolding second_instruction_of plain_of value_of operation_named second_other_of
 end_said f names name operands e =
     subst (λ (word : List ℕ). second_instruction_of f names word operands ≡ without_target (end_of operands)) (sym ((bytes_eq-Decides name (codes "end")).0 e)) refl
 

@@ -9,6 +9,7 @@ pub mod Growing
 pub mod Judging
 pub mod Keywords
 pub mod Labelling
+pub mod Operations
 pub mod OwnWords
 pub mod PlacedItems
 pub mod Placing

@@ -4,7 +4,7 @@ use Rattle.std.specs.Prelude.{◌==◌}
 use Rattle.std.specs.List.{list_all}
 use Rattle.std.proofs.lemmas.Bool.{and_parts, and_from}
 use Rattle.l4_model.specs.Words.{Format, is_word_in, same_format}
-use Rattle.l4_model.specs.Machine.{Value, Word, Register, Sum, From, Assign, Instr, Run, Tag, Vs, Ipc, Ask, Jump, OnErr, OnLabel, OnWord, OnFrom, End, Declaration}
+use Rattle.l4_model.specs.Machine.{Value, Word, Register, Computed, From, Assign, Instr, Run, Tag, Vs, Ipc, Ask, Jump, OnErr, OnLabel, OnWord, OnFrom, End, Declaration}
 use Rattle.l4_model.specs.Formats.{gives_words, writes_words}
 use Rattle.l4_script.specs.Canonical.{is_register, has_operand, can_be_assigned}
 use Rattle.l4_script.specs.Second.Canonical.{second_can_be_written, second_can_be_declared, WritesItsWords}
@@ -15,7 +15,7 @@ value_written f a value h = (and_parts (gives_words f value) (has_operand f valu
 instruction_writes : (f : Format) (size : ℕ) (i : Instr) → second_can_be_written f size i ≡ true → writes_words f i ≡ true
 instruction_writes f size (Run (Assign a (Word word))) h = value_written f a (Word word) h
 instruction_writes f size (Run (Assign a (Register b))) h = value_written f a (Register b) h
-instruction_writes f size (Run (Assign a (Sum format word))) h = value_written f a (Sum format word) h
+instruction_writes f size (Run (Assign a (Computed operation format word))) h = value_written f a (Computed operation format word) h
 instruction_writes f size (From format a) h = (and_parts (is_register a) (same_format format f) h).1
 instruction_writes f size (Tag word) h = (and_parts (is_word_in f word) (word / 2 ^ 6 % 64 == 0) h).0
 instruction_writes f size (Vs from) h = refl

@@ -4,7 +4,7 @@ use Rattle.std.specs.Prelude.{◌==◌, nat_lt, nat_le, codes, bytes_eq, find, i
 use Rattle.std.specs.List.{list_all}
 use Rattle.std.proofs.lemmas.Bool.{ltb-true, lt-ltb, leb-true, le-leb, eqb-true, ne_eqb, and_parts, and_from, or_cases, false≢true, cases_eq}
 use Rattle.l4_model.specs.Words.{Format, W64, W32, GlobalId, Period, is_global_in, has_word_in, number_limit, version_limit, label_limit_in, global_id, Id, NilThread, AnyThread, AnyLocalThread, LocalThread, GlobalThread, same_format}
-use Rattle.l4_model.specs.Machine.{IdFrom, Fixed, Last, InRegister, OrderKind, CancelSend, CancelReceive, CancelBoth, Delete, Value, Word, Register, Sum, FromWord, Assign, Instr, Run, Tag, Vs, Ipc, Ask, Jump, OnErr, OnLabel, OnWord, OnFrom, End}
+use Rattle.l4_model.specs.Machine.{IdFrom, Fixed, Last, InRegister, OrderKind, CancelSend, CancelReceive, CancelBoth, Delete, Value, Word, Register, Computed, FromWord, Assign, Instr, Run, Tag, Vs, Ipc, Ask, Jump, OnErr, OnLabel, OnWord, OnFrom, End}
 use Rattle.l4_types.specs.Ids.{global_of}
 use Rattle.l4_words.specs.Words.{one, two, three, four}
 use Rattle.l4_words.specs.Numbers as words
@@ -20,6 +20,7 @@ use Rattle.l4_script.specs.Second.Operands.{register_of, id_or_register_of, id_o
 use Rattle.l4_script.specs.Second.Statements.{thread_words_of, Heir, last_number, second_declaration_of, Unplaced, targeting, from_of, second_vs_of, second_ipc_of, second_exregs_of, second_delete_of, goes_to, on_label_of, on_word_of, on_from_of, second_other_of, plain_of, second_instruction_of}
 use Rattle.l4_script.specs.Second.Canonical.{is_source, has_id_or_register, has_id_from, second_can_be_written}
 use Rattle.l4_script.proofs.Judging.{bind_ok, then_ok, must_ok, needs_ok, chosen, says, same_ok, number_within, word_needed}
+use Rattle.l4_script.proofs.Operations.{found_passes}
 use Rattle.l4_script.proofs.Times.{time_said}
 use Rattle.l4_script.proofs.Values.{SaysValues, value_said, format_itself}
 use Rattle.l4_script.proofs.AcceptedLines.{thread_said, id_said, register_within, processor_below}
@@ -28,14 +29,6 @@ use Rattle.l4_script.proofs.AcceptedLines.{thread_said, id_said, register_within
 
 abbrev pub are_words : Format → List Named → Bool
 are_words f names = list_all (λ n. has_word_in f n.id) names
-
-pub found_passes : {A : Type 0} (p q : A → Bool) (xs : List A) (x : A) → find p xs ≡ Some x → list_all q xs ≡ true → q x ≡ true
-found_passes p q [] x e all = absurd cc
-found_passes p q (y ∷ xs) x e all =
-    let parts = and_parts (q y) (list_all q xs) all in
-    chosen (q x ≡ true) (p y) (Some y) (find p xs) (Some x) e
-    (λ t h. subst (λ z. q z ≡ true) (some_same y x h) parts.0)
-    (λ h. found_passes p q xs x h parts.1)
 
 under_said : (f : Format) (names : List Named) (name : List ℕ) (id : Id) → are_words f names ≡ true → id_under names name ≡ Some id → has_word_in f id ≡ true
 under_said f names name id good e =
@@ -160,7 +153,7 @@ moved f a b e h = subst (λ (i : Instr). is_said_second f i ≡ true) e h
 assigned_said : (f : Format) (a : ℕ) (value : Value) → is_register a ≡ true → can_be_assigned f value ≡ true → is_said_second f (Run (Assign a value)) ≡ true
 assigned_said f a (Word word) register value = and_from _ _ register value
 assigned_said f a (Register b) register value = and_from _ _ register value
-assigned_said f a (Sum format word) register value = and_from _ _ register value
+assigned_said f a (Computed operation format word) register value = and_from _ _ register value
 assigned_said f a (FromWord format) register value = absurd (false≢true (and_parts (same_format format f) false value).1)
 
 assign_said : (f : Format) (said : List ℕ → Judged Value) (operands : List (List ℕ)) (instr : Instr) → SaysValues f said → assign_of said operands ≡ Ok instr → is_said_second f instr ≡ true

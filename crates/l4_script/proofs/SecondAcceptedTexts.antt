@@ -8,7 +8,7 @@ use Rattle.std.proofs.lemmas.List.{length_push, length-set, get_or-set_same}
 use Rattle.std.proofs.lemmas.List.Folds.{list_all-append, list_any-append}
 use Rattle.std.proofs.lemmas.List.FromFn.{length-range_with_len}
 use Rattle.l4_model.specs.Words.{Format, global_id, is_global_in, has_word_in}
-use Rattle.l4_model.specs.Machine.{Assign, Word, Register, Sum, IdFrom, Fixed, Last, InRegister, OrderKind, CancelSend, CancelReceive, CancelBoth, Delete, Instr, Run, Tag, Vs, Ipc, Ask, Jump, OnErr, OnLabel, OnWord, OnFrom, End, Declaration, Machine, instruction_at, place_of, From}
+use Rattle.l4_model.specs.Machine.{Assign, Word, Register, Computed, IdFrom, Fixed, Last, InRegister, OrderKind, CancelSend, CancelReceive, CancelBoth, Delete, Instr, Run, Tag, Vs, Ipc, Ask, Jump, OnErr, OnLabel, OnWord, OnFrom, End, Declaration, Machine, instruction_at, place_of, From}
 use Rattle.l4_core_model.specs.Local.{declared, undeclared}
 use Rattle.l4_core_model.specs.Runs.{IsMachine}
 use Rattle.l4_words.specs.Lines.{parts_of}
@@ -34,7 +34,8 @@ use Rattle.l4_script.proofs.Growing.{place_is, lawful-with_thread, lawful-set, l
 use Rattle.l4_script.proofs.Judging.{bind_ok, then_ok, must_ok, needs_ok, chosen, says, same_ok}
 use Rattle.l4_script.proofs.AcceptedLines.{processors_said}
 use Rattle.l4_script.proofs.AcceptedTexts.{own-push, any-set, own-set, each_has_text}
-use Rattle.l4_script.proofs.SecondAcceptedLines.{are_words, found_passes, named_said, is_said_second, second_instruction_said, IsSecondOpened, second_declaration_said, between_said}
+use Rattle.l4_script.proofs.Operations.{found_passes}
+use Rattle.l4_script.proofs.SecondAcceptedLines.{are_words, named_said, is_said_second, second_instruction_said, IsSecondOpened, second_declaration_said, between_said}
 
 -- A text of version 1
 
@@ -62,7 +63,7 @@ ask_too f size target Delete h = id_too f target h
 written_too : (f : Format) (size : ℕ) (i : Instr) → can_be_written f size i ≡ true → second_can_be_written f size i ≡ true
 written_too f size (Run (Assign a (Word word))) h = h
 written_too f size (Run (Assign a (Register b))) h = h
-written_too f size (Run (Assign a (Sum format word))) h = h
+written_too f size (Run (Assign a (Computed operation format word))) h = h
 written_too f size (From format a) h = absurd (false≢true (and_parts _ false (and_parts _ _ h).1).1)
 written_too f size (Tag word) h = h
 written_too f size (Vs from) h = from_too f from h
@@ -126,7 +127,7 @@ IsSound f (Threads r) = IsRead f r
 written_later : (f : Format) (size : ℕ) (i : Instr) → second_can_be_written f size i ≡ true → second_can_be_written f (size + 1) i ≡ true
 written_later f size (Run (Assign a (Word word))) h = h
 written_later f size (Run (Assign a (Register b))) h = h
-written_later f size (Run (Assign a (Sum format word))) h = h
+written_later f size (Run (Assign a (Computed operation format word))) h = h
 written_later f size (From format a) h = h
 written_later f size (Tag word) h = h
 written_later f size (Vs from) h = h

@@ -13,6 +13,7 @@ use Rattle.l4_words.specs.Threads.{thread_of}
 use Rattle.l4_script.specs.Canonical.{exponent_of, low_digits}
 use Rattle.l4_script.specs.Ids.{thread_in, spelled_id_of, id_of}
 use Rattle.l4_script.specs.Lines.{line_of}
+use Rattle.l4_script.specs.Operations.{operation_named}
 use Rattle.l4_script.specs.Statements.{format_line, processors_line, processor_of, declaration_of, value_of, assign_of, tag_of, vs_of, destination_of, ipc_of, bits_of, exregs_of, delete_of, target_of, other_of, instruction_of, declare, extend}
 use Rattle.l4_script.specs.Texts.{thread_line}
 use Rattle.l4_script.specs.Texts.{after_words as first_words, after_line as first_line}
@@ -79,7 +80,7 @@ lock_read : machine_of_text lock_text ≡ Ok (machine_of 1 (
     ∷ thread 2 2 (Jump 0 ∷ [])
     ∷ thread 3 2 lock_script
     ∷ thread 4 2 lock_script ∷ []))
-unfolding number_of number_from word_from period_number time_from thread_of thread_in spelled_id_of id_of exponent_of processors_line processor_of value_of assign_of tag_of bits_of declare extend is_name id_by_name id_named thread_named second_line_of register_of id_or_register_of id_or_last_of place_of second_time_from second_format_line second_declaration_of from_of second_vs_of second_ipc_of second_exregs_of second_delete_of on_label_of on_word_of on_from_of second_other_of plain_of second_instruction_of second_thread_line after_words after_line
+unfolding number_of number_from word_from period_number time_from thread_of thread_in spelled_id_of id_of exponent_of processors_line processor_of value_of operation_named assign_of tag_of bits_of declare extend is_name id_by_name id_named thread_named second_line_of register_of id_or_register_of id_or_last_of place_of second_time_from second_format_line second_declaration_of from_of second_vs_of second_ipc_of second_exregs_of second_delete_of on_label_of on_word_of on_from_of second_other_of plain_of second_instruction_of second_thread_line after_words after_line
 lock_read = refl
 
 abbrev behind_thread : (first : List ℕ) → List (List ℕ) → List ℕ
@@ -118,7 +119,7 @@ instructions =
     ∷ []
 
 instructions_read : map (λ row. machine_of_text (wide (row.0 ∷ []))) instructions ≡ map (λ row. Ok (machine_of 1 (thread 1 1 (row.1 ∷ []) ∷ []))) instructions
-unfolding number_of number_from word_from period_number time_from thread_of thread_in spelled_id_of id_of exponent_of processors_line processor_of value_of assign_of tag_of bits_of declare extend is_name id_by_name id_named thread_named second_line_of register_of id_or_register_of id_or_last_of place_of second_time_from second_format_line second_declaration_of from_of second_vs_of second_ipc_of second_exregs_of second_delete_of on_label_of on_word_of on_from_of second_other_of plain_of second_instruction_of second_thread_line after_words after_line
+unfolding number_of number_from word_from period_number time_from thread_of thread_in spelled_id_of id_of exponent_of processors_line processor_of value_of operation_named assign_of tag_of bits_of declare extend is_name id_by_name id_named thread_named second_line_of register_of id_or_register_of id_or_last_of place_of second_time_from second_format_line second_declaration_of from_of second_vs_of second_ipc_of second_exregs_of second_delete_of on_label_of on_word_of on_from_of second_other_of plain_of second_instruction_of second_thread_line after_words after_line
 instructions_read = refl
 
 abbrev short_instructions : List (List ℕ × Instr)
@@ -129,7 +130,7 @@ short_instructions =
     ∷ []
 
 short_instructions_read : map (λ row. machine_of_text (short (row.0 ∷ []))) short_instructions ≡ map (λ row. Ok (machine_of 1 (thread 1 1 (row.1 ∷ []) ∷ []))) short_instructions
-unfolding number_of number_from word_from period_number time_from thread_of thread_in spelled_id_of id_of exponent_of processors_line processor_of value_of assign_of tag_of bits_of declare extend is_name id_by_name id_named thread_named second_line_of register_of id_or_register_of id_or_last_of place_of second_time_from second_format_line second_declaration_of from_of second_vs_of second_ipc_of second_exregs_of second_delete_of on_label_of on_word_of on_from_of second_other_of plain_of second_instruction_of second_thread_line after_words after_line
+unfolding number_of number_from word_from period_number time_from thread_of thread_in spelled_id_of id_of exponent_of processors_line processor_of value_of operation_named assign_of tag_of bits_of declare extend is_name id_by_name id_named thread_named second_line_of register_of id_or_register_of id_or_last_of place_of second_time_from second_format_line second_declaration_of from_of second_vs_of second_ipc_of second_exregs_of second_delete_of on_label_of on_word_of on_from_of second_other_of plain_of second_instruction_of second_thread_line after_words after_line
 short_instructions_read = refl
 
 -- A line that is all of a script, and its fault.
@@ -176,13 +177,13 @@ no_instructions =
     ∷ []
 
 no_instructions_read : map (λ row. machine_of_text (wide (row.0 ∷ []))) no_instructions ≡ map (λ row. Err (fault_at 5 row.1)) no_instructions
-unfolding number_of number_from word_from period_number time_from thread_of thread_in spelled_id_of id_of exponent_of processors_line processor_of value_of assign_of tag_of bits_of declare extend is_name id_by_name id_named thread_named second_line_of register_of id_or_register_of id_or_last_of place_of second_time_from second_format_line second_declaration_of from_of second_vs_of second_ipc_of second_exregs_of second_delete_of on_label_of on_word_of on_from_of second_other_of plain_of second_instruction_of second_thread_line after_words after_line
+unfolding number_of number_from word_from period_number time_from thread_of thread_in spelled_id_of id_of exponent_of processors_line processor_of value_of operation_named assign_of tag_of bits_of declare extend is_name id_by_name id_named thread_named second_line_of register_of id_or_register_of id_or_last_of place_of second_time_from second_format_line second_declaration_of from_of second_vs_of second_ipc_of second_exregs_of second_delete_of on_label_of on_word_of on_from_of second_other_of plain_of second_instruction_of second_thread_line after_words after_line
 no_instructions_read = refl
 
 -- A first line that is not `l4 P B 2` is judged as ever, and so is the text behind it.
 first_version : map machine_of_text (text (codes "l4 1 64" ∷ codes "cpus 1" ∷ codes "name lock 9.1" ∷ []) ∷ text (codes "l4 1 64 3" ∷ []) ∷ text (codes " l4 1 64" ∷ []) ∷ text (codes "l4 1 64 2 2" ∷ []) ∷ [])
     ≡ Err (fault_at 3 BadLine) ∷ Err (fault_at 1 BadLine) ∷ Err (fault_at 1 BadLine) ∷ Err (fault_at 1 BadLine) ∷ []
-unfolding number_of number_from word_from period_number time_from thread_of thread_in spelled_id_of id_of exponent_of processors_line processor_of value_of assign_of tag_of bits_of declare extend is_name id_by_name id_named thread_named second_line_of register_of id_or_register_of id_or_last_of place_of second_time_from second_format_line second_declaration_of from_of second_vs_of second_ipc_of second_exregs_of second_delete_of on_label_of on_word_of on_from_of second_other_of plain_of second_instruction_of second_thread_line after_words after_line line_of format_line declaration_of vs_of destination_of ipc_of exregs_of delete_of target_of other_of instruction_of thread_line first_words first_line
+unfolding number_of number_from word_from period_number time_from thread_of thread_in spelled_id_of id_of exponent_of processors_line processor_of value_of operation_named assign_of tag_of bits_of declare extend is_name id_by_name id_named thread_named second_line_of register_of id_or_register_of id_or_last_of place_of second_time_from second_format_line second_declaration_of from_of second_vs_of second_ipc_of second_exregs_of second_delete_of on_label_of on_word_of on_from_of second_other_of plain_of second_instruction_of second_thread_line after_words after_line line_of format_line declaration_of vs_of destination_of ipc_of exregs_of delete_of target_of other_of instruction_of thread_line first_words first_line
 first_version = refl
 
 -- Names, and threads that have the script of another.
@@ -213,7 +214,7 @@ faulty_texts =
     ∷ []
 
 faulty_texts_read : map (λ row. machine_of_text (behind_headers row.0)) faulty_texts ≡ map (λ row. Err row.1) faulty_texts
-unfolding number_of number_from word_from period_number time_from thread_of thread_in spelled_id_of id_of exponent_of processors_line processor_of value_of assign_of tag_of bits_of declare extend is_name id_by_name id_named thread_named second_line_of register_of id_or_register_of id_or_last_of place_of second_time_from second_format_line second_declaration_of from_of second_vs_of second_ipc_of second_exregs_of second_delete_of on_label_of on_word_of on_from_of second_other_of plain_of second_instruction_of second_thread_line after_words after_line
+unfolding number_of number_from word_from period_number time_from thread_of thread_in spelled_id_of id_of exponent_of processors_line processor_of value_of operation_named assign_of tag_of bits_of declare extend is_name id_by_name id_named thread_named second_line_of register_of id_or_register_of id_or_last_of place_of second_time_from second_format_line second_declaration_of from_of second_vs_of second_ipc_of second_exregs_of second_delete_of on_label_of on_word_of on_from_of second_other_of plain_of second_instruction_of second_thread_line after_words after_line
 faulty_texts_read = refl
 
 -- A name of the place behind the last instruction, one of a name, and the same names in two scripts.
@@ -230,7 +231,7 @@ named_text =
 
 named_read : machine_of_text (behind_headers named_text)
     ≡ Ok (machine_of 1 (thread 1 1 (Jump 2 ∷ Jump 1 ∷ []) ∷ thread 2 1 (Jump 0 ∷ []) ∷ []))
-unfolding number_of number_from word_from period_number time_from thread_of thread_in spelled_id_of id_of exponent_of processors_line processor_of value_of assign_of tag_of bits_of declare extend is_name id_by_name id_named thread_named second_line_of register_of id_or_register_of id_or_last_of place_of second_time_from second_format_line second_declaration_of from_of second_vs_of second_ipc_of second_exregs_of second_delete_of on_label_of on_word_of on_from_of second_other_of plain_of second_instruction_of second_thread_line after_words after_line
+unfolding number_of number_from word_from period_number time_from thread_of thread_in spelled_id_of id_of exponent_of processors_line processor_of value_of operation_named assign_of tag_of bits_of declare extend is_name id_by_name id_named thread_named second_line_of register_of id_or_register_of id_or_last_of place_of second_time_from second_format_line second_declaration_of from_of second_vs_of second_ipc_of second_exregs_of second_delete_of on_label_of on_word_of on_from_of second_other_of plain_of second_instruction_of second_thread_line after_words after_line
 named_read = refl
 
 -- What these texts mean is written without names, and read back.
@@ -238,15 +239,15 @@ abbrev lock_machine : Machine
 lock_machine = machine_of 1 (thread 9 1 lock_script ∷ thread 1 2 (Jump 0 ∷ []) ∷ [])
 
 canonical_read : machine_of_text (second_canonical_text W64 lock_machine) ≡ Ok lock_machine
-unfolding number_of number_from word_from period_number time_from thread_of thread_in spelled_id_of id_of exponent_of processors_line processor_of value_of assign_of tag_of bits_of declare extend is_name id_by_name id_named thread_named second_line_of register_of id_or_register_of id_or_last_of place_of second_time_from second_format_line second_declaration_of from_of second_vs_of second_ipc_of second_exregs_of second_delete_of on_label_of on_word_of on_from_of second_other_of plain_of second_instruction_of second_thread_line after_words after_line low_digits digits
+unfolding number_of number_from word_from period_number time_from thread_of thread_in spelled_id_of id_of exponent_of processors_line processor_of value_of operation_named assign_of tag_of bits_of declare extend is_name id_by_name id_named thread_named second_line_of register_of id_or_register_of id_or_last_of place_of second_time_from second_format_line second_declaration_of from_of second_vs_of second_ipc_of second_exregs_of second_delete_of on_label_of on_word_of on_from_of second_other_of plain_of second_instruction_of second_thread_line after_words after_line low_digits digits
 canonical_read = refl
 
 canonical_of_instructions : map (λ row. machine_of_text (second_canonical_text W64 (machine_of 1 (thread 1 1 (row.1 ∷ []) ∷ [])))) instructions ≡ map (λ row. Ok (machine_of 1 (thread 1 1 (row.1 ∷ []) ∷ []))) instructions
-unfolding number_of number_from word_from period_number time_from thread_of thread_in spelled_id_of id_of exponent_of processors_line processor_of value_of assign_of tag_of bits_of declare extend is_name id_by_name id_named thread_named second_line_of register_of id_or_register_of id_or_last_of place_of second_time_from second_format_line second_declaration_of from_of second_vs_of second_ipc_of second_exregs_of second_delete_of on_label_of on_word_of on_from_of second_other_of plain_of second_instruction_of second_thread_line after_words after_line low_digits digits
+unfolding number_of number_from word_from period_number time_from thread_of thread_in spelled_id_of id_of exponent_of processors_line processor_of value_of operation_named assign_of tag_of bits_of declare extend is_name id_by_name id_named thread_named second_line_of register_of id_or_register_of id_or_last_of place_of second_time_from second_format_line second_declaration_of from_of second_vs_of second_ipc_of second_exregs_of second_delete_of on_label_of on_word_of on_from_of second_other_of plain_of second_instruction_of second_thread_line after_words after_line low_digits digits
 canonical_of_instructions = refl
 
 can_be_written_so : list_all (λ row. second_can_be_written W64 1 row.1) instructions ≡ true
-unfolding number_of number_from word_from period_number time_from thread_of thread_in spelled_id_of id_of exponent_of processors_line processor_of value_of assign_of tag_of bits_of declare extend is_name id_by_name id_named thread_named second_line_of register_of id_or_register_of id_or_last_of place_of second_time_from second_format_line second_declaration_of from_of second_vs_of second_ipc_of second_exregs_of second_delete_of on_label_of on_word_of on_from_of second_other_of plain_of second_instruction_of second_thread_line after_words after_line
+unfolding number_of number_from word_from period_number time_from thread_of thread_in spelled_id_of id_of exponent_of processors_line processor_of value_of operation_named assign_of tag_of bits_of declare extend is_name id_by_name id_named thread_named second_line_of register_of id_or_register_of id_or_last_of place_of second_time_from second_format_line second_declaration_of from_of second_vs_of second_ipc_of second_exregs_of second_delete_of on_label_of on_word_of on_from_of second_other_of plain_of second_instruction_of second_thread_line after_words after_line
 can_be_written_so = refl
 
 -- `add` and ids of registers have a text in their format alone.

@@ -8,13 +8,14 @@ use Rattle.std.proofs.lemmas.Bool.{false≢true, and_parts, and_from, ltb-true, 
 use Rattle.std.proofs.lemmas.Bool.Decides.{nat_tests}
 use Rattle.std.proofs.lemmas.Fmt.{decimal_is_IsNumeral}
 use Rattle.l4_model.specs.Words.{Format, W64, W32, label_limit_in, is_word_in, same_format, is_global_in, has_word_in, Id, NilThread, AnyThread, AnyLocalThread, LocalThread, GlobalThread, Period}
-use Rattle.l4_model.specs.Machine.{IdFrom, Fixed, Last, InRegister, CancelSend, CancelReceive, CancelBoth, Delete, Value, Word, Register, Sum, Assign, Instr, Run, From, Tag, Vs, Ipc, Ask, Jump, OnErr, OnLabel, OnWord, OnFrom, End, Declaration}
+use Rattle.l4_model.specs.Machine.{IdFrom, Fixed, Last, InRegister, CancelSend, CancelReceive, CancelBoth, Delete, Operation, Value, Word, Register, Computed, Assign, Instr, Run, From, Tag, Vs, Ipc, Ask, Jump, OnErr, OnLabel, OnWord, OnFrom, End, Declaration}
 use Rattle.l4_words.specs.Threads.{thread_word}
 use Rattle.l4_words.proofs.Numerals.{decimal_is_read}
 use Rattle.l4_words.proofs.Spelled.{fits}
 use Rattle.l4_script.specs.Judged.{Judged, ◌>>=◌}
 use Rattle.l4_script.specs.Numbers.{number_of, time_from}
 use Rattle.l4_script.specs.Machines.{last_thread}
+use Rattle.l4_script.specs.Operations.{operation_word, operation_named}
 use Rattle.l4_script.specs.Statements.{processors_line, processor_of, extend, value_of, assign_of, tag_of, bits_of}
 use Rattle.l4_script.specs.Canonical.{id_word, id_from_word, exponent_of, ticks_word, time_word, words_of_instruction, words_of_thread, words_of_format, keyword_of, operand_of, is_register, has_time, can_be_assigned}
 use Rattle.l4_script.specs.Second.Names.{Named, is_digit, is_register_word}
@@ -24,11 +25,12 @@ use Rattle.l4_script.specs.Second.Statements.{Heir, is_second_heading, second_fo
 use Rattle.l4_script.specs.Second.Texts.{Reading, has_script, target_at, words_line}
 use Rattle.l4_script.specs.Second.Canonical.{second_words_of_instruction, is_source, has_id_or_register, has_id_from, second_can_be_written, second_can_be_declared}
 use Rattle.l4_script.proofs.Judging.{says}
+use Rattle.l4_script.proofs.Operations.{other_word}
 use Rattle.l4_script.proofs.SecondAcceptedLines.{spelled, thread_spelled}
 use Rattle.l4_script.proofs.SimpleLines.{is_word_byte, is_simple_left, word_byte, next_word, simple_line}
 use Rattle.l4_script.proofs.Spelled.{is_plain, number_read, ranged_read, word_read, thread_in_read, id_read, id_no_last, digits_of_number}
 use Rattle.l4_script.proofs.Times.{IsTimeOf, spelled_time, time_read}
-use Rattle.l4_script.proofs.Values.{keyword_is, operand_small, formats_are_one}
+use Rattle.l4_script.proofs.Values.{keyword_is, operand_small, formats_are_one, value_read}
 use Rattle.l4_script.proofs.Written.{are_line, are_plain, are_plain_words, words_split, number_is_plain, filled_front, thread_is_plain, id_is_plain, time_is_plain, word_fits, register_range, one_number, two_numbers}
 
 -- A line of plain words says these words alone.
@@ -190,7 +192,7 @@ second_operands f size to from send receive h =
 pub second_instruction_is_line : (f : Format) (size : ℕ) (i : Instr) → size ≤ 1024 → second_can_be_written f size i ≡ true → are_line (second_words_of_instruction f i) ≡ true
 second_instruction_is_line f size (Run (Assign a (Word word))) l h = second_assigned_is_line f a (Word word) h
 second_instruction_is_line f size (Run (Assign a (Register b))) l h = second_assigned_is_line f a (Register b) h
-second_instruction_is_line f size (Run (Assign a (Sum format word))) l h = second_assigned_is_line f a (Sum format word) h
+second_instruction_is_line f size (Run (Assign a (Computed operation format word))) l h = second_assigned_is_line f a (Computed operation format word) h
 second_instruction_is_line f size (From format a) l h = one_number (codes "from") a refl refl (register_range a (and_parts (is_register a) (same_format format f) h).0).2
 second_instruction_is_line f size (Tag word) l h = one_number (codes "tag") word refl refl (word_fits f word (and_parts _ _ h).0)
 second_instruction_is_line f size (Vs from) l h = and_from _ true (from_is_plain f from h) refl
@@ -243,16 +245,43 @@ place_read : (size place : ℕ) → size ≤ 1024 → nat_le place size ≡ true
 unfolding place_of
 place_read size place l h = rw (number_read place (small_place size place l h)) refl
 
-sum_read : (n : ℕ) (r : Reading) (a word : ℕ) → has_script r ≡ true → is_register a ≡ true → is_word_in r.format word ≡ true → reads n r (Run (Assign a (Sum r.format word)))
-unfolding second_instruction_of plain_of value_of assign_of
-sum_read n r a word own register fits = let range = register_range a register in rw (own, ranged_read 1 63 a range.0 range.1 (omega arith), word_read r.format word fits) refl
+-- What an operation is taken for by nobody.
+record IsOtherLine (word : List ℕ) : Type 0 where
+  thread : bytes_eq word (codes "thread") ≡ false
+  name : bytes_eq word (codes "name") ≡ false
+  jump : bytes_eq word (codes "jump") ≡ false
+  on_error : bytes_eq word (codes "onerr") ≡ false
+  on_label : bytes_eq word (codes "onlabel") ≡ false
+  on_word : bytes_eq word (codes "onword") ≡ false
+  on_from : bytes_eq word (codes "onfrom") ≡ false
+
+other_line : (operation : Operation) → IsOtherLine (operation_word operation)
+other_line operation = record {
+  thread = other_word (codes "thread") refl operation;
+  name = other_word (codes "name") refl operation;
+  jump = other_word (codes "jump") refl operation;
+  on_error = other_word (codes "onerr") refl operation;
+  on_label = other_word (codes "onlabel") refl operation;
+  on_word = other_word (codes "onword") refl operation;
+  on_from = other_word (codes "onfrom") refl operation;
+}
+
+computed_read : (n : ℕ) (r : Reading) (operation : Operation) (format : Format) (a word : ℕ) → has_script r ≡ true
+    → (is_register a && can_be_assigned r.format (Computed operation format word)) ≡ true → reads n r (Run (Assign a (Computed operation format word)))
+unfolding second_instruction_of plain_of assign_of
+computed_read n r operation format a word own h =
+    let parts = and_parts (is_register a) (can_be_assigned r.format (Computed operation format word)) h in
+    let range = register_range a parts.0 in
+    let other = other_line operation in
+    let said = value_read r.format (Computed operation format word) parts.1 in
+    rw (other.thread, other.name, own, other.jump, other.on_error, other.on_label, other.on_word, other.on_from, said.keyword, ranged_read 1 63 a range.0 range.1 (omega arith), said.operand) refl
 
 from_read : (n : ℕ) (r : Reading) (a : ℕ) → has_script r ≡ true → is_register a ≡ true → reads n r (From r.format a)
-unfolding second_instruction_of plain_of value_of second_other_of from_of
+unfolding second_instruction_of plain_of value_of operation_named second_other_of from_of
 from_read n r a own register = let range = register_range a register in rw (own, ranged_read 1 63 a range.0 range.1 (omega arith)) refl
 
 pub second_instruction_read : (n : ℕ) (r : Reading) (size : ℕ) (i : Instr) → has_script r ≡ true → size ≤ 1024 → second_can_be_written r.format size i ≡ true → reads n r i
-unfolding second_instruction_of plain_of value_of assign_of second_other_of tag_of second_vs_of second_ipc_of bits_of second_exregs_of second_delete_of on_label_of on_word_of on_from_of
+unfolding second_instruction_of plain_of value_of operation_named assign_of second_other_of tag_of second_vs_of second_ipc_of bits_of second_exregs_of second_delete_of on_label_of on_word_of on_from_of
 second_instruction_read n r size (Run (Assign a (Word word))) own l h =
     let parts = and_parts (is_register a) (can_be_assigned r.format (Word word)) h in
     let range = register_range a parts.0 in
@@ -261,10 +290,7 @@ second_instruction_read n r size (Run (Assign a (Register b))) own l h =
     let parts = and_parts (is_register a) (can_be_assigned r.format (Register b)) h in
     let range = register_range a parts.0 in
     rw (own, ranged_read 1 63 a range.0 range.1 (omega arith), ranged_read 0 63 b (omega arith) (leb-true b 63 parts.1) (omega arith)) refl
-second_instruction_read n r size (Run (Assign a (Sum format word))) own l h =
-    let parts = and_parts (is_register a) (can_be_assigned r.format (Sum format word)) h in
-    let both = and_parts (same_format format r.format) (is_word_in r.format word) parts.1 in
-    subst (λ (g : Format). reads n r (Run (Assign a (Sum g word)))) (sym (formats_are_one format r.format both.0)) (sum_read n r a word own parts.0 both.1)
+second_instruction_read n r size (Run (Assign a (Computed operation format word))) own l h = computed_read n r operation format a word own h
 second_instruction_read n r size (From format a) own l h =
     let parts = and_parts (is_register a) (same_format format r.format) h in
     subst (λ (g : Format). reads n r (From g a)) (sym (formats_are_one format r.format parts.1)) (from_read n r a own parts.0)

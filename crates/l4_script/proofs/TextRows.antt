@@ -12,6 +12,7 @@ use Rattle.l4_script.specs.Numbers.{number_of, number_from, word_from, period_nu
 use Rattle.l4_words.specs.Threads.{thread_of}
 use Rattle.l4_script.specs.Ids.{thread_in, spelled_id_of, id_of}
 use Rattle.l4_script.specs.Lines.{line_of}
+use Rattle.l4_script.specs.Operations.{operation_named}
 use Rattle.l4_script.specs.Statements.{format_line, processors_line, processor_of, declaration_of, value_of, assign_of, tag_of, vs_of, destination_of, ipc_of, bits_of, exregs_of, delete_of, target_of, other_of, instruction_of, declare, extend}
 use Rattle.l4_script.specs.Texts.{thread_line, after_words, after_line, first_machine_of_text, format_of_text}
 
@@ -139,7 +140,7 @@ abbrev first_path : Machine
 first_path = machine_of 1 (thread 1 1 (Set 1 10 ∷ Tag 0x70001 ∷ send_to (GlobalThread (global_id 2 1)) ∷ []) ∷ thread 2 2 (receive_from_any ∷ []) ∷ [])
 
 first_path_read : first_machine_of_text first_path_text ≡ Ok first_path
-unfolding number_of number_from word_from period_number time_from thread_of thread_in spelled_id_of id_of line_of format_line processors_line processor_of declaration_of value_of assign_of tag_of vs_of destination_of ipc_of bits_of exregs_of delete_of target_of other_of instruction_of declare extend thread_line after_words after_line
+unfolding number_of number_from word_from period_number time_from thread_of thread_in spelled_id_of id_of line_of format_line processors_line processor_of declaration_of value_of operation_named assign_of tag_of vs_of destination_of ipc_of bits_of exregs_of delete_of target_of other_of instruction_of declare extend thread_line after_words after_line
 first_path_read = refl
 
 first_path_size : length first_path_text ≡ 134
@@ -150,7 +151,7 @@ abbrev is_read : ℕ → Bool
 is_read size = is_ok (first_machine_of_text (take size first_path_text))
 
 beginnings_read : filter is_read (range_with_len 0 135) ≡ 15 ∷ 40 ∷ 49 ∷ 61 ∷ 85 ∷ 110 ∷ 134 ∷ []
-unfolding number_of number_from word_from period_number time_from thread_of thread_in spelled_id_of id_of line_of format_line processors_line processor_of declaration_of value_of assign_of tag_of vs_of destination_of ipc_of bits_of exregs_of delete_of target_of other_of instruction_of declare extend thread_line after_words after_line
+unfolding number_of number_from word_from period_number time_from thread_of thread_in spelled_id_of id_of line_of format_line processors_line processor_of declaration_of value_of operation_named assign_of tag_of vs_of destination_of ipc_of bits_of exregs_of delete_of target_of other_of instruction_of declare extend thread_line after_words after_line
 beginnings_read = refl
 
 abbrev behind_headers : List (List ℕ) → List ℕ
@@ -219,7 +220,7 @@ instructions =
     ∷ []
 
 instructions_read : map (λ row. first_machine_of_text (behind_thread (row.0 ∷ []))) instructions ≡ map (λ row. Ok (machine_of 1 (thread 1 1 (row.1 ∷ []) ∷ []))) instructions
-unfolding number_of number_from word_from period_number time_from thread_of thread_in spelled_id_of id_of line_of format_line processors_line processor_of declaration_of value_of assign_of tag_of vs_of destination_of ipc_of bits_of exregs_of delete_of target_of other_of instruction_of declare extend thread_line after_words after_line
+unfolding number_of number_from word_from period_number time_from thread_of thread_in spelled_id_of id_of line_of format_line processors_line processor_of declaration_of value_of operation_named assign_of tag_of vs_of destination_of ipc_of bits_of exregs_of delete_of target_of other_of instruction_of declare extend thread_line after_words after_line
 instructions_read = refl
 
 -- A line that is all of a script, and its fault.
@@ -305,7 +306,7 @@ no_instructions =
     ∷ []
 
 no_instructions_read : map (λ row. first_machine_of_text (behind_thread (row.0 ∷ []))) no_instructions ≡ map (λ row. Err (fault_at 4 row.1)) no_instructions
-unfolding number_of number_from word_from period_number time_from thread_of thread_in spelled_id_of id_of line_of format_line processors_line processor_of declaration_of value_of assign_of tag_of vs_of destination_of ipc_of bits_of exregs_of delete_of target_of other_of instruction_of declare extend thread_line after_words after_line
+unfolding number_of number_from word_from period_number time_from thread_of thread_in spelled_id_of id_of line_of format_line processors_line processor_of declaration_of value_of operation_named assign_of tag_of vs_of destination_of ipc_of bits_of exregs_of delete_of target_of other_of instruction_of declare extend thread_line after_words after_line
 no_instructions_read = refl
 
 -- A third line, and its fault.
@@ -334,7 +335,7 @@ no_threads =
     ∷ []
 
 no_threads_read : map (λ row. first_machine_of_text (behind_headers (row.0 ∷ []))) no_threads ≡ map (λ row. Err (fault_at 3 row.1)) no_threads
-unfolding number_of number_from word_from period_number time_from thread_of thread_in spelled_id_of id_of line_of format_line processors_line processor_of declaration_of value_of assign_of tag_of vs_of destination_of ipc_of bits_of exregs_of delete_of target_of other_of instruction_of declare extend thread_line after_words after_line
+unfolding number_of number_from word_from period_number time_from thread_of thread_in spelled_id_of id_of line_of format_line processors_line processor_of declaration_of value_of operation_named assign_of tag_of vs_of destination_of ipc_of bits_of exregs_of delete_of target_of other_of instruction_of declare extend thread_line after_words after_line
 no_threads_read = refl
 
 -- Whole texts
@@ -421,7 +422,7 @@ texts =
     ∷ []
 
 texts_read : map (λ row. first_machine_of_text row.0) texts ≡ map (λ row. row.1) texts
-unfolding number_of number_from word_from period_number time_from thread_of thread_in spelled_id_of id_of line_of format_line processors_line processor_of declaration_of value_of assign_of tag_of vs_of destination_of ipc_of bits_of exregs_of delete_of target_of other_of instruction_of declare extend thread_line after_words after_line
+unfolding number_of number_from word_from period_number time_from thread_of thread_in spelled_id_of id_of line_of format_line processors_line processor_of declaration_of value_of operation_named assign_of tag_of vs_of destination_of ipc_of bits_of exregs_of delete_of target_of other_of instruction_of declare extend thread_line after_words after_line
 texts_read = refl
 
 -- In 32 bits
@@ -478,7 +479,7 @@ short_instructions =
     ∷ []
 
 short_instructions_read : map (λ row. first_machine_of_text (behind_short_thread (row.0 ∷ []))) short_instructions ≡ map (λ row. Ok (machine_of 1 (thread 1 1 (row.1 ∷ []) ∷ []))) short_instructions
-unfolding number_of number_from word_from period_number time_from thread_of thread_in spelled_id_of id_of line_of format_line processors_line processor_of declaration_of value_of assign_of tag_of vs_of destination_of ipc_of bits_of exregs_of delete_of target_of other_of instruction_of declare extend thread_line after_words after_line
+unfolding number_of number_from word_from period_number time_from thread_of thread_in spelled_id_of id_of line_of format_line processors_line processor_of declaration_of value_of operation_named assign_of tag_of vs_of destination_of ipc_of bits_of exregs_of delete_of target_of other_of instruction_of declare extend thread_line after_words after_line
 short_instructions_read = refl
 
 abbrev no_short_instructions : List (List ℕ × TextFaultKind)
@@ -506,7 +507,7 @@ no_short_instructions =
     ∷ []
 
 no_short_instructions_read : map (λ row. first_machine_of_text (behind_short_thread (row.0 ∷ []))) no_short_instructions ≡ map (λ row. Err (fault_at 4 row.1)) no_short_instructions
-unfolding number_of number_from word_from period_number time_from thread_of thread_in spelled_id_of id_of line_of format_line processors_line processor_of declaration_of value_of assign_of tag_of vs_of destination_of ipc_of bits_of exregs_of delete_of target_of other_of instruction_of declare extend thread_line after_words after_line
+unfolding number_of number_from word_from period_number time_from thread_of thread_in spelled_id_of id_of line_of format_line processors_line processor_of declaration_of value_of operation_named assign_of tag_of vs_of destination_of ipc_of bits_of exregs_of delete_of target_of other_of instruction_of declare extend thread_line after_words after_line
 no_short_instructions_read = refl
 
 -- The format is that of the first line that says something.
@@ -520,11 +521,11 @@ formats_named = (refl, refl, refl, refl, refl, refl, refl)
 short_path_read :
     first_machine_of_text (behind_short_thread (codes "set 1 0xffffffff" ∷ codes "add 1 2" ∷ codes "tag 0x70001" ∷ codes "ipc #00008001 nil never never" ∷ codes "thread 2.1 cpu 0 space 2" ∷ codes "ipc nil any never never" ∷ []))
     ≡ Ok (machine_of 1 (thread 1 1 (Set 1 0xffffffff ∷ Add W32 1 2 ∷ Tag 0x70001 ∷ send_to t_2_1 ∷ []) ∷ thread 2 2 (receive_from_any ∷ []) ∷ []))
-unfolding number_of number_from word_from period_number time_from thread_of thread_in spelled_id_of id_of line_of format_line processors_line processor_of declaration_of value_of assign_of tag_of vs_of destination_of ipc_of bits_of exregs_of delete_of target_of other_of instruction_of declare extend thread_line after_words after_line
+unfolding number_of number_from word_from period_number time_from thread_of thread_in spelled_id_of id_of line_of format_line processors_line processor_of declaration_of value_of operation_named assign_of tag_of vs_of destination_of ipc_of bits_of exregs_of delete_of target_of other_of instruction_of declare extend thread_line after_words after_line
 short_path_read = refl
 
 short_sum_of_profile_2_read :
     first_machine_of_text (text (codes "l4 2 32" ∷ codes "cpus 1" ∷ codes "thread 1.1 cpu 0 space 1" ∷ codes "add 1 2" ∷ []))
     ≡ Ok (retargeting_machine_of 1 (thread 1 1 (Add W32 1 2 ∷ []) ∷ []))
-unfolding number_of number_from word_from period_number time_from thread_of thread_in spelled_id_of id_of line_of format_line processors_line processor_of declaration_of value_of assign_of tag_of vs_of destination_of ipc_of bits_of exregs_of delete_of target_of other_of instruction_of declare extend thread_line after_words after_line
+unfolding number_of number_from word_from period_number time_from thread_of thread_in spelled_id_of id_of line_of format_line processors_line processor_of declaration_of value_of operation_named assign_of tag_of vs_of destination_of ipc_of bits_of exregs_of delete_of target_of other_of instruction_of declare extend thread_line after_words after_line
 short_sum_of_profile_2_read = refl

@@ -20,6 +20,7 @@ use Rattle.l4_words.proofs.Spelled.{fits}
 use Rattle.l4_script.specs.Numbers.{number_of}
 use Rattle.l4_script.specs.Ids.{id_digits}
 use Rattle.l4_script.specs.Lines.{is_printable, has_empty_word, is_skipped, line_of}
+use Rattle.l4_script.specs.Operations.{operation_named}
 use Rattle.l4_script.specs.Statements.{Heading, format_line, processors_line, processor_of, declaration_of, value_of, assign_of, tag_of, vs_of, ipc_of, bits_of, exregs_of, delete_of, target_of, other_of, instruction_of}
 use Rattle.l4_script.specs.Texts.{Stage, Start, Processors, Threads, Reading, nothing_read, declared_in, extended_at, thread_line, after_words, after_line}
 use Rattle.l4_script.specs.Canonical.{low_digits, id_word, id_from_word, exponent_of, ticks_word, time_word, words_of_instruction, words_of_thread, words_of_format, keyword_of, operand_of, is_register, has_id, has_destination, has_time, can_be_assigned, can_be_written, can_be_declared}
@@ -238,7 +239,7 @@ assign_read n r a value some h =
     rw ((keyword_is value).no_thread, lt-ltb 0 (length r.machine.threads) some, said.keyword, ranged_read 1 63 a range.0 range.1 (omega arith), said.operand) refl
 
 pub instruction_read : (n : ℕ) (r : Reading) (size : ℕ) (i : Instr) → 0 < length r.machine.threads → size ≤ 1024 → can_be_written r.format size i ≡ true → thread_line n r (words_of_instruction r.format i) ≡ extended_at n r i
-unfolding thread_line instruction_of value_of other_of tag_of vs_of ipc_of bits_of exregs_of delete_of target_of
+unfolding thread_line instruction_of value_of operation_named other_of tag_of vs_of ipc_of bits_of exregs_of delete_of target_of
 instruction_read n r size (Run (Assign a value)) some l h = assign_read n r a value some h
 instruction_read n r size (Tag word) some l h =
     let parts = and_parts _ _ h in

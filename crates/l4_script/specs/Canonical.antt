@@ -4,13 +4,14 @@ use Rattle.std.specs.Prelude.{ℕ, zero, suc, ◌≡◌, ◌≤◌, ◌+◌, ◌
 use Rattle.std.specs.Fmt.{digit_glyph}
 use Rattle.std.specs.List.{list_all, list_any, range_with_len}
 use Rattle.l4_model.specs.Words.{Format, W64, W32, is_word_in, is_global_in, has_word_in, last_register, Id, NilThread, AnyThread, AnyLocalThread, LocalThread, GlobalThread, Period}
-use Rattle.l4_model.specs.Machine.{Value, Word, Register, Sum, FromWord, Assign, Instr, Run, Tag, Vs, Ipc, IdFrom, Fixed, Last, InRegister, Ask, CancelSend, CancelReceive, CancelBoth, Delete, Jump, OnErr, OnLabel, OnWord, OnFrom, End, Declaration, Machine, most_processors, most_threads, most_instructions}
+use Rattle.l4_model.specs.Machine.{Value, Word, Register, Computed, FromWord, Assign, Instr, Run, Tag, Vs, Ipc, IdFrom, Fixed, Last, InRegister, Ask, CancelSend, CancelReceive, CancelBoth, Delete, Jump, OnErr, OnLabel, OnWord, OnFrom, End, Declaration, Machine, most_processors, most_threads, most_instructions}
 use Rattle.l4_model.specs.Formats.{gives_words}
 use Rattle.l4_core_model.specs.Runs.{IsMachine}
 use Rattle.l4_words.specs.Lines.{line_of_words}
 use Rattle.l4_words.specs.Threads.{thread_word}
 use Rattle.l4_script.specs.Ids.{id_digits}
 use Rattle.l4_script.specs.Machines.{has_number}
+use Rattle.l4_script.specs.Operations.{operation_word}
 use Rattle.l4_script.specs.Texts.{first_machine_of_text, format_of_text}
 
 -- Words
@@ -60,13 +61,13 @@ time_word (Some ticks) = if ticks == 0 then codes "zero" else ticks_word ticks (
 abbrev pub keyword_of : Value → List ℕ
 keyword_of (Word word) = codes "set"
 keyword_of (Register b) = codes "copy"
-keyword_of (Sum format word) = codes "add"
+keyword_of (Computed operation format word) = operation_word operation
 keyword_of (FromWord format) = codes "from"
 
 abbrev pub operand_of : Value → ℕ
 operand_of (Word word) = word
 operand_of (Register b) = b
-operand_of (Sum format word) = word
+operand_of (Computed operation format word) = word
 operand_of (FromWord format) = 0
 
 abbrev pub words_of_instruction : Format → Instr → List (List ℕ)
@@ -117,8 +118,8 @@ lines_of f m = words_of_format f m.retargeting ∷ (codes "cpus" ∷ decimal m.c
 abbrev pub canonical_text : Format → Machine → List ℕ
 canonical_text f m = flat_map line_of_words (lines_of f m)
 
--- Which machines a text of a format can declare. A machine with an `add` has texts in the format of
--- its sums alone.
+-- Which machines a text of a format can declare. A machine that computes has texts in the format in
+-- which it does alone.
 
 abbrev pub is_register : ℕ → Bool
 is_register n = nat_le 1 n && nat_le n last_register

@@ -6,6 +6,7 @@ pub mod Judged
 pub mod Lines
 pub mod Machines
 pub mod Numbers
+pub mod Operations
 pub mod Second
 pub mod Statements
 pub mod Texts

@@ -4,13 +4,14 @@ use Rattle.std.specs.Prelude.{ℕ, ◌/◌, ◌%◌, ◌^◌, ◌-◌, Bool, tru
 use Rattle.std.specs.Option.{option_map}
 use Rattle.std.specs.Str.{bytes_eq}
 use Rattle.l4_model.specs.Words.{Format, W64, W32, last_register}
-use Rattle.l4_model.specs.Machine.{Value, Word, Register, Sum, Assign, Instr, Run, Tag, Vs, Ipc, IdFrom, Fixed, Last, Ask, OrderKind, CancelSend, CancelReceive, CancelBoth, Delete, Jump, OnErr, End, Declaration, Machine, most_processors, most_threads, most_instructions}
+use Rattle.l4_model.specs.Machine.{Operation, Value, Word, Register, Computed, Assign, Instr, Run, Tag, Vs, Ipc, IdFrom, Fixed, Last, Ask, OrderKind, CancelSend, CancelReceive, CancelBoth, Delete, Jump, OnErr, End, Declaration, Machine, most_processors, most_threads, most_instructions}
 use Rattle.l4_script.specs.declared.text.fault.TextFaultKind.TheVariants.{BadLine, BadNumber, BadId, BadCpu, TypedItems, DoubleId, TooManyThreads, TooManyInstructions}
 use Rattle.l4_script.specs.Judged.{Judged, ◌>>=◌, ◌>>◌, must, needs}
 use Rattle.l4_script.specs.Numbers.{number_of, number_from, word_from, time_from}
 use Rattle.l4_words.specs.Words.{one, two, four, five}
 use Rattle.l4_script.specs.Ids.{thread_in, id_of}
 use Rattle.l4_script.specs.Lines.{after}
+use Rattle.l4_script.specs.Operations.{operation_named}
 use Rattle.l4_script.specs.Machines.{is_taken, with_thread, last_thread, extended}
 
 -- What a first line says: whether its machine retargets, and the format of its words.
@@ -80,7 +81,8 @@ declaration_of format cpus operands = do
   space ← number_from 0 (2 ^ 32 - 1) words.4
   Ok (record { id = id; cpu = cpu; space = space; script = [] })
 
--- What a register becomes, by the last word of a line: a word, what a register has, or a sum.
+-- What a register becomes, by the last word of a line: a word, what a register has, or what an
+-- operation makes of it and a word.
 
 abbrev pub word_value : Format → List ℕ → Judged Value
 word_value format operand = word_from format operand >>= λ word. Ok (Word word)
@@ -88,18 +90,18 @@ word_value format operand = word_from format operand >>= λ word. Ok (Word word)
 abbrev pub register_value : List ℕ → Judged Value
 register_value operand = number_from 0 last_register operand >>= λ b. Ok (Register b)
 
-abbrev pub sum_value : Format → List ℕ → Judged Value
-sum_value format operand = word_from format operand >>= λ word. Ok (Sum format word)
+abbrev pub computed_value : Format → Operation → List ℕ → Judged Value
+computed_value format operation operand =
+    word_from format operand >>= λ word. Ok (Computed operation format word)
 
 -- How a line says what a register becomes, by its first word.
 unfoldable pub value_of : Format → (name : List ℕ) → Option (List ℕ → Judged Value)
 value_of format name =
     if bytes_eq name (codes "set") then Some (word_value format)
     else (if bytes_eq name (codes "copy") then Some register_value
-    else (if bytes_eq name (codes "add") then Some (sum_value format)
-    else None))
+    else option_map (computed_value format) (operation_named name))
 
--- `set A W`, `copy A B` or `add A W`, behind its first word.
+-- `set A W`, `copy A B`, or the word of an operation and `A W`, behind its first word.
 unfoldable pub assign_of : (List ℕ → Judged Value) → List (List ℕ) → Judged Instr
 assign_of said operands = do
   numbers ← needs (two operands) BadLine

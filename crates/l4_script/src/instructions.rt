@@ -8,6 +8,7 @@ ghost use Rattle.l4_script.specs.Second.Statements.{with_place};
 
 use l4_types::formats::Format;
 use l4_types::ids::ThreadId;
+use l4_types::operations::Operation;
 use l4_types::registers::MESSAGE_REGISTERS;
 use l4_types::steps::OrderKind;
 use l4_types::tags::MsgTag;
@@ -202,10 +203,12 @@ pub enum Instr {
     Set(Register, u64),
     /// The register becomes what the other one has.
     Copy(Register, Source),
-    /// Adds the word to the register, modulo 2^64 (texts of 64 bits).
-    Add(Register, u64),
-    /// Adds the word to the register, modulo 2^32 (texts of 32 bits).
-    ShortAdd(Register, u64),
+    /// The register becomes what the operation makes of it and the word, modulo 2^64 (texts of 64
+    /// bits).
+    Compute(Operation, Register, u64),
+    /// The register becomes what the operation makes of it and the word, modulo 2^32 (texts of 32
+    /// bits).
+    ShortCompute(Operation, Register, u64),
     /// MR0 becomes the tag.
     Tag(MsgTag),
     /// The register that is VirtualSender and ActualSender becomes the id (manual: Thread Control
@@ -241,8 +244,8 @@ impl Instr {
         match *self {
             Instr::Set(register, _)
             | Instr::Copy(register, _)
-            | Instr::Add(register, _)
-            | Instr::ShortAdd(register, _)
+            | Instr::Compute(_, register, _)
+            | Instr::ShortCompute(_, register, _)
             | Instr::From(register)
             | Instr::ShortFrom(register) => Some(register),
             _ => None,

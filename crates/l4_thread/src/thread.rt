@@ -6,9 +6,10 @@ ghost use Rattle.l4_model.specs.Words.{NilThread, id_in, is_same, word_in, tag_o
 ghost use Rattle.l4_model.specs.Words.{word_of_tag, word_limit, register_count};
 ghost use Rattle.l4_model.specs.World.{opening_context};
 ghost use Rattle.l4_model.specs.Rules.{failed, sent, received, ordered, advanced, ran, register};
-ghost use Rattle.l4_model.specs.Rules.{id_from, place_if, receive_phase};
+ghost use Rattle.l4_model.specs.Rules.{computed, id_from, place_if, receive_phase};
 ghost use Rattle.l4_types.specs.Inner.Codes.{code_of};
 ghost use Rattle.l4_types.specs.Inner.FormatView.{format_of};
+ghost use Rattle.l4_types.specs.Inner.OperationView.{operation_of};
 ghost use Rattle.l4_types.specs.Inner.PeriodView.{period_of, IsTimely};
 ghost use Rattle.l4_script.specs.Inner.Scripts.{id_from_of, instr_of, ipc_of};
 ghost use Rattle.l4_thread.specs.Inner.Held.{message_of};
@@ -26,6 +27,7 @@ use l4_types::formats::Format;
 use l4_types::ids::{GlobalId, ThreadId};
 use l4_types::message_ref::MessageRef;
 use l4_types::messages::Message;
+use l4_types::operations::Operation;
 use l4_types::registers::Regs;
 use l4_types::tags::MsgTag;
 use l4_types::times::Period;
@@ -158,17 +160,18 @@ impl Thread {
         self.regs.words[usize::from(number)]
     }
 
-    // Adds a word to a message register, as a format counts it.
-    fn add(&mut self, format: Format, to: Register, word: u64)
+    // A message register becomes what an operation makes of it and a word, as a format counts it.
+    fn compute(&mut self, format: Format, operation: Operation, to: Register, word: u64)
         ensures { self.new ≡ record self.old {
           context = record self.old.context {
             words = slice_set self.old.context.words to
-                ((register self.old.context to + word) % word_limit (format_of format));
+                (computed (operation_of operation) (register self.old.context to) word
+                % word_limit (format_of format));
           };
         } }
     {
-        let sum = format.sum(self.register(to.number()), word);
-        self.set(to, sum);
+        let computed = format.computed(operation, self.register(to.number()), word);
+        self.set(to, computed);
     }
 
     // Whether the tag in message register 0 has this label.
@@ -224,8 +227,12 @@ impl Thread {
         match instr {
             Instr::Set(register, word) => self.set(*register, *word),
             Instr::Copy(register, source) => self.set(*register, self.register(source.number())),
-            Instr::Add(register, word) => self.add(Format::W64, *register, *word),
-            Instr::ShortAdd(register, word) => self.add(Format::W32, *register, *word),
+            Instr::Compute(operation, register, word) => {
+                self.compute(Format::W64, *operation, *register, *word);
+            }
+            Instr::ShortCompute(operation, register, word) => {
+                self.compute(Format::W32, *operation, *register, *word);
+            }
             Instr::Tag(tag) => self.regs.words[0] = tag.raw(),
             Instr::Vs(from) => self.regs.actual = self.id_from(*from),
             Instr::Ipc(_) => self.sent(),

@@ -4,6 +4,7 @@ pub mod Flags
 pub mod FormatView
 pub mod LetterHeads
 pub mod LetterView
+pub mod OperationView
 pub mod OwedView
 pub mod PeriodView
 pub mod TagLemmas

@@ -1,7 +1,11 @@
 //! The formats of words (manual: ThreadId, MsgTag).
-ghost use Rattle.std.specs.Prelude.{◌≡◌, ◌+◌, ◌%◌, nat_lt};
+ghost use Rattle.std.specs.Prelude.{◌≡◌, ◌%◌, nat_lt};
+ghost use Rattle.l4_model.specs.Rules.{computed};
 ghost use Rattle.l4_model.specs.Words.{word_limit};
 ghost use Rattle.l4_types.specs.Inner.FormatView.{format_of};
+ghost use Rattle.l4_types.specs.Inner.OperationView.{operation_of};
+
+use crate::operations::Operation;
 
 /// A format of words.
 #[derive(Clone, Copy, PartialEq, Eq, Debug)]
@@ -26,14 +30,15 @@ impl Format {
         }
     }
 
-    /// The sum of two words in this format, modulo 2^64 or 2^32.
-    pub fn sum(&self, a: u64, b: u64) -> u64
-        ensures { result ≡ (a + b) % word_limit (format_of self.now) }
+    /// What an operation makes of two words in this format, modulo 2^64 or 2^32.
+    pub fn computed(&self, operation: Operation, a: u64, b: u64) -> u64
+        ensures { result ≡
+            computed (operation_of operation) a b % word_limit (format_of self.now) }
     {
-        let sum = a.wrapping_add(b);
+        let word = operation.computed(a, b);
         match self {
-            Format::W64 => sum,
-            Format::W32 => sum % SHORT_WORDS,
+            Format::W64 => word,
+            Format::W32 => word % SHORT_WORDS,
         }
     }
 }

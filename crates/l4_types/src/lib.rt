@@ -23,6 +23,7 @@ pub mod letter_ref;
 pub mod letters;
 pub mod message_ref;
 pub mod messages;
+pub mod operations;
 pub mod owed;
 pub mod registers;
 pub mod reports;

@@ -2,6 +2,7 @@
 use Rattle.l4_model.specs.Words.{W64, W32, word_of_tag}
 use Rattle.l4_model.specs.Machine as model
 use Rattle.l4_types.specs.Inner.FormatView.{format_of}
+use Rattle.l4_types.specs.Inner.OperationView.{operation_of}
 use Rattle.l4_types.specs.Inner.PeriodView.{period_of}
 use Rattle.l4_types.specs.StepView.{order_kind_of}
 use Rattle.l4_script.specs.Inner.Calls.{Call}
@@ -22,8 +23,10 @@ ipc_of call = model.Ipc (id_from_of call.to) (id_from_of call.from) (period_of c
 abbrev pub instr_of : Instr → model.Instr
 instr_of (instrs.Set register word) = model.Set register word
 instr_of (instrs.Copy register source) = model.Copy register source
-instr_of (instrs.Add register word) = model.Add W64 register word
-instr_of (instrs.ShortAdd register word) = model.Add W32 register word
+instr_of (instrs.Compute operation register word) =
+    model.Compute (operation_of operation) W64 register word
+instr_of (instrs.ShortCompute operation register word) =
+    model.Compute (operation_of operation) W32 register word
 instr_of (instrs.Tag tag) = model.Tag (word_of_tag tag)
 instr_of (instrs.Vs from) = model.Vs (id_from_of from)
 instr_of (instrs.Ipc ipc) = ipc_of ipc

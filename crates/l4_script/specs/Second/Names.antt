@@ -1,5 +1,5 @@
 -- Names in machine texts with scripts of version 2: of ids, and of the instructions of a script.
-use Rattle.std.specs.Prelude.{ℕ, Bool, false, not, ◌&&◌, ◌||◌, ◌==◌, nat_le, if◌then◌else◌, Option, Some, None, Ok, Err, List, [], ◌∷◌, length, take, drop, find, codes}
+use Rattle.std.specs.Prelude.{ℕ, Bool, false, not, ◌&&◌, ◌||◌, ◌==◌, nat_le, if◌then◌else◌, Option, Some, None, Ok, Err, is_some, List, [], ◌∷◌, length, take, drop, find, codes}
 use Rattle.std.specs.Option.{option_map}
 use Rattle.std.specs.List.{list_all, list_any}
 use Rattle.std.specs.Str.{bytes_eq}
@@ -8,6 +8,7 @@ use Rattle.l4_types.specs.Ids.{global_of}
 use Rattle.l4_script.specs.declared.text.fault.TextFaultKind.TheVariants.{BadId, BadName}
 use Rattle.l4_script.specs.Judged.{Judged, ◌>>=◌, needs}
 use Rattle.l4_script.specs.Ids.{thread_in, id_of}
+use Rattle.l4_script.specs.Operations.{operation_named}
 
 abbrev pub is_letter : (byte : ℕ) → Bool
 is_letter byte = (nat_le 65 byte && nat_le byte 90) || (nat_le 97 byte && nat_le byte 122)
@@ -26,8 +27,9 @@ begins_with_letter (byte ∷ bytes) = is_letter byte
 abbrev pub most_name_bytes : ℕ
 most_name_bytes = 31
 
--- The words of a machine text that are no names: those of lines in front of the scripts, of
--- instructions that go on with the next and of those that name another, and of operands.
+-- The words of a machine text that are no names, beside those of operations: of lines in front of
+-- the scripts, of instructions that go on with the next and of those that name another, and of
+-- operands.
 
 abbrev pub line_words : List (List ℕ)
 line_words =
@@ -36,7 +38,7 @@ line_words =
 
 abbrev pub plain_instructions : List (List ℕ)
 plain_instructions =
-    codes "set" ∷ codes "copy" ∷ codes "add" ∷ codes "from" ∷ codes "tag" ∷ codes "vs" ∷ codes "ipc"
+    codes "set" ∷ codes "copy" ∷ codes "from" ∷ codes "tag" ∷ codes "vs" ∷ codes "ipc"
     ∷ codes "exregs" ∷ codes "delete" ∷ codes "end" ∷ []
 
 abbrev pub branches : List (List ℕ)
@@ -58,8 +60,8 @@ is_register_word word =
 
 abbrev pub is_keyword : (word : List ℕ) → Bool
 is_keyword word =
-    is_register_word word || is_among line_words word || is_among plain_instructions word
-    || is_among branches word || is_among operand_words word
+    is_register_word word || is_among line_words word || is_some (operation_named word)
+    || is_among plain_instructions word || is_among branches word || is_among operand_words word
 
 -- A letter, and behind it letters, digits, `-` and `_`; at most 31 bytes, and no keyword.
 unfoldable pub is_name : (word : List ℕ) → Bool

@@ -5,6 +5,7 @@ ghost use Rattle.std.specs.Str.{bytes_eq};
 ghost use Rattle.l4_model.specs.Words.{last_register};
 ghost use Rattle.l4_model.specs.Machine.{most_processors};
 ghost use Rattle.l4_types.specs.Inner.FormatView.{format_of};
+ghost use Rattle.l4_types.specs.Inner.OperationView.{operation_of};
 ghost use Rattle.l4_types.specs.StepView.{order_kind_of};
 ghost use Rattle.l4_script.specs.declared.text.fault.TextFaultKind.TheVariants.{BadId, BadLine};
 ghost use Rattle.l4_words.specs.Words.{one};
@@ -14,7 +15,8 @@ ghost use Rattle.l4_script.specs.Inner.Scripts.{id_from_of, instr_of};
 ghost use Rattle.l4_script.specs.Numbers.{number_from};
 ghost use Rattle.l4_script.specs.Statements.{heading_by, format_line, processors_line};
 ghost use Rattle.l4_script.specs.Statements.{processor_of, declaration_of, word_value};
-ghost use Rattle.l4_script.specs.Statements.{register_value, sum_value, assign_of, tag_of, vs_of};
+ghost use Rattle.l4_script.specs.Statements.{register_value, computed_value, assign_of};
+ghost use Rattle.l4_script.specs.Statements.{tag_of, vs_of};
 ghost use Rattle.l4_script.specs.Statements.{destination_of, ipc_of, bits_of, exregs_of, delete_of};
 ghost use Rattle.l4_script.specs.Statements.{target_of, jump_of, on_error_of, end_of};
 ghost use Rattle.l4_script.specs.Statements.{instruction_of};
@@ -24,10 +26,12 @@ use super::fault::TextFaultKind;
 use super::ids::{id, thread_in};
 use super::lines::after;
 use super::numbers::{number, number_from, time, word_from};
+use super::operations::operation;
 use crate::instructions::{IdFrom, Instr, Ipc, Register, Source};
 use crate::machine::Declaration;
 use l4_types::formats::Format;
 use l4_types::ids::ThreadId;
+use l4_types::operations::Operation;
 use l4_types::registers::MESSAGE_REGISTERS;
 use l4_types::steps::{MOST_PROCESSORS, OrderKind};
 use l4_types::tags::{MsgTag, TagFault};
@@ -41,8 +45,6 @@ pub(super) const SPACE: &[u8] = b"space";
 pub(super) const SET: &[u8] = b"set";
 
 pub(super) const COPY: &[u8] = b"copy";
-
-pub(super) const ADD: &[u8] = b"add";
 
 pub(super) const TAG: &[u8] = b"tag";
 
@@ -203,18 +205,23 @@ pub(super) fn copy(operands: Words<'_>) -> Result<Instr, TextFaultKind>
     Ok(Instr::Copy(register, source))
 }
 
-/// The instruction `add` with these operands.
+/// The instruction that does an operation, with these operands.
 #[inline(never)]
 #[tactic(auto, unfolding(crate::specs::Statements::assign_of))]
-pub(super) fn add(format: Format, operands: Words<'_>) -> Result<Instr, TextFaultKind>
-    ensures { Returns instr_of result (assign_of (sum_value (format_of format)) operands.entry) }
+pub(super) fn compute(
+    format: Format,
+    operation: Operation,
+    operands: Words<'_>,
+) -> Result<Instr, TextFaultKind>
+    ensures { Returns instr_of result
+        (assign_of (computed_value (format_of format) (operation_of operation)) operands.entry) }
 {
     let (first, second) = operands.two().ok_or(TextFaultKind::BadLine)?;
     let register = register(first)?;
     let word = word_from(format, second)?;
     match format {
-        Format::W64 => Ok(Instr::Add(register, word)),
-        Format::W32 => Ok(Instr::ShortAdd(register, word)),
+        Format::W64 => Ok(Instr::Compute(operation, register, word)),
+        Format::W32 => Ok(Instr::ShortCompute(operation, register, word)),
     }
 }
 
@@ -372,8 +379,8 @@ pub fn instruction(format: Format, name: &[u8], operands: Words<'_>) -> Result<I
     if is(name, COPY) {
         return copy(operands);
     }
-    if is(name, ADD) {
-        return add(format, operands);
+    if let Some(operation) = operation(name) {
+        return compute(format, operation, operands);
     }
     if is(name, TAG) {
         return tag(format, operands);

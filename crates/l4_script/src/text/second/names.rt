@@ -11,6 +11,7 @@ ghost use Rattle.l4_script.specs.Second.Names.{thread_named};
 
 use super::super::fault::TextFaultKind;
 use super::super::ids::{id, thread_in};
+use super::super::operations::operation;
 use super::super::statements::is;
 use l4_types::formats::Format;
 use l4_types::ids::{GlobalId, ThreadId};
@@ -102,14 +103,13 @@ fn is_line_word(word: &[u8]) -> bool
         || is(word, b"as")
 }
 
-// A first word of an instruction that goes on with the next.
+// A first word of an instruction that goes on with the next, unless it does an operation.
 #[inline(always)]
 fn is_plain_instruction(word: &[u8]) -> bool
     ensures { result ≡ is_among plain_instructions word.now }
 {
     is(word, b"set")
         || is(word, b"copy")
-        || is(word, b"add")
         || is(word, b"from")
         || is(word, b"tag")
         || is(word, b"vs")
@@ -152,6 +152,7 @@ fn is_keyword(word: &[u8]) -> bool
 {
     is_register_word(word)
         || is_line_word(word)
+        || operation(word).is_some()
         || is_plain_instruction(word)
         || is_branch(word)
         || is_operand_word(word)

@@ -22,10 +22,11 @@ ghost use Rattle.l4_script.specs.Second.Statements.{second_instruction_of};
 use super::super::fault::TextFaultKind;
 use super::super::lines::after;
 use super::super::numbers::{number, number_from, word_from};
+use super::super::operations::operation;
 use super::super::statements::{
-    ADD, COPY, CPU, DELETE, END, EXCHANGE_REGISTERS, Heading, IPC, JUMP, ON_ERROR, SET, SPACE, TAG,
-    VIRTUAL_SENDER, add, bits, copy, end, heading_by, is, only, processor, register, set, source,
-    tag,
+    COPY, CPU, DELETE, END, EXCHANGE_REGISTERS, Heading, IPC, JUMP, ON_ERROR, SET, SPACE, TAG,
+    VIRTUAL_SENDER, bits, compute, copy, end, heading_by, is, only, processor, register, set,
+    source, tag,
 };
 use super::names::{Named, id_named, thread_named};
 use super::operands::{Place, id_or_last, id_or_register, named_place, second_time};
@@ -357,8 +358,8 @@ pub(super) fn plain(
     if is(name, COPY) {
         return copy(operands);
     }
-    if is(name, ADD) {
-        return add(format, operands);
+    if let Some(operation) = operation(name) {
+        return compute(format, operation, operands);
     }
     if is(name, FROM) {
         return from(format, operands);

@@ -11,7 +11,6 @@ use Rattle.l4_model.specs.Words.{Format, W64, W32, label_limit_in, is_word_in, s
 use Rattle.l4_model.specs.Machine.{IdFrom, Fixed, Last, InRegister, CancelSend, CancelReceive, CancelBoth, Delete, Operation, Value, Word, Register, Computed, Assign, Instr, Run, From, Tag, Vs, Ipc, Ask, Jump, OnErr, OnLabel, OnWord, OnFrom, End, Declaration}
 use Rattle.l4_words.specs.Threads.{thread_word}
 use Rattle.l4_words.proofs.Numerals.{decimal_is_read}
-use Rattle.l4_words.proofs.Spelled.{fits}
 use Rattle.l4_script.specs.Judged.{Judged, ◌>>=◌}
 use Rattle.l4_script.specs.Numbers.{number_of, time_from}
 use Rattle.l4_script.specs.Machines.{last_thread}

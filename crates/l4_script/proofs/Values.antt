@@ -8,7 +8,7 @@ use Rattle.l4_model.specs.Machine.{Operation, Value, Word, Register, Computed, F
 use Rattle.l4_words.proofs.Found.{some_same}
 use Rattle.l4_script.specs.Judged.{Judged}
 use Rattle.l4_script.specs.Numbers.{number_from, word_from}
-use Rattle.l4_script.specs.Operations.{operation_word, operation_named}
+use Rattle.l4_script.specs.Operations.{operation_named}
 use Rattle.l4_script.specs.Statements.{word_value, register_value, computed_value, value_of}
 use Rattle.l4_script.specs.Canonical.{keyword_of, operand_of, can_be_assigned}
 use Rattle.l4_script.proofs.Judging.{bind_ok, chosen, says, same_ok, number_within, word_needed}

@@ -1,5 +1,5 @@
 -- What a push makes of the rows.
-use Rattle.std.proofs.Common.{◌≡◌, ℕ, ◌+◌, ◌-◌, ◌<◌, ◌≤◌, Bool, Option, List, [], ◌∷◌, ◌++◌, length, take, drop, refl, ap, ap₂, arith, sym, append-nil, append_assoc, ◌∙◌, subst}
+use Rattle.std.proofs.Common.{◌≡◌, ℕ, ◌-◌, ◌<◌, ◌≤◌, Bool, Option, List, [], ◌∷◌, ◌++◌, length, take, drop, refl, ap, ap₂, arith, sym, append-nil, append_assoc, ◌∙◌, subst}
 use Rattle.std.specs.Prelude.{All, IfSome, slice_get, Some, None}
 use Rattle.std.proofs.lemmas.List.{take_all, drop_at, length-append, length_push, map-append}
 use Rattle.std.proofs.lemmas.List.Elements.{All-push, All-weaker}

@@ -11,6 +11,7 @@ ghost use Rattle.l4_history.specs.declared.records.WideHead.{WideHead};
 
 use crate::records::{Body, Head, SHORT, WideHead, name_at};
 use crate::threads::Threads;
+use crate::visitor::Visitor;
 use l4_types::ids::GlobalId;
 use l4_types::message_ref::MessageRef;
 use l4_types::step_ref::{DeliveryRef, StepRef};
@@ -146,4 +147,20 @@ pub(crate) fn wide_step<'a>(wide: &[Step<WideHead>], words: &'a [u64], index: us
         Ok(head) => Step::Deliver(wide_delivery(head, words)),
         Err(step) => step,
     }
+}
+
+/// Shows the step that no record fits at an index. It is rare, so it is a call.
+#[inline(never)]
+pub(crate) fn show_wide<V: Visitor>(
+    wide: &[Step<WideHead>],
+    words: &[u64],
+    index: usize,
+    visitor: &mut V,
+)
+    requires known { index < length wide.now }
+    requires within { All (IsWide (length words.now)) wide.now }
+    requires ready { V.is_ready visitor.old }
+    ensures { V.sees visitor.old (wide_at words.now (slice_get wide.now index)) visitor.new }
+{
+    visitor.visit(wide_step(wide, words, index));
 }

@@ -7,12 +7,13 @@ ghost use Rattle.l4_types.specs.StepView.{delivered, delivery_in, order_kind_of,
 ghost use Rattle.l4_history.specs.Inner.Rows.{HasMore, plain_step, send_step, thread_step};
 ghost use Rattle.l4_history.specs.Inner.Sent.{sent};
 
-use crate::deliveries::{delivery, head, wide_head, wide_step};
+use crate::deliveries::{delivery, head, show_wide, wide_head, wide_step};
 use crate::records::{Head, Kind, OfSend, OfThread, Record, SHORT, WideHead};
 use crate::rows::{append, reserve_indexes, reserve_more};
 use crate::sink::tell;
 use crate::steps::Steps;
 use crate::threads::Threads;
+use crate::visitor::Visitor;
 use l4_types::errors::NoMemory;
 use l4_types::ids::GlobalId;
 use l4_types::messages::MOST_WORDS;
@@ -494,6 +495,52 @@ impl History {
             }
             Kind::Deliver => Step::Deliver(delivery(threads, &self.heads, &self.words, index)),
             Kind::Wide => wide_step(&self.wide, &self.words, index),
+        }
+    }
+
+    /// Shows the i-th step, counted from 0. What is done with it is compiled for each kind of
+    /// steps by itself, where `step` makes a value that may be any of them.
+    #[inline(always)]
+    pub fn show<V: Visitor>(&self, i: usize, visitor: &mut V)
+        requires within { i < length self.now.steps }
+        requires ready { V.is_ready visitor.old }
+        ensures { IfSome (slice_get self.now.steps i) (λ step. V.sees visitor.old step visitor.new) }
+    {
+        let (record, threads) = (self.records[i], &self.threads);
+        let index = record.number as usize;
+        match record.kind {
+            Kind::Thread(OfThread::Local) => visitor.visit(Step::Local(record.thread(threads))),
+            Kind::Thread(OfThread::Wait) => visitor.visit(Step::Wait(record.thread(threads))),
+            Kind::Thread(OfThread::ReceiveTimeout) => visitor.visit(Step::ReceiveTimeout(
+                record.thread(threads),
+            )),
+            Kind::Thread(OfThread::ReceiveNobody) => visitor.visit(Step::ReceiveNobody(
+                record.thread(threads),
+            )),
+            Kind::Thread(OfThread::ReceiveCancel) => visitor.visit(Step::ReceiveCancel(
+                record.thread(threads),
+            )),
+            Kind::Thread(OfThread::Obey) => visitor.visit(Step::Obey(record.thread(threads))),
+            Kind::Send(OfSend::Begin) => visitor.visit(Step::Begin(record.send(threads))),
+            Kind::Send(OfSend::Queue) => visitor.visit(Step::Queue(record.send(threads))),
+            Kind::Send(OfSend::Timeout) => visitor.visit(Step::SendTimeout(record.send(threads))),
+            Kind::Send(OfSend::Nobody) => visitor.visit(Step::SendNobody(record.send(threads))),
+            Kind::Send(OfSend::Cancel) => visitor.visit(Step::SendCancel(record.send(threads))),
+            Kind::Send(OfSend::Drop) => visitor.visit(Step::Drop(record.send(threads))),
+            Kind::Send(OfSend::Retarget) => visitor.visit(Step::Retarget(record.send(threads))),
+            Kind::Tick => {
+                visitor.visit(Step::Tick(Tick::new(
+                    record.slot as u8,
+                    u64::from(record.number),
+                ).unwrap()))
+            }
+            Kind::Deliver => visitor.visit(Step::Deliver(delivery(
+                threads,
+                &self.heads,
+                &self.words,
+                index,
+            ))),
+            Kind::Wide => show_wide(&self.wide, &self.words, index, visitor),
         }
     }
 }

@@ -26,3 +26,4 @@ mod rows;
 pub mod sink;
 pub mod steps;
 mod threads;
+pub mod visitor;

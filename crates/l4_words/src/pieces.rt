@@ -113,9 +113,22 @@ fn write_send(thread: GlobalId, k: u64, line: &mut [u8], end: usize) -> usize
         codes " " ++ name_word (record { thread = thread; k = k }) ++ drop end line.old }
     ensures spelled { is_name (record { thread = thread; k = k }) ≡ true }
 {
-    let number = write_digits(k, line, end);
-    let hash = write_byte(b'#', line, number);
+    let hash = write_send_number(k, line, end);
     write_thread(thread, line, hash)
+}
+
+/// Writes `#K`, the number of a send in decimal, just before `end` in the line. Returns where it
+/// starts.
+#[tactic(auto, using(crate::proofs::Lengths::at_most_20))]
+pub fn write_send_number(k: u64, line: &mut [u8], end: usize) -> usize
+    requires room { NUMBER_BYTES ≤ end }
+    requires within { end ≤ length line.old }
+    ensures room { end ≤ result + NUMBER_BYTES }
+    ensures within { result ≤ end }
+    ensures written { drop result line.new ≡ codes "#" ++ decimal k ++ drop end line.old }
+{
+    let number = write_digits(k, line, end);
+    write_byte(b'#', line, number)
 }
 
 /// Writes a space and a word in hexadecimal just before `end` in the line. Returns where they

@@ -1,6 +1,6 @@
 -- What the rows of a history tell: the threads that have slots, its records, the heads of its
 -- deliveries, the steps that no record fits, and the words of all deliveries.
-use Rattle.std.specs.Prelude.{◌≡◌, ⊤, ℕ, ◌+◌, ◌<◌, ◌≤◌, ◌^◌, Option, Some, None, IfSome, List, ◌++◌, length, map, take, drop, slice_get, All}
+use Rattle.std.specs.Prelude.{◌≡◌, ℕ, ◌+◌, ◌<◌, ◌≤◌, ◌^◌, Option, Some, None, IfSome, List, ◌++◌, length, map, take, drop, slice_get, All}
 use Rattle.l4_history.specs.declared.records.Body.{Body}
 use Rattle.l4_history.specs.declared.records.Head.{Head}
 use Rattle.l4_history.specs.declared.records.WideHead.{WideHead}
@@ -19,7 +19,7 @@ use Rattle.l4_model.specs.Machine.{most_processors}
 use Rattle.l4_model.specs.World.{Message, Name}
 use Rattle.l4_model.specs.Rules.{received_tag}
 use Rattle.l4_model.specs.Steps as steps
-use Rattle.l4_types.specs.StepView.{delivery_in, seen, step_by}
+use Rattle.l4_types.specs.StepView.{delivery_in, step_by}
 
 -- A history to its callers: its steps, and how many more it takes without memory.
 pub record Told : Type 0 where

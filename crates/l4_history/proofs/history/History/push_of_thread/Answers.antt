@@ -1,4 +1,4 @@
-use Rattle.std.proofs.Common.{◌∙◌, ◌≡◌, ◌++◌, [], ◌∷◌, ap, ◌-◌, List}
+use Rattle.std.proofs.Common.{◌∙◌, ◌++◌, [], ◌∷◌, ap, ◌-◌, List}
 use Rattle.l4_model.specs.Steps as steps
 use Rattle.l4_history.specs.Inner.Rows.{Told, thread_step}
 use Rattle.l4_history.proofs.Pushed.{slots-told, thread-told}

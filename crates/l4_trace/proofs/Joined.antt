@@ -8,9 +8,9 @@ pub join_words : (first : List ℕ) (words : List ℕ) → join_with_byte 32 (fi
 join_words first [] = sym (append-nil first)
 join_words first (word ∷ words) = ap (λ rest. first ++ (32 ∷ rest)) (join_words (hexadecimal word) words)
 
--- The line of a delivery, put together piece by piece.
-pub delivery_line : (name receiver shown actual tag : List ℕ) (words : List ℕ) →
+-- The line of a delivery, put together piece by piece, before what is behind it.
+pub delivery_line : (name receiver shown actual tag : List ℕ) (words rest : List ℕ) →
     codes "deliver" ++ (codes " " ++ name ++ (codes " " ++ receiver ++ (codes " " ++ shown ++ (codes " " ++ actual
-    ++ (codes " " ++ tag ++ (flat_map (λ word. codes " " ++ hexadecimal word) words ++ codes "\n"))))))
-    ≡ line_of_words (codes "deliver" ∷ name ∷ receiver ∷ shown ∷ actual ∷ tag ∷ map hexadecimal words)
-delivery_line name receiver shown actual tag words = simp (join_words, append_assoc)
+    ++ (codes " " ++ tag ++ (flat_map (λ word. codes " " ++ hexadecimal word) words ++ 10 ∷ rest))))))
+    ≡ line_of_words (codes "deliver" ∷ name ∷ receiver ∷ shown ∷ actual ∷ tag ∷ map hexadecimal words) ++ rest
+delivery_line name receiver shown actual tag words rest = simp (join_words, append_assoc)

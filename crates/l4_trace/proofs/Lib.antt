@@ -1,5 +1,7 @@
+pub mod Blocks
 pub mod InFront
 pub mod Joined
+pub mod Kept
 pub mod KeywordRows
 pub mod LineRows
 pub mod Operands

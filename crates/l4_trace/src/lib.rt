@@ -23,4 +23,5 @@ pub mod lines;
 pub mod reader;
 pub mod reading;
 mod steps;
+mod texts;
 pub mod traces;

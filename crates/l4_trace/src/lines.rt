@@ -6,18 +6,18 @@ ghost use Rattle.l4_model.specs.Words.{is_global};
 ghost use Rattle.l4_model.specs.Steps.{Step as ModelStep, Tick as ModelTick};
 ghost use Rattle.l4_types.specs.StepView.{delivered, seen, step_of, order_kind_of};
 ghost use Rattle.l4_trace.specs.Lines.{thread_word, name_word, order_kind_word, line_of};
-ghost use Rattle.l4_trace.specs.Lines.{line_of_words, trace_of, is_name, has_line};
+ghost use Rattle.l4_trace.specs.Lines.{line_of_words, trace_of, is_name, is_word, has_line};
+ghost use Rattle.l4_trace.specs.Lines.{hexadecimal};
 
 use crate::keywords::{DELIVER, by_keyword};
+use crate::texts::{Anew, Speller};
 use l4_types::errors::NoMemory;
 use l4_types::ids::GlobalId;
 use l4_types::messages::MOST_WORDS;
 use l4_types::step_ref::{DeliveryRef, StepRef};
 use l4_types::steps::{Name, OrderKind, Step, Tick};
 use l4_words::digits::{write_byte, write_bytes};
-use l4_words::pieces::{
-    WORD_BYTES, write_name, write_number, write_thread, write_word, write_words,
-};
+use l4_words::pieces::{WORD_BYTES, write_number, write_word, write_words};
 
 // The first word of a line, and the last one of an order, take at most this many bytes.
 const KEYWORD_BYTES: usize = 8;
@@ -28,13 +28,13 @@ pub(crate) const LONGEST_LINE: usize = 134 + WORD_BYTES * MOST_WORDS;
 // The line of a step, by the row of its keyword.
 macro_rules! write_rows {
     (
-        ($step:ident, $line:ident)
+        ($step:ident, $speller:ident, $line:ident, $end:ident)
         $($keyword:literal => $variant:ident $fields:tt, $read:ident,
             $write:ident($($operand:ident),*);)*
     ) => {
         match $step {
-            Step::Deliver(delivery) => write_delivery(delivery, $line),
-            $(Step::$variant $fields => $write($keyword, $(*$operand,)* $line),)*
+            Step::Deliver(delivery) => write_delivery(delivery, $speller, $line, $end),
+            $(Step::$variant $fields => $write($keyword, $(*$operand,)* $speller, $line, $end),)*
         }
     };
 }
@@ -73,105 +73,166 @@ pub(crate) fn append_line(
     ensures spelled { OnOk result (has_line (seen step.now) ≡ true) }
     ensures err { OnErr result (out.new.items ≡ out.old.items) }
 {
-    let start = write_line(step, line);
+    let end = line.len();
+    let start = write_line(step, &mut Anew, line, end);
     out.extend_from_slice(&line[start..])?;
     Ok(())
 }
 
-// Writes the line of a step at the end of the room for a line. Returns where the line starts.
+/// Writes the line of a step just before `end` in the room for lines. Returns where it starts.
 #[inline(always)]
-fn write_line(step: &StepRef<'_>, line: &mut [u8]) -> usize
-    requires { LONGEST_LINE ≤ length line.old }
-    ensures within { result ≤ length line.new }
-    ensures written { drop result line.new ≡ line_of (seen step.now) }
+pub(crate) fn write_line<S: Speller>(
+    step: &StepRef<'_>,
+    speller: &mut S,
+    line: &mut [u8],
+    end: usize,
+) -> usize
+    requires room { LONGEST_LINE ≤ end }
+    requires within { end ≤ length line.old }
+    ensures room { end ≤ result + LONGEST_LINE }
+    ensures within { result ≤ end }
+    ensures written { drop result line.new ≡ line_of (seen step.now) ++ drop end line.old }
     ensures spelled { has_line (seen step.now) ≡ true }
 {
-    by_keyword!(write_rows(step, line))
+    by_keyword!(write_rows(step, speller, line, end))
 }
 
 // Inlined, since each caller knows the step: a keyword of known length is copied in one go.
 #[inline(always)]
-fn write_thread_line(keyword: &[u8], thread: GlobalId, line: &mut [u8]) -> usize
+fn write_thread_line<S: Speller>(
+    keyword: &[u8],
+    thread: GlobalId,
+    speller: &mut S,
+    line: &mut [u8],
+    end: usize,
+) -> usize
     requires short { length keyword.now ≤ KEYWORD_BYTES }
-    requires room { LONGEST_LINE ≤ length line.old }
-    ensures within { result ≤ length line.new }
-    ensures written { drop result line.new ≡ keyword.now ++ codes " " ++
-        thread_word thread ++ codes "\n" }
+    requires room { LONGEST_LINE ≤ end }
+    requires within { end ≤ length line.old }
+    ensures room { end ≤ result + LONGEST_LINE }
+    ensures within { result ≤ end }
+    ensures written { drop result line.new ≡
+        (keyword.now ++ codes " " ++ thread_word thread ++ codes "\n") ++ drop end line.old }
     ensures spelled { is_global thread ≡ true }
 {
-    let end = write_byte(b'\n', line, line.len());
-    let start = write_thread(thread, line, end);
+    let feed = write_byte(b'\n', line, end);
+    let start = speller.write_thread(thread, line, feed);
     write_bytes(keyword, line, start)
 }
 
 // Writes the line of a keyword and the name of a send.
 #[inline(always)]
-fn write_name_line(keyword: &[u8], name: Name, line: &mut [u8]) -> usize
+fn write_name_line<S: Speller>(
+    keyword: &[u8],
+    name: Name,
+    speller: &mut S,
+    line: &mut [u8],
+    end: usize,
+) -> usize
     requires short { length keyword.now ≤ KEYWORD_BYTES }
-    requires room { LONGEST_LINE ≤ length line.old }
-    ensures within { result ≤ length line.new }
-    ensures written { drop result line.new ≡ keyword.now ++ codes " " ++
-        name_word name ++ codes "\n" }
+    requires room { LONGEST_LINE ≤ end }
+    requires within { end ≤ length line.old }
+    ensures room { end ≤ result + LONGEST_LINE }
+    ensures within { result ≤ end }
+    ensures written { drop result line.new ≡
+        (keyword.now ++ codes " " ++ name_word name ++ codes "\n") ++ drop end line.old }
     ensures spelled { is_name name ≡ true }
 {
-    let end = write_byte(b'\n', line, line.len());
-    let start = write_name(name, line, end);
+    let feed = write_byte(b'\n', line, end);
+    let start = speller.write_name(name, line, feed);
     write_bytes(keyword, line, start)
 }
 
 // Writes the line of a delivery. Inlined, since a step that is passed on lies in memory as a whole.
 #[inline(always)]
-fn write_delivery(delivery: &DeliveryRef<'_>, line: &mut [u8]) -> usize
-    requires { LONGEST_LINE ≤ length line.old }
-    ensures within { result ≤ length line.new }
-    ensures written { drop result line.new ≡ line_of (delivered delivery.now) }
+fn write_delivery<S: Speller>(
+    delivery: &DeliveryRef<'_>,
+    speller: &mut S,
+    line: &mut [u8],
+    end: usize,
+) -> usize
+    requires room { LONGEST_LINE ≤ end }
+    requires within { end ≤ length line.old }
+    ensures room { end ≤ result + LONGEST_LINE }
+    ensures within { result ≤ end }
+    ensures written { drop result line.new ≡
+        line_of (delivered delivery.now) ++ drop end line.old }
     ensures spelled { has_line (delivered delivery.now) ≡ true }
 {
     let message = &delivery.message;
-    let end = write_byte(b'\n', line, line.len());
-    let words = write_words(message.words(), line, end);
-    let tag = write_word(delivery.tag().raw(), line, words);
-    let actual = write_thread(message.actual(), line, tag);
-    let shown = write_thread(message.shown(), line, actual);
-    let receiver = write_thread(delivery.receiver, line, shown);
-    let name = write_name(delivery.name, line, receiver);
+    let feed = write_byte(b'\n', line, end);
+    let words = write_words(message.words(), line, feed);
+    let tag = write_tag(delivery.tag().raw(), line, words);
+    let actual = speller.write_thread(message.actual(), line, tag);
+    let shown = speller.write_thread(message.shown(), line, actual);
+    let receiver = speller.write_thread(delivery.receiver, line, shown);
+    let name = speller.write_name(delivery.name, line, receiver);
     write_bytes(DELIVER, line, name)
 }
 
-fn write_order(
+// Writes a space and a tag. Most tags are of no word, no label and no flag.
+#[inline(always)]
+fn write_tag(tag: u64, line: &mut [u8], end: usize) -> usize
+    requires room { WORD_BYTES ≤ end }
+    requires within { end ≤ length line.old }
+    ensures room { end ≤ result + WORD_BYTES }
+    ensures within { result ≤ end }
+    ensures written { drop result line.new ≡ codes " " ++ hexadecimal tag ++ drop end line.old }
+    ensures spelled { is_word tag ≡ true }
+{
+    if tag == 0 {
+        return write_bytes(b" 0", line, end);
+    }
+    write_word(tag, line, end)
+}
+
+fn write_order<S: Speller>(
     keyword: &[u8],
     caller: GlobalId,
     target: GlobalId,
     what: OrderKind,
+    speller: &mut S,
     line: &mut [u8],
+    end: usize,
 ) -> usize
     requires short { length keyword.now ≤ KEYWORD_BYTES }
-    requires room { LONGEST_LINE ≤ length line.old }
-    ensures within { result ≤ length line.new }
+    requires room { LONGEST_LINE ≤ end }
+    requires within { end ≤ length line.old }
+    ensures room { end ≤ result + LONGEST_LINE }
+    ensures within { result ≤ end }
     ensures written { drop result line.new ≡
         line_of_words (keyword.now ∷ thread_word caller ∷ thread_word target ∷
-        order_kind_word (order_kind_of what) ∷ []) }
+        order_kind_word (order_kind_of what) ∷ []) ++ drop end line.old }
     ensures caller { is_global caller ≡ true }
     ensures target { is_global target ≡ true }
 {
-    let end = write_byte(b'\n', line, line.len());
-    let word = write_bytes(spelled(what), line, end);
+    let feed = write_byte(b'\n', line, end);
+    let word = write_bytes(spelled(what), line, feed);
     let space = write_byte(b' ', line, word);
-    let second = write_thread(target, line, space);
-    let first = write_thread(caller, line, second);
+    let second = speller.write_thread(target, line, space);
+    let first = speller.write_thread(caller, line, second);
     write_bytes(keyword, line, first)
 }
 
-fn write_tick(keyword: &[u8], tick: Tick, line: &mut [u8]) -> usize
+fn write_tick<S: Speller>(
+    keyword: &[u8],
+    tick: Tick,
+    _speller: &mut S,
+    line: &mut [u8],
+    end: usize,
+) -> usize
     requires short { length keyword.now ≤ KEYWORD_BYTES }
-    requires room { LONGEST_LINE ≤ length line.old }
-    ensures within { result ≤ length line.new }
+    requires room { LONGEST_LINE ≤ end }
+    requires within { end ≤ length line.old }
+    ensures room { end ≤ result + LONGEST_LINE }
+    ensures within { result ≤ end }
     ensures written { drop result line.new ≡
-        line_of_words (keyword.now ∷ decimal tick.cpu ∷ decimal tick.clock ∷ []) }
+        line_of_words (keyword.now ∷ decimal tick.cpu ∷ decimal tick.clock ∷ []) ++
+        drop end line.old }
     ensures spelled { has_line (ModelTick tick.cpu tick.clock) ≡ true }
 {
-    let end = write_byte(b'\n', line, line.len());
-    let clock = write_number(tick.clock(), line, end);
+    let feed = write_byte(b'\n', line, end);
+    let clock = write_number(tick.clock(), line, feed);
     let cpu = write_number(u64::from(tick.cpu()), line, clock);
     write_bytes(keyword, line, cpu)
 }

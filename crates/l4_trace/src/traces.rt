@@ -1,11 +1,14 @@
 //! The trace of a history.
-ghost use Rattle.std.specs.Prelude.{◌≡◌, ◌++◌, [], IfOk, OnOk, map, true};
+ghost use Rattle.std.specs.Prelude.{◌≡◌, ◌≤◌, ◌++◌, [], IfOk, OnOk, drop, length, map, true};
 ghost use Rattle.std.specs.List.{list_all};
 ghost use Rattle.l4_types.specs.StepView.{step_of};
 ghost use Rattle.l4_trace.specs.Lines.{has_line, trace_of};
+ghost use Rattle.l4_trace.specs.Inner.Texts.{HasBefore};
 
-use crate::lines::{LONGEST_LINE, append_line};
+use crate::lines::{LONGEST_LINE, append_line, write_line};
+use crate::texts::Texts;
 use l4_history::steps::Steps;
+use l4_history::visitor::Visitor;
 use l4_types::errors::NoMemory;
 use l4_types::step_ref::StepRef;
 use l4_types::steps::Step;
@@ -24,13 +27,83 @@ pub fn trace(alloc: Global, history: &[Step]) -> Result<Vec<u8>, NoMemory>
     Ok(lines)
 }
 
+// So many lines are written at once.
+const BLOCK_LINES: usize = 8;
+
+const BLOCK_BYTES: usize = BLOCK_LINES * LONGEST_LINE;
+
+// Lines that are written from the last to the first, each just before the one that follows.
+#[derive(Drop)]
+struct Block {
+    texts: Texts,
+    bytes: Vec<u8>,
+    // Where the first of the lines starts.
+    start: usize,
+}
+
+impl Visitor for Block {
+    ghost use Rattle.std.specs.Prelude.{◌≤◌, length};
+    ghost use Rattle.l4_trace.specs.declared.lines.TheConstants.{LONGEST_LINE};
+    ghost use Rattle.l4_trace.specs.Inner.Texts.{HasBefore};
+
+    ghost is_ready = { λ block. (LONGEST_LINE ≤ block.start) ×
+        (block.start ≤ length block.bytes.items) };
+
+    ghost sees = { λ old step new. HasBefore old.bytes.items old.start step new.bytes.items
+        new.start };
+
+    #[inline(always)]
+    fn visit(&mut self, step: StepRef<'_>) {
+        self.start = write_line(&step, &mut self.texts, &mut self.bytes, self.start);
+    }
+}
+
+impl Block {
+    // Makes its room, where there is none.
+    #[inline(always)]
+    fn open(&mut self) -> Result<(), NoMemory>
+        ensures { OnOk result (length self.new.bytes.items ≡ BLOCK_BYTES) }
+    {
+        if self.bytes.len() == BLOCK_BYTES {
+            return Ok(());
+        }
+        self.make_room()
+    }
+
+    #[inline(never)]
+    fn make_room(&mut self) -> Result<(), NoMemory>
+        ensures { OnOk result (length self.new.bytes.items ≡ BLOCK_BYTES) }
+    {
+        self.texts.open()?;
+        self.bytes.resize(BLOCK_BYTES, 0)?;
+        Ok(())
+    }
+
+    // Writes the lines of some steps.
+    #[inline(always)]
+    fn write(&mut self, steps: Steps<'_>)
+        requires room { length self.old.bytes.items ≡ BLOCK_BYTES }
+        requires few { length steps ≤ BLOCK_LINES }
+        ensures room { length self.new.bytes.items ≡ BLOCK_BYTES }
+        ensures within { self.new.start ≤ BLOCK_BYTES }
+        ensures lines { drop self.new.start self.new.bytes.items ≡ trace_of steps.entry }
+        ensures spelled { list_all has_line steps.entry ≡ true }
+    {
+        let mut left = steps;
+        self.start = BLOCK_BYTES;
+        while !left.is_empty() {
+            left.show_last(self);
+        }
+    }
+}
+
 /// A trace that is written as the steps of a history are told.
 #[derive(Drop)]
 pub struct TraceWriter {
     lines: Vec<u8>,
-    // A line is written here first. One buffer serves all lines, since making one costs more than
-    // writing most lines.
-    line: [u8; LONGEST_LINE],
+    // Some lines are written here first. One block serves all lines, since making one costs more
+    // than writing most lines.
+    block: Block,
 }
 
 impl TraceWriter {
@@ -40,7 +113,11 @@ impl TraceWriter {
     {
         TraceWriter {
             lines: Vec::new(alloc),
-            line: [0; LONGEST_LINE],
+            block: Block {
+                texts: Texts::new(alloc),
+                bytes: Vec::new(alloc),
+                start: 0,
+            },
         }
     }
 
@@ -51,8 +128,12 @@ impl TraceWriter {
             trace_of steps.entry) }
         ensures spelled { OnOk result (list_all has_line steps.entry ≡ true) }
     {
-        for step in steps {
-            append_line(&step, &mut self.line, &mut self.lines)?;
+        self.block.open()?;
+        let mut left = steps;
+        while !left.is_empty() {
+            self.block.write(left.take_first(BLOCK_LINES));
+            self.lines
+                .extend_from_slice(&self.block.bytes[self.block.start..])?;
         }
         Ok(())
     }

@@ -74,7 +74,7 @@ impl Tcb {
             Period::Never
         };
         self.thread.begin_at(k);
-        copy_words(&mut self.apart, message.words());
+        put_words(&mut self.apart, message.words());
         self.send = Some(Send::new(receiver.id(), Head::apart(&message), period, 0, None));
     }
 
@@ -95,11 +95,11 @@ impl Tcb {
     {
         set_apart(&mut self.send, &mut self.apart, &self.thread);
         let has_ended = self.thread.local(instr);
-        self.phase = if has_ended {
-            Phase::Ended
-        } else {
-            Phase::Ready
-        };
+        if has_ended {
+            self.phase = Phase::Ended;
+        } else if !self.is_ready() {
+            self.phase = Phase::Ready;
+        }
     }
 
     /// Begins the first phase of an Ipc, and returns which one. `now` is the clock of its
@@ -418,4 +418,16 @@ fn copy_words(apart: &mut ArrayVec<u64, MOST_WORDS>, words: &[u64])
 {
     apart.clear();
     apart.try_extend_from_slice(words).unwrap();
+}
+
+// As `copy_words`. Mostly there are as many as before, and then none is cleared first.
+fn put_words(apart: &mut ArrayVec<u64, MOST_WORDS>, words: &[u64])
+    requires { length words.now < register_count }
+    ensures { apart.new.items ≡ words.now }
+{
+    if apart.len() == words.len() {
+        apart.as_mut_slice().copy_from_slice(words);
+    } else {
+        copy_words(apart, words);
+    }
 }

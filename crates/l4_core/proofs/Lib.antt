@@ -23,6 +23,7 @@ mod Parting
 mod Passing
 mod PlaceSets
 mod Queueing
+mod Running
 mod Sending
 mod Settling
 mod Starting

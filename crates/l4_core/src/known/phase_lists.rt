@@ -2,6 +2,7 @@
 ghost use Rattle.std.specs.Prelude.{◌≡◌, ◌<◌, ◌+◌, IfSome, false, length};
 ghost use Rattle.std.specs.Option.{option_map};
 ghost use Rattle.l4_model.specs.Words.{clock_limit, period_limit};
+ghost use Rattle.l4_model.specs.World.{Ready, is_ready};
 ghost use Rattle.l4_types.specs.Inner.PeriodView.{period_of, IsTimely};
 ghost use Rattle.l4_core_model.specs.Local.{thread, relists};
 ghost use Rattle.l4_core.specs.Processor.{with_local};
@@ -34,7 +35,39 @@ impl ProcessorState<'_> {
         requires unready { is_ready_in self.old.local.lists place ≡ false }
         ensures { self.new ≡ with_local self.old (enters_lists place self.old.local) }
     {
-        self.rearm(place);
+        if self.threads[place].is_ready() {
+            self.enter_ready(place);
+        } else {
+            self.rearm(place);
+        }
+    }
+
+    /// Puts a thread of this processor that has run an instruction into the lists of its phase.
+    /// Returns whether it can run on.
+    #[inline(always)]
+    pub(crate) fn run_on(&mut self, place: usize) -> bool
+        requires own { IsOwnOf self.old place }
+        requires unready { is_ready_in self.old.local.lists place ≡ false }
+        ensures state { self.new ≡ with_local self.old (enters_lists place self.old.local) }
+        ensures runs { result ≡ is_ready (thread self.old.local place).phase }
+    {
+        let runs_on = self.threads[place].is_ready();
+        self.enter_lists(place);
+        runs_on
+    }
+
+    /// Puts a thread of this processor that can run into the ready list, where it does not stand
+    /// yet. Mostly it has no deadline.
+    #[inline(always)]
+    fn enter_ready(&mut self, place: usize)
+        requires own { IsOwnOf self.old place }
+        requires ready { (thread self.old.local place).phase ≡ Ready }
+        requires unready { is_ready_in self.old.local.lists place ≡ false }
+        ensures { self.new ≡ with_local self.old (enters_lists place self.old.local) }
+    {
+        if self.lists.is_armed(place) {
+            self.rearm(place);
+        }
         self.make_ready(place);
     }
 
@@ -55,12 +88,11 @@ impl ProcessorState<'_> {
     // Appends a thread that can run to the ready list.
     fn make_ready(&mut self, place: usize)
         requires own { IsOwnOf self.old place }
+        requires ready { (thread self.old.local place).phase ≡ Ready }
         requires unready { is_ready_in self.old.local.lists place ≡ false }
         ensures { self.new ≡ with_local self.old
             (relists (readies (thread self.old.local place) place) self.old.local) }
     {
-        if self.threads[place].is_ready() {
-            self.lists.push_ready(place);
-        }
+        self.lists.push_ready(place);
     }
 }

@@ -56,7 +56,8 @@ impl Core<'_> {
         note_duty(&self.known, &mut self.duties, &self.zeros, place);
     }
 
-    /// Runs an instruction of a thread that concerns nobody else, or ends its script.
+    /// Runs an instruction of a thread that concerns nobody else, or ends its script. A thread that
+    /// can run on has no other duty than before.
     #[inline(always)]
     pub(super) fn run_alone(&mut self, place: usize, instr: &Instr)
         requires hand { IsAtHand self.old place }
@@ -67,8 +68,10 @@ impl Core<'_> {
     {
         let known = &mut self.known;
         known.threads[place].run(instr);
-        known.enter_lists(place);
-        note_duty(&self.known, &mut self.duties, &self.zeros, place);
+        let runs_on = known.run_on(place);
+        if !runs_on {
+            note_duty(&self.known, &mut self.duties, &self.zeros, place);
+        }
     }
 
     /// Gives a thread the message that another one sends, with this tag.
@@ -222,6 +225,7 @@ impl Core<'_> {
 
     /// Forgets that a thread may have a duty, if it has none any more: the next turn need not look
     /// at it.
+    #[inline(always)]
     pub(super) fn forget_duty(&mut self, place: usize)
         requires { IsOwnOf self.old place }
         ensures { self.new ≡ self.old }

@@ -1,6 +1,6 @@
 //! Runs the next instruction of a thread.
 ghost use Rattle.std.specs.Prelude.{◌≡◌, ◌<◌, ◌≤◌, ◌+◌, ◌^◌, true, false, length, IfSome, ℕ};
-ghost use Rattle.l4_model.specs.Machine.{Ask, place_of, most_instructions};
+ghost use Rattle.l4_model.specs.Machine.{Ask, End, place_of, most_instructions};
 ghost use Rattle.l4_model.specs.Conditions.{act_of, instruction};
 ghost use Rattle.l4_model.specs.Rules.{ask_act};
 ghost use Rattle.std.specs.Option.{option_map};
@@ -76,7 +76,7 @@ impl Core<'_> {
             (held self.old.machine self.old.local place))) self.old self.new buffer.old buffer.new }
     {
         let Some(instr) = self.known.instruction(place) else {
-            return self.run(place, &Instr::End, buffer);
+            return self.end_script(place, buffer);
         };
         match instr {
             Instr::Ipc(ipc) => {
@@ -89,6 +89,19 @@ impl Core<'_> {
             Instr::Order(target, what) => self.order(place, instr, *target, *what, buffer),
             _ => self.run(place, instr, buffer),
         }
+    }
+
+    // Ends the script of a thread that has run its last instruction. It is a call of its own: all
+    // other turns are spared the room for an instruction.
+    #[inline(never)]
+    fn end_script<S: Sink>(&mut self, place: usize, buffer: &mut EventBuffer<S>)
+        requires hand { IsAtHand self.old place }
+        requires instr { instruction (held self.old.machine self.old.local place) ≡ End }
+        requires room { 0 < buffer.old.room }
+        ensures { Does (runs_alone_at self.old.machine place)
+            self.old self.new buffer.old buffer.new }
+    {
+        self.run(place, &Instr::End, buffer);
     }
 
     // Runs an instruction that concerns nobody else.

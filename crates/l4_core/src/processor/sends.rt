@@ -217,8 +217,30 @@ impl Core<'_> {
         let waiting = self.known.entry(receiver, sender);
         self.queue_send(receiver, waiting);
         if self.known.is_first(receiver, sender) {
-            self.deliver(receiver, sender, buffer);
+            self.deliver_at_once(receiver, sender, buffer);
         }
+    }
+
+    // Delivers a send to a receiver of this processor, which had the duty to take it. So no turn
+    // looks for that duty in vain.
+    #[inline(never)]
+    fn deliver_at_once<S: Sink>(
+        &mut self,
+        receiver: usize,
+        sender: usize,
+        buffer: &mut EventBuffer<S>,
+    )
+        requires own { IsOwnOf self.old receiver }
+        requires receiver { IsReceiver self.old receiver }
+        requires sender { IsSender self.old sender }
+        requires room { 0 < buffer.old.room }
+        requires slots { 2 ≤ buffer.old.slots }
+        ensures { Does
+            (delivers self.old.machine self.old.cpu receiver sender)
+            self.old self.new buffer.old buffer.new }
+    {
+        self.deliver(receiver, sender, buffer);
+        self.forget_duty(receiver);
     }
 
     /// Withdraws the send of a thread of this processor, if it is split.

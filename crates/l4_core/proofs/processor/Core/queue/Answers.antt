@@ -34,8 +34,8 @@ pub returns-then-is_first : goal.returns-then-is_first
 returns-then-is_first g c = λ send has.
     let entry_is = subst (λ (p : Processor). (send : Send) → (thread p.local c.args.sender).send ≡ Some send → c.entry-waiting.result ≡ entry p.machine c.args.receiver c.args.sender send) c.self.view_is c.entry-waiting.ensures in
     let tells = c.emit.ensures ∙ ap (λ name. with_step (Queue name) c.args.buffer.now) (c.last_name.ensures ∙ ap (λ (p : Processor). last_name p.machine p.local c.args.sender) c.self.view_is) in
-    queue_delivers c.args.self.now c.queue_send.new.self c.deliver.new.self c.args.receiver c.args.sender c.args.buffer.now c.emit.new.self c.deliver.new.buffer c.entry-waiting.result send tells (entry_is send has) c.queue_send.ensures
-    (subst (λ (p : Processor). is_place (first_acceptable p.local c.args.receiver) c.args.sender ≡ true) c.self-2.view_is (sym c.is_first.ensures ∙ c.if-is_first.true)) c.deliver.ensures
+    queue_delivers c.args.self.now c.queue_send.new.self c.deliver_at_once.new.self c.args.receiver c.args.sender c.args.buffer.now c.emit.new.self c.deliver_at_once.new.buffer c.entry-waiting.result send tells (entry_is send has) c.queue_send.ensures
+    (subst (λ (p : Processor). is_place (first_acceptable p.local c.args.receiver) c.args.sender ≡ true) c.self-2.view_is (sym c.is_first.ensures ∙ c.if-is_first.true)) c.deliver_at_once.ensures
 
 pub returns-else-is_first : goal.returns-else-is_first
 returns-else-is_first g c = λ send has.

@@ -30,6 +30,7 @@ pub mod round_trips;
 pub use l4_script::instructions::{IdFrom, Instr, Ipc, Register, Source};
 pub use l4_script::machine::{Declaration, MOST_INSTRUCTIONS, MOST_THREADS, Machine};
 pub use l4_script::text::{MOST_BYTES, TextFault, TextFaultKind};
+pub use l4_types::operations::Operation;
 pub use l4_types::times::Period;
 
 // Runs and replays.

@@ -16,5 +16,6 @@ pub mod Lawful
 pub mod Rising
 pub mod Ticked
 pub mod Turned
+pub mod Lone
 pub mod Sought
 pub mod Enough

@@ -285,7 +285,7 @@ no_fault m turns olds mids news r round come lawful few i p at = (
 
 -- There was an event
 
-none_chosen : (m : Machine) (p : Processor) → turn p.worker.core.machine p.worker.core.cpu p.worker.core.local ≡ None →
+pub none_chosen : (m : Machine) (p : Processor) → turn p.worker.core.machine p.worker.core.cpu p.worker.core.local ≡ None →
     is_busy p.worker.core.machine p.worker.core.cpu p.worker.core.local ≡ false
 none_chosen m p none = by (choice p.worker.core.machine p.worker.core.cpu p.worker.core.local) refl
   where

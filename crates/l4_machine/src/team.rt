@@ -8,6 +8,7 @@ ghost use Rattle.l4_core_model.specs.Turns.{can_stamp, is_busy};
 ghost use Rattle.l4_mail.specs.Ports.{AreOneFabric, AreWhole};
 ghost use Rattle.l4_mail.specs.Rests.{are_all};
 ghost use Rattle.l4_proc.specs.Rests.{AreAsBefore, HaveHandledAll};
+ghost use Rattle.l4_proc.specs.Working.{HaveWorkedOn};
 ghost use Rattle.l4_proc.specs.declared.processor.Processor.{Processor as ProcessorOfMachine};
 ghost use Rattle.l4_machine.specs.Gathered.{IsGathered};
 ghost use Rattle.l4_machine.specs.Gathers.{AreResting};
@@ -87,12 +88,98 @@ impl<'m> Team<'m> {
             (count_events self.new.processors.items < self.old.turns + self.old.machine.now.cpus) }
     {
         self.machine.facts();
+        if self.processors.len() == 1 {
+            return self.run_alone(alloc, gate);
+        }
         for _ in 0..self.turns {
             if self.events() >= self.turns || !self.go_on(rt, alloc, gate)? {
                 return Ok(());
             }
         }
         Ok(())
+    }
+
+    // Runs a lone processor until nothing is left to do or its turns are used up. It needs no
+    // shares, and knows by its last round whether anything is left to do.
+    #[inline(always)]
+    fn run_alone<G: Gate + Sync>(&mut self, alloc: Global, gate: &G) -> Result<(), NoMemory>
+        requires team { IsTeam self.old }
+        requires few { self.old.turns ≤ most_turns }
+        requires fresh { count_events self.old.processors.items ≡ 0 }
+        requires alone { self.old.machine.now.cpus ≡ 1 }
+        ensures team { OnOk result (IsTeam self.new) }
+        ensures machine { self.new.machine ≡ self.old.machine }
+        ensures turns { self.new.turns ≡ self.old.turns }
+        ensures least { OnOk result
+            ((self.old.turns ≤ count_events self.new.processors.items) ⊎
+            AreResting self.new.processors.items) }
+        ensures fewer { OnOk result
+            (count_events self.new.processors.items < self.old.turns + self.old.machine.now.cpus) }
+    {
+        for _ in 0..self.turns {
+            if self.events() >= self.turns || !self.go_on_alone(alloc, gate)? {
+                return Ok(());
+            }
+        }
+        Ok(())
+    }
+
+    // A lone processor takes the turns that are left. If it finds nothing to do before they are
+    // used up, its clock goes on to its least deadline. Returns whether it did one of these.
+    #[inline(always)]
+    fn go_on_alone<G: Gate + Sync>(&mut self, alloc: Global, gate: &G) -> Result<bool, NoMemory>
+        requires team { IsTeam self.old }
+        requires few { self.old.turns ≤ most_turns }
+        requires left { count_events self.old.processors.items < self.old.turns }
+        requires alone { self.old.machine.now.cpus ≡ 1 }
+        ensures team { OnOk result (IsTeam self.new) }
+        ensures machine { self.new.machine ≡ self.old.machine }
+        ensures turns { self.new.turns ≡ self.old.turns }
+        ensures more { IfOk result (λ on. IsTrue on →
+            count_events self.old.processors.items < count_events self.new.processors.items) }
+        ensures rest { IfOk result (λ on. on ≡ false → AreResting self.new.processors.items) }
+        ensures fewer { OnOk result
+            (count_events self.new.processors.items < self.old.turns + self.old.machine.now.cpus) }
+    {
+        if self.work_alone(alloc, gate)? {
+            return Ok(true);
+        }
+        match self.first_deadline() {
+            Some(deadline) => {
+                self.tick(deadline)?;
+                Ok(true)
+            }
+            None => Ok(false),
+        }
+    }
+
+    // A lone processor takes the turns that are left. Returns whether it took all of them: else
+    // nothing is left to do for now.
+    #[inline(always)]
+    fn work_alone<G: Gate + Sync>(&mut self, alloc: Global, gate: &G) -> Result<bool, NoMemory>
+        requires team { IsTeam self.old }
+        requires few { self.old.turns ≤ most_turns }
+        requires left { count_events self.old.processors.items < self.old.turns }
+        requires alone { self.old.machine.now.cpus ≡ 1 }
+        ensures team { OnOk result (IsTeam self.new) }
+        ensures machine { self.new.machine ≡ self.old.machine }
+        ensures turns { self.new.turns ≡ self.old.turns }
+        ensures least { OnOk result
+            (count_events self.old.processors.items ≤ count_events self.new.processors.items) }
+        ensures used { IfOk result (λ used. IsTrue used →
+            count_events self.new.processors.items ≡ self.old.turns) }
+        ensures idle { IfOk result (λ used. used ≡ false →
+            (count_events self.new.processors.items < self.old.turns) ×
+            (AreIdle self.new.processors.items × HaveHandledAll self.new.processors.items)) }
+    {
+        law_core_run();
+        self.machine.facts();
+        let left = self.turns - self.events();
+        take_turns(self.processors.as_mut_slice(), left, gate);
+        let all_handled = come_to_rest(alloc, &mut self.processors)?;
+        check_stops(self.processors.as_slice())?;
+        self.all_handled = all_handled;
+        Ok(self.processors[0].stop() == Stop::Used)
     }
 
     /// What the processors did, as entries of a schedule.
@@ -237,6 +324,15 @@ impl<'m> Team<'m> {
         self.machine.facts();
         tick_all(self.processors.as_mut_slice(), deadline)
     }
+}
+
+// A lone processor takes at most so many turns.
+#[inline(always)]
+fn take_turns<G: Gate>(processors: &mut [Processor<'_>], turns: u64, gate: &G)
+    requires { length processors.old ≡ 1 }
+    ensures { HaveWorkedOn turns processors.old processors.new }
+{
+    processors[0].work(turns, gate);
 }
 
 // The turns divided by the number of processors, rounded up.

@@ -117,7 +117,8 @@ impl ProcessorState<'_> {
     }
 
     // What a send that has arrived asks for. Its message has these words.
-    fn arrival<'a>(
+    #[inline(always)]
+    pub(crate) fn arrival<'a>(
         &self,
         name: &Name,
         to: GlobalId,
@@ -148,7 +149,8 @@ impl ProcessorState<'_> {
     }
 
     // What the decision of a send asks for.
-    fn end(&self, name: &Name, decision: Decision) -> Option<Task<'static>>
+    #[inline(always)]
+    pub(crate) fn end(&self, name: &Name, decision: Decision) -> Option<Task<'static>>
         ensures value { result ≡
             task_of self.now.machine self.now.cpu self.now.local [] (DoneContent name.now decision) }
         ensures possible { IfSome result (λ task. IsTask task self.now) }

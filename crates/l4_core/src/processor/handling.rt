@@ -50,18 +50,58 @@ impl Core<'_> {
             (can_stamp self.old.local letter.now.stamp ≡ false)) }
     {
         let (head, words) = letter.parts();
-        let Some(task) = self.known.task(&head.content, words) else {
+        match &head.content {
+            Content::Send {
+                name,
+                receiver,
+                message,
+                zero_timeout,
+            } => {
+                let task = self.known.arrival(name, *receiver, message, words, *zero_timeout);
+                self.handle_task(head.stamp, task, buffer)
+            }
+            Content::Done { name, decision } => {
+                let task = self.known.end(name, *decision);
+                self.handle_task(head.stamp, task, buffer)
+            }
+            content => self.handle_other(head.stamp, content, words, buffer),
+        }
+    }
+
+    #[inline(never)]
+    fn handle_other<S: Sink>(
+        &mut self,
+        stamp: u64,
+        content: &Content,
+        words: &[u64],
+        buffer: &mut EventBuffer<S>,
+    ) -> Result<u64, Fault>
+    {
+        let task = self.known.task(content, words);
+        self.handle_task(stamp, task, buffer)
+    }
+
+    #[inline(always)]
+    fn handle_task<S: Sink>(
+        &mut self,
+        stamp: u64,
+        task: Option<Task<'_>>,
+        buffer: &mut EventBuffer<S>,
+    ) -> Result<u64, Fault>
+    {
+        let Some(task) = task else {
             return Err(Fault::Mail);
         };
-        if !self.can_stamp(head.stamp) {
+        if !self.can_stamp(stamp) {
             return Err(Fault::Stamp);
         }
-        let stamp = self.open(head.stamp);
+        let stamp = self.open(stamp);
         self.do_task(task, buffer);
         Ok(stamp)
     }
 
     // Does what a letter asks for.
+    #[inline(always)]
     fn do_task<S: Sink>(&mut self, task: Task<'_>, buffer: &mut EventBuffer<S>)
         requires possible { IsTask task self.old }
         requires room { 3 ≤ buffer.old.room }

@@ -52,5 +52,5 @@ pub use l4_types::errors::{IpcError, NoMemory};
 pub use l4_types::ids::{GlobalId, Kind, ThreadId};
 pub use l4_types::messages::{MOST_WORDS, Message};
 pub use l4_types::registers::{MESSAGE_REGISTERS, Regs};
-pub use l4_types::steps::{Delivery, Name, OrderKind, Step, Tick};
+pub use l4_types::steps::{Delivery, Failure, Name, OrderKind, SendStep, Step, ThreadStep, Tick};
 pub use l4_types::tags::{MsgTag, TagFault};

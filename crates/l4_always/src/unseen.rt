@@ -14,6 +14,7 @@ use l4_script::instructions::Instr;
 use l4_script::machine::Machine;
 use l4_types::ids::GlobalId;
 use l4_types::step_ref::StepRef;
+use l4_types::steps::{SendStep, ThreadStep};
 
 // Whether an instruction that concerns nobody else writes one of these parts.
 fn writes_any(parts: &Parts, instr: &Instr) -> bool
@@ -46,8 +47,8 @@ fn own_thread(step: &StepRef<'_>) -> Option<GlobalId>
     ensures { result ≡ own_thread (seen step.now) }
 {
     match step {
-        StepRef::Local(id) | StepRef::Wait(id) => Some(*id),
-        StepRef::Begin(name) => Some(name.thread()),
+        StepRef::OfThread(ThreadStep::Local | ThreadStep::Wait, id) => Some(*id),
+        StepRef::OfSend(SendStep::Begin, name) => Some(name.thread()),
         StepRef::Order { caller, .. } => Some(*caller),
         _ => None,
     }
@@ -58,12 +59,12 @@ fn is_visible(outlook: &Outlook<'_>, parts: &Parts, step: &StepRef<'_>) -> bool
     ensures { result ≡ writes_part outlook.now.machine outlook.now.world parts.now (seen step.now) }
 {
     match step {
-        StepRef::Local(id) => match outlook.found(*id) {
+        StepRef::OfThread(ThreadStep::Local, id) => match outlook.found(*id) {
             Some(found) => writes_any(parts, &found.instruction()),
             None => false,
         },
-        StepRef::Begin(_) => parts.has(Part::State) || parts.has(Part::Send),
-        StepRef::Wait(_) | StepRef::Order { .. } => parts.has(Part::State),
+        StepRef::OfSend(SendStep::Begin, _) => parts.has(Part::State) || parts.has(Part::Send),
+        StepRef::OfThread(ThreadStep::Wait, _) | StepRef::Order { .. } => parts.has(Part::State),
         _ => true,
     }
 }

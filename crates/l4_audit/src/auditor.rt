@@ -23,7 +23,7 @@ use l4_types::errors::NoMemory;
 use l4_types::ids::{GlobalId, ThreadId};
 use l4_types::reports::{Ending, ThreadView};
 use l4_types::step_ref::StepRef;
-use l4_types::steps::{Name, Step, Tick};
+use l4_types::steps::{Name, SendStep, Step, Tick};
 use std::alloc::Global;
 use std::marker::Model;
 
@@ -178,7 +178,7 @@ fn begun_name(step: &StepRef<'_>) -> Option<Name>
     ensures { result ≡ begun_name (seen step.now) }
 {
     match step {
-        StepRef::Begin(name) => Some(*name),
+        StepRef::OfSend(SendStep::Begin, name) => Some(*name),
         _ => None,
     }
 }

@@ -23,7 +23,7 @@ use l4_script::machine::Machine;
 use l4_types::errors::NoMemory;
 use l4_types::ids::ThreadId;
 use l4_types::step_ref::StepRef;
-use l4_types::steps::Step;
+use l4_types::steps::{Step, ThreadStep};
 use l4_waits::lines::circles_after;
 use std::alloc::Global;
 
@@ -102,7 +102,7 @@ fn is_of_target(window: &Window<'_>, step: &StepRef<'_>) -> bool
 fn is_local(step: &StepRef<'_>) -> bool
     ensures { result ≡ is_local (seen step.now) }
 {
-    matches!(step, Step::Local(_))
+    matches!(step, Step::OfThread(ThreadStep::Local, _))
 }
 
 // Whether a row is one of a part of a history.

@@ -1,11 +1,11 @@
 //! What each step shows in a chart.
 ghost use Rattle.std.specs.Prelude.{◌≡◌};
-ghost use Rattle.l4_types.specs.StepView.{seen};
-ghost use Rattle.l4_chart.specs.Marks.{mark_of};
+ghost use Rattle.l4_types.specs.StepView.{seen, send_step_of, thread_step_of};
+ghost use Rattle.l4_chart.specs.Marks.{kind_of_send, kind_of_thread, mark_of};
 
 use l4_types::ids::GlobalId;
 use l4_types::step_ref::StepRef;
-use l4_types::steps::Step;
+use l4_types::steps::{SendStep, Step, ThreadStep};
 
 /// What a step of one thread is, or what a thread is in behind the last row. There `Begin`, `Wait` and
 /// `Order` stand for a thread that is in such a phase.
@@ -75,28 +75,43 @@ fn arrow(sender: GlobalId, receiver: GlobalId) -> Mark
     Mark::Arrow { sender, receiver }
 }
 
+// What a step of a thread is.
+fn of_thread(kind: ThreadStep) -> Kind
+    ensures { result ≡ kind_of_thread (thread_step_of kind) }
+{
+    match kind {
+        ThreadStep::Local => Kind::Local,
+        ThreadStep::Wait => Kind::Wait,
+        ThreadStep::Obey => Kind::Obey,
+    }
+}
+
+// What a step of a send is.
+fn of_send(kind: SendStep) -> Kind
+    ensures { result ≡ kind_of_send (send_step_of kind) }
+{
+    match kind {
+        SendStep::Begin => Kind::Begin,
+        SendStep::Queue => Kind::Queue,
+        SendStep::Drop => Kind::SendFailure,
+        SendStep::Retarget => Kind::Retarget,
+    }
+}
+
 /// What a step shows.
 pub fn mark_of(step: &StepRef<'_>) -> Mark
     ensures { result ≡ mark_of (seen step.now) }
 {
     match step {
-        Step::Local(thread) => point(*thread, Kind::Local),
-        Step::Begin(name) => point(name.thread(), Kind::Begin),
-        Step::Queue(name) => point(name.thread(), Kind::Queue),
+        Step::OfThread(kind, thread) => point(*thread, of_thread(*kind)),
+        Step::OfSend(kind, name) => point(name.thread(), of_send(*kind)),
         Step::Deliver(delivery) => arrow(delivery.name.thread(), delivery.receiver),
-        Step::Wait(thread) => point(*thread, Kind::Wait),
-        Step::SendTimeout(name)
-        | Step::SendNobody(name)
-        | Step::SendCancel(name)
-        | Step::Drop(name) => point(name.thread(), Kind::SendFailure),
-        Step::ReceiveTimeout(thread) | Step::ReceiveNobody(thread) | Step::ReceiveCancel(thread) =>
-            point(*thread, Kind::ReceiveFailure),
+        Step::ReceiveFailed(_, thread) => point(*thread, Kind::ReceiveFailure),
+        Step::SendFailed(_, name) => point(name.thread(), Kind::SendFailure),
         Step::Order { caller, .. } => point(*caller, Kind::Order),
-        Step::Obey(caller) => point(*caller, Kind::Obey),
         Step::Tick(tick) => Mark::Clock {
             cpu: tick.cpu(),
             clock: tick.clock(),
         },
-        Step::Retarget(name) => point(name.thread(), Kind::Retarget),
     }
 }

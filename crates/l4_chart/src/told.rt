@@ -19,7 +19,7 @@ use l4_audit::world::World;
 use l4_types::errors::NoMemory;
 use l4_types::ids::{GlobalId, ThreadId};
 use l4_types::step_ref::StepRef;
-use l4_types::steps::Name;
+use l4_types::steps::{Name, SendStep, ThreadStep};
 use std::alloc::Global;
 use std::marker::Model;
 
@@ -35,11 +35,9 @@ fn known_before(world: &World<'_>, step: &StepRef<'_>) -> Option<ThreadId>
     ensures { result ≡ known_before world.now.machine world.now.world (seen step.now) }
 {
     match step {
-        StepRef::Queue(name)
-        | StepRef::SendTimeout(name)
-        | StepRef::SendNobody(name)
-        | StepRef::SendCancel(name)
-        | StepRef::Drop(name) => destination(world, *name),
+        StepRef::OfSend(SendStep::Queue | SendStep::Drop, name) | StepRef::SendFailed(_, name) => {
+            destination(world, *name)
+        }
         _ => None,
     }
 }
@@ -55,7 +53,7 @@ fn step_destination(
         result ≡ step_destination world.now.machine before world.now.world (seen step.now) }
 {
     match step {
-        StepRef::Begin(name) => destination(world, *name),
+        StepRef::OfSend(SendStep::Begin, name) => destination(world, *name),
         _ => known,
     }
 }
@@ -65,8 +63,8 @@ fn runner(step: &StepRef<'_>) -> Option<GlobalId>
     ensures { result ≡ runner (seen step.now) }
 {
     match step {
-        StepRef::Local(thread) | StepRef::Wait(thread) => Some(*thread),
-        StepRef::Begin(name) => Some(name.thread()),
+        StepRef::OfThread(ThreadStep::Local | ThreadStep::Wait, thread) => Some(*thread),
+        StepRef::OfSend(SendStep::Begin, name) => Some(name.thread()),
         StepRef::Order { caller, .. } => Some(*caller),
         _ => None,
     }

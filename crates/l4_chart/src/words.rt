@@ -14,6 +14,7 @@ use l4_trace::lines::write_step;
 use l4_types::errors::NoMemory;
 use l4_types::ids::ThreadId;
 use l4_types::step_ref::StepRef;
+use l4_types::steps::ThreadStep;
 use std::alloc::Global;
 
 // The line of a step without its end.
@@ -74,7 +75,7 @@ pub(crate) fn push_at(
 fn is_local(step: &StepRef<'_>) -> bool
     ensures { result ≡ is_local (seen step.now) }
 {
-    matches!(step, StepRef::Local(_))
+    matches!(step, StepRef::OfThread(ThreadStep::Local, _))
 }
 
 /// The words of a row: the line of its step, where its send goes to, and the instruction that it

@@ -2,13 +2,15 @@
 ghost use Rattle.std.specs.Prelude.{◌≡◌, ◌+◌, []};
 ghost use Rattle.l4_model.specs.Rules.{bit};
 ghost use Rattle.l4_model.specs.Words.{GlobalId as ModelId};
-ghost use Rattle.l4_types.specs.StepView.{delivered, seen};
-ghost use Rattle.l4_counts.specs.Counts.{counts_of, with_step};
+ghost use Rattle.l4_types.specs.StepView.{delivered, failure_of, seen};
+ghost use Rattle.l4_counts.specs.Counts.{counts_of, with_failed_receive, with_failed_send};
+ghost use Rattle.l4_counts.specs.Counts.{with_step};
 ghost use Rattle.l4_counts.specs.Inner.Few.{AreFew};
 
 use l4_history::history::History;
 use l4_types::ids::GlobalId;
 use l4_types::step_ref::{DeliveryRef, StepRef};
+use l4_types::steps::{Failure, SendStep, ThreadStep};
 
 /// Counts of what one thread does in a history.
 #[derive(Clone, Copy, PartialEq, Eq, Debug)]
@@ -71,25 +73,43 @@ impl Counts {
         ensures { self.new ≡ with_step id (seen step.now) self.old }
     {
         match step {
-            StepRef::Local(thread) | StepRef::Wait(thread) => {
+            StepRef::OfThread(ThreadStep::Local | ThreadStep::Wait, thread) => {
                 self.turns += u64::from(*thread == id);
             }
-            StepRef::Order { caller, .. } => self.turns += u64::from(*caller == id),
-            StepRef::Begin(name) => self.add_begun(name.thread() == id),
+            StepRef::OfSend(SendStep::Begin, name) => self.add_begun(name.thread() == id),
             StepRef::Deliver(delivery) => self.add_delivery(id, delivery),
-            StepRef::SendTimeout(name) => self.send_timeouts += u64::from(name.thread() == id),
-            StepRef::ReceiveTimeout(thread) => self.receive_timeouts += u64::from(*thread == id),
-            StepRef::SendNobody(name) => self.sends_to_nobody += u64::from(name.thread() == id),
-            StepRef::ReceiveNobody(thread) => {
-                self.receives_from_nobody += u64::from(*thread == id);
+            StepRef::ReceiveFailed(failure, thread) => {
+                self.add_failed_receive(*failure, *thread == id);
             }
-            StepRef::SendCancel(name) => self.sends_cancelled += u64::from(name.thread() == id),
-            StepRef::ReceiveCancel(thread) => self.receives_cancelled += u64::from(*thread == id),
-            StepRef::Queue(_)
-            | StepRef::Drop(_)
-            | StepRef::Obey(_)
-            | StepRef::Tick(_)
-            | StepRef::Retarget(_) => {}
+            StepRef::SendFailed(failure, name) => {
+                self.add_failed_send(*failure, name.thread() == id);
+            }
+            StepRef::Order { caller, .. } => self.turns += u64::from(*caller == id),
+            StepRef::OfThread(ThreadStep::Obey, _)
+            | StepRef::OfSend(SendStep::Queue | SendStep::Drop | SendStep::Retarget, _)
+            | StepRef::Tick(_) => {}
+        }
+    }
+
+    fn add_failed_receive(&mut self, failure: Failure, own: bool)
+        requires { AreFew self.old }
+        ensures { self.new ≡ with_failed_receive (failure_of failure) own self.old }
+    {
+        match failure {
+            Failure::Timeout => self.receive_timeouts += u64::from(own),
+            Failure::Nobody => self.receives_from_nobody += u64::from(own),
+            Failure::Cancel => self.receives_cancelled += u64::from(own),
+        }
+    }
+
+    fn add_failed_send(&mut self, failure: Failure, own: bool)
+        requires { AreFew self.old }
+        ensures { self.new ≡ with_failed_send (failure_of failure) own self.old }
+    {
+        match failure {
+            Failure::Timeout => self.send_timeouts += u64::from(own),
+            Failure::Nobody => self.sends_to_nobody += u64::from(own),
+            Failure::Cancel => self.sends_cancelled += u64::from(own),
         }
     }
 

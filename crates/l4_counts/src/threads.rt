@@ -12,6 +12,7 @@ use l4_script::machine::Machine;
 use l4_types::errors::NoMemory;
 use l4_types::ids::GlobalId;
 use l4_types::step_ref::StepRef;
+use l4_types::steps::{SendStep, ThreadStep};
 use std::alloc::Global;
 
 /// Counts what each thread of a machine does in a history, in order of declaration. The call goes
@@ -39,16 +40,12 @@ fn count_step(counts: &mut [Counts], machine: &Machine, step: &StepRef<'_>)
     ensures { counts.new ≡ each_with_step (seen step.now) machine.now.threads counts.old }
 {
     match step {
-        StepRef::Local(thread)
-        | StepRef::Wait(thread)
-        | StepRef::ReceiveTimeout(thread)
-        | StepRef::ReceiveNobody(thread)
-        | StepRef::ReceiveCancel(thread)
+        StepRef::OfThread(ThreadStep::Local | ThreadStep::Wait, thread)
+        | StepRef::ReceiveFailed(_, thread)
         | StepRef::Order { caller: thread, .. } => count_at(counts, machine, *thread, step),
-        StepRef::Begin(name)
-        | StepRef::SendTimeout(name)
-        | StepRef::SendNobody(name)
-        | StepRef::SendCancel(name) => count_at(counts, machine, name.thread(), step),
+        StepRef::OfSend(SendStep::Begin, name) | StepRef::SendFailed(_, name) => {
+            count_at(counts, machine, name.thread(), step);
+        }
         StepRef::Deliver(delivery) => {
             let sender = delivery.name.thread();
             count_at(counts, machine, sender, step);
@@ -56,11 +53,9 @@ fn count_step(counts: &mut [Counts], machine: &Machine, step: &StepRef<'_>)
                 count_at(counts, machine, delivery.receiver, step);
             }
         }
-        StepRef::Queue(_)
-        | StepRef::Drop(_)
-        | StepRef::Obey(_)
-        | StepRef::Tick(_)
-        | StepRef::Retarget(_) => {}
+        StepRef::OfThread(ThreadStep::Obey, _)
+        | StepRef::OfSend(SendStep::Queue | SendStep::Drop | SendStep::Retarget, _)
+        | StepRef::Tick(_) => {}
     }
 }
 

@@ -2,13 +2,14 @@
 ghost use Rattle.std.specs.Prelude.{◌≡◌, ◌<◌, ◌≤◌, ◌-◌, ◌^◌, [], ◌∷◌, ◌++◌, ◌↔◌, OnOk, OnErr, IfOk};
 ghost use Rattle.std.specs.Prelude.{IfSome, Some, None, IsTrue, length, map, take, drop, slice_get};
 ghost use Rattle.l4_model.specs.History.{begun_name};
-ghost use Rattle.l4_model.specs.Steps.{Order, Tick as TickOf};
-ghost use Rattle.l4_types.specs.StepView.{delivered, delivery_in, order_kind_of, seen, step_of};
-ghost use Rattle.l4_history.specs.Inner.Rows.{HasMore, plain_step, send_step, thread_step};
+ghost use Rattle.l4_model.specs.Steps.{Failed, Fails, OfSend, OfThread, Order, Tick as TickOf};
+ghost use Rattle.l4_types.specs.StepView.{delivered, delivery_in, failure_of, order_kind_of, seen};
+ghost use Rattle.l4_types.specs.StepView.{send_step_of, step_of, thread_step_of};
+ghost use Rattle.l4_history.specs.Inner.Rows.{HasMore, plain_step};
 ghost use Rattle.l4_history.specs.Inner.Sent.{sent};
 
 use crate::deliveries::{delivery, head, wide_head, wide_step};
-use crate::records::{Head, Kind, OfSend, OfThread, Record, SHORT, WideHead};
+use crate::records::{Head, Kind, Record, SHORT, WideHead};
 use crate::rows::{append, reserve_indexes, reserve_more};
 use crate::sink::tell;
 use crate::steps::Steps;
@@ -17,7 +18,7 @@ use l4_types::errors::NoMemory;
 use l4_types::ids::GlobalId;
 use l4_types::messages::MOST_WORDS;
 use l4_types::step_ref::{DeliveryRef, StepRef};
-use l4_types::steps::{Name, OrderKind, Step, Tick};
+use l4_types::steps::{Failure, Name, OrderKind, SendStep, Step, ThreadStep, Tick};
 use std::alloc::Global;
 use std::marker::Model;
 
@@ -173,35 +174,26 @@ impl History {
         } }
     {
         match step {
-            Step::Local(thread) => self.push_of_thread(OfThread::Local, *thread),
-            Step::Begin(name) => self.push_of_send(OfSend::Begin, *name),
-            Step::Queue(name) => self.push_of_send(OfSend::Queue, *name),
-            Step::Wait(thread) => self.push_of_thread(OfThread::Wait, *thread),
-            Step::SendTimeout(name) => self.push_of_send(OfSend::Timeout, *name),
-            Step::ReceiveTimeout(thread) => self.push_of_thread(OfThread::ReceiveTimeout, *thread),
-            Step::SendNobody(name) => self.push_of_send(OfSend::Nobody, *name),
-            Step::ReceiveNobody(thread) => self.push_of_thread(OfThread::ReceiveNobody, *thread),
-            Step::SendCancel(name) => self.push_of_send(OfSend::Cancel, *name),
-            Step::ReceiveCancel(thread) => self.push_of_thread(OfThread::ReceiveCancel, *thread),
-            Step::Drop(name) => self.push_of_send(OfSend::Drop, *name),
+            Step::OfThread(kind, thread) => self.push_of_thread(*kind, *thread),
+            Step::OfSend(kind, name) => self.push_of_send(*kind, *name),
+            Step::ReceiveFailed(failure, thread) => self.push_receive_failed(*failure, *thread),
+            Step::SendFailed(failure, name) => self.push_send_failed(*failure, *name),
             Step::Order {
                 caller,
                 target,
                 what,
             } => self.push_order(*caller, *target, *what),
-            Step::Obey(caller) => self.push_of_thread(OfThread::Obey, *caller),
             Step::Tick(tick) => self.push_tick(*tick),
-            Step::Retarget(name) => self.push_of_send(OfSend::Retarget, *name),
             Step::Deliver(_) => unreachable!(),
         }
     }
 
     // Appends a step of a thread.
     #[inline(always)]
-    fn push_of_thread(&mut self, kind: OfThread, thread: GlobalId)
+    fn push_of_thread(&mut self, kind: ThreadStep, thread: GlobalId)
         requires { 0 < self.old.room }
         ensures { self.new ≡ record {
-          steps = self.old.steps ++ thread_step kind thread ∷ [];
+          steps = self.old.steps ++ OfThread (thread_step_of kind) thread ∷ [];
           room = self.old.room - 1;
         } }
     {
@@ -221,22 +213,56 @@ impl History {
     // Appends a step of a thread whose slot another one has. It is rare, so it is a call, and takes
     // what fits registers: what is lent to a call is written out even where it is not made.
     #[inline(never)]
-    fn push_rare_of_thread(&mut self, kind: OfThread, thread: GlobalId)
+    fn push_rare_of_thread(&mut self, kind: ThreadStep, thread: GlobalId)
         requires { 0 < self.old.room }
         ensures { self.new ≡ record {
-          steps = self.old.steps ++ thread_step kind thread ∷ [];
+          steps = self.old.steps ++ OfThread (thread_step_of kind) thread ∷ [];
           room = self.old.room - 1;
         } }
     {
-        self.push_wide(kind.step(thread));
+        self.push_wide(Step::OfThread(kind, thread));
+    }
+
+    // Appends the failure of a receive phase.
+    #[inline(always)]
+    fn push_receive_failed(&mut self, failure: Failure, thread: GlobalId)
+        requires { 0 < self.old.room }
+        ensures { self.new ≡ record {
+          steps = self.old.steps ++ OfThread (Fails (failure_of failure)) thread ∷ [];
+          room = self.old.room - 1;
+        } }
+    {
+        match self.threads.slot_of(thread) {
+            Some(slot) => {
+                self.records.push_reserved(Record {
+                    kind: Kind::ReceiveFailed(failure),
+                    slot,
+                    number: 0,
+                });
+                self.room -= 1;
+            }
+            None => self.push_rare_receive_failed(failure, thread),
+        }
+    }
+
+    // The same of a thread whose slot another one has.
+    #[inline(never)]
+    fn push_rare_receive_failed(&mut self, failure: Failure, thread: GlobalId)
+        requires { 0 < self.old.room }
+        ensures { self.new ≡ record {
+          steps = self.old.steps ++ OfThread (Fails (failure_of failure)) thread ∷ [];
+          room = self.old.room - 1;
+        } }
+    {
+        self.push_wide(Step::ReceiveFailed(failure, thread));
     }
 
     // Appends a step of a send.
     #[inline(always)]
-    fn push_of_send(&mut self, kind: OfSend, name: Name)
+    fn push_of_send(&mut self, kind: SendStep, name: Name)
         requires { 0 < self.old.room }
         ensures { self.new ≡ record {
-          steps = self.old.steps ++ send_step kind name ∷ [];
+          steps = self.old.steps ++ OfSend (send_step_of kind) name ∷ [];
           room = self.old.room - 1;
         } }
     {
@@ -259,15 +285,56 @@ impl History {
 
     // Appends a step of the k-th send of a thread, which is rare.
     #[inline(never)]
-    fn push_rare_of_send(&mut self, kind: OfSend, thread: GlobalId, k: u64)
+    fn push_rare_of_send(&mut self, kind: SendStep, thread: GlobalId, k: u64)
         requires room { 0 < self.old.room }
         requires some { 0 < k }
         ensures { self.new ≡ record {
-          steps = self.old.steps ++ send_step kind (record { thread = thread; k = k }) ∷ [];
+          steps = self.old.steps ++ OfSend (send_step_of kind) (record { thread = thread; k = k }) ∷ [];
           room = self.old.room - 1;
         } }
     {
-        self.push_wide(kind.step(Name::new(thread, k).unwrap()));
+        let name = Name::new(thread, k).unwrap();
+        self.push_wide(Step::OfSend(kind, name));
+    }
+
+    // Appends the failure of a send.
+    #[inline(always)]
+    fn push_send_failed(&mut self, failure: Failure, name: Name)
+        requires { 0 < self.old.room }
+        ensures { self.new ≡ record {
+          steps = self.old.steps ++ OfSend (Failed (failure_of failure)) name ∷ [];
+          room = self.old.room - 1;
+        } }
+    {
+        let (thread, k) = (name.thread(), name.k());
+        if k > SHORT {
+            return self.push_rare_send_failed(failure, thread, k);
+        }
+        match self.threads.slot_of(thread) {
+            Some(slot) => {
+                self.records.push_reserved(Record {
+                    kind: Kind::SendFailed(failure),
+                    slot,
+                    number: k as u32,
+                });
+                self.room -= 1;
+            }
+            None => self.push_rare_send_failed(failure, thread, k),
+        }
+    }
+
+    // Appends the failure of the k-th send of a thread, which is rare.
+    #[inline(never)]
+    fn push_rare_send_failed(&mut self, failure: Failure, thread: GlobalId, k: u64)
+        requires room { 0 < self.old.room }
+        requires some { 0 < k }
+        ensures { self.new ≡ record {
+          steps = self.old.steps ++ OfSend (Failed (failure_of failure)) (record { thread = thread; k = k }) ∷ [];
+          room = self.old.room - 1;
+        } }
+    {
+        let name = Name::new(thread, k).unwrap();
+        self.push_wide(Step::SendFailed(failure, name));
     }
 
     // Appends an order.
@@ -373,12 +440,12 @@ impl History {
             Some(head) => {
                 let (slot, number) = (head.sender, head.k);
                 self.records.push_reserved(Record {
-                    kind: Kind::Send(OfSend::Begin),
+                    kind: Kind::Send(SendStep::Begin),
                     slot,
                     number,
                 });
                 self.records.push_reserved(Record {
-                    kind: Kind::Send(OfSend::Queue),
+                    kind: Kind::Send(SendStep::Queue),
                     slot,
                     number,
                 });
@@ -390,8 +457,8 @@ impl History {
             }
             None => {
                 let (thread, k) = (delivery.name.thread(), delivery.name.k());
-                self.push_rare_of_send(OfSend::Begin, thread, k);
-                self.push_rare_of_send(OfSend::Queue, thread, k);
+                self.push_rare_of_send(SendStep::Begin, thread, k);
+                self.push_rare_of_send(SendStep::Queue, thread, k);
                 self.push_wide_delivery(delivery);
             }
         }
@@ -458,9 +525,9 @@ impl History {
     {
         let record = self.records[i];
         match record.kind {
-            Kind::Send(OfSend::Begin) => Some(record.send(&self.threads)),
+            Kind::Send(SendStep::Begin) => Some(record.send(&self.threads)),
             Kind::Wide => match self.wide[record.number as usize] {
-                Step::Begin(name) => Some(name),
+                Step::OfSend(SendStep::Begin, name) => Some(name),
                 _ => None,
             },
             _ => None,
@@ -476,19 +543,10 @@ impl History {
         let (record, threads) = (self.records[i], &self.threads);
         let index = record.number as usize;
         match record.kind {
-            Kind::Thread(OfThread::Local) => Step::Local(record.thread(threads)),
-            Kind::Thread(OfThread::Wait) => Step::Wait(record.thread(threads)),
-            Kind::Thread(OfThread::ReceiveTimeout) => Step::ReceiveTimeout(record.thread(threads)),
-            Kind::Thread(OfThread::ReceiveNobody) => Step::ReceiveNobody(record.thread(threads)),
-            Kind::Thread(OfThread::ReceiveCancel) => Step::ReceiveCancel(record.thread(threads)),
-            Kind::Thread(OfThread::Obey) => Step::Obey(record.thread(threads)),
-            Kind::Send(OfSend::Begin) => Step::Begin(record.send(threads)),
-            Kind::Send(OfSend::Queue) => Step::Queue(record.send(threads)),
-            Kind::Send(OfSend::Timeout) => Step::SendTimeout(record.send(threads)),
-            Kind::Send(OfSend::Nobody) => Step::SendNobody(record.send(threads)),
-            Kind::Send(OfSend::Cancel) => Step::SendCancel(record.send(threads)),
-            Kind::Send(OfSend::Drop) => Step::Drop(record.send(threads)),
-            Kind::Send(OfSend::Retarget) => Step::Retarget(record.send(threads)),
+            Kind::Thread(kind) => Step::OfThread(kind, record.thread(threads)),
+            Kind::Send(kind) => Step::OfSend(kind, record.send(threads)),
+            Kind::ReceiveFailed(failure) => Step::ReceiveFailed(failure, record.thread(threads)),
+            Kind::SendFailed(failure) => Step::SendFailed(failure, record.send(threads)),
             Kind::Tick => {
                 Step::Tick(Tick::new(record.slot as u8, u64::from(record.number)).unwrap())
             }

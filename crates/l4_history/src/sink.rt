@@ -12,7 +12,7 @@ use crate::history::{EVENT_STEPS, History};
 use arrayvec::ArrayVec;
 use l4_types::errors::NoMemory;
 use l4_types::step_ref::{DeliveryRef, StepRef};
-use l4_types::steps::Step;
+use l4_types::steps::{SendStep, Step};
 
 /// Takes the steps of a machine, one after another.
 pub trait Sink {
@@ -91,8 +91,8 @@ impl Sink for Vec<Step> {
     }
 
     fn push_sent(&mut self, delivery: DeliveryRef<'_>) {
-        self.push_reserved(Step::Begin(delivery.name));
-        self.push_reserved(Step::Queue(delivery.name));
+        self.push_reserved(Step::OfSend(SendStep::Begin, delivery.name));
+        self.push_reserved(Step::OfSend(SendStep::Queue, delivery.name));
         self.push_reserved(Step::Deliver(delivery.to_delivery()));
     }
 }
@@ -118,8 +118,8 @@ impl<const CAP: usize> Sink for ArrayVec<Step, CAP> {
     }
 
     fn push_sent(&mut self, delivery: DeliveryRef<'_>) {
-        ArrayVec::push(self, Step::Begin(delivery.name));
-        ArrayVec::push(self, Step::Queue(delivery.name));
+        ArrayVec::push(self, Step::OfSend(SendStep::Begin, delivery.name));
+        ArrayVec::push(self, Step::OfSend(SendStep::Queue, delivery.name));
         ArrayVec::push(self, Step::Deliver(delivery.to_delivery()));
     }
 }

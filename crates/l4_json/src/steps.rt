@@ -24,7 +24,7 @@ use l4_trace::lines::write_step;
 use l4_types::errors::NoMemory;
 use l4_types::ids::{GlobalId, ThreadId};
 use l4_types::step_ref::StepRef;
-use l4_types::steps::Name;
+use l4_types::steps::{Name, SendStep, ThreadStep};
 use l4_words::spelling::push_id;
 use std::alloc::Global;
 
@@ -40,7 +40,7 @@ fn step_destination(world: &World<'_>, step: &StepRef<'_>) -> Option<ThreadId>
     ensures { result ≡ step_destination world.now.machine world.now.world (seen step.now) }
 {
     match step {
-        StepRef::Begin(name) | StepRef::Queue(name) => destination(world, *name),
+        StepRef::OfSend(SendStep::Begin | SendStep::Queue, name) => destination(world, *name),
         _ => None,
     }
 }
@@ -50,8 +50,8 @@ fn runner(step: &StepRef<'_>) -> Option<GlobalId>
     ensures { result ≡ runner (seen step.now) }
 {
     match step {
-        StepRef::Local(thread) | StepRef::Wait(thread) => Some(*thread),
-        StepRef::Begin(name) => Some(name.thread()),
+        StepRef::OfThread(ThreadStep::Local | ThreadStep::Wait, thread) => Some(*thread),
+        StepRef::OfSend(SendStep::Begin, name) => Some(name.thread()),
         StepRef::Order { caller, .. } => Some(*caller),
         _ => None,
     }

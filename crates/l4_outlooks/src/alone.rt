@@ -9,6 +9,7 @@ use l4_script::machine::Machine;
 use l4_types::errors::NoMemory;
 use l4_types::ids::GlobalId;
 use l4_types::step_ref::StepRef;
+use l4_types::steps::{SendStep, ThreadStep};
 use std::alloc::Global;
 use std::marker::Model;
 
@@ -59,8 +60,10 @@ impl Alone {
             return false;
         };
         match step {
-            StepRef::Local(_) | StepRef::Order { .. } => spared.runs,
-            StepRef::Begin(_) | StepRef::Wait(_) => spared.begins,
+            StepRef::OfThread(ThreadStep::Local, _) | StepRef::Order { .. } => spared.runs,
+            StepRef::OfSend(SendStep::Begin, _) | StepRef::OfThread(ThreadStep::Wait, _) => {
+                spared.begins
+            }
             _ => false,
         }
     }

@@ -11,7 +11,7 @@ ghost use Rattle.l4_outlooks.specs.Inner.Named.{if_told, in_for, named_step};
 use l4_audit::found::Found;
 use l4_audit::world::World;
 use l4_types::step_ref::StepRef;
-use l4_types::steps::Name;
+use l4_types::steps::{Failure, Name, SendStep, ThreadStep};
 
 /// The number of entries of a thread: one for each kind of step, in the order of the table of steps.
 pub(crate) const KINDS: u32 = 14;
@@ -45,7 +45,7 @@ pub(crate) fn named<'a>(world: &'a World<'_>, entry: u32) -> Option<StepRef<'a>>
         }
     } else {
         let owed = world.owed().get((entry - owned) as usize)?;
-        Some(StepRef::Retarget(owed.send))
+        Some(StepRef::OfSend(SendStep::Retarget, owed.send))
     }
 }
 
@@ -57,20 +57,20 @@ fn own_step<'a>(world: &'a World<'_>, thread: &Found, kind: u32) -> Option<StepR
 {
     let id = thread.id();
     match kind {
-        0 => Some(StepRef::Local(id)),
-        1 => Some(StepRef::Begin(coming_name(thread)?)),
-        2 => Some(StepRef::Queue(last_name(thread)?)),
+        0 => Some(StepRef::OfThread(ThreadStep::Local, id)),
+        1 => Some(StepRef::OfSend(SendStep::Begin, coming_name(thread)?)),
+        2 => Some(StepRef::OfSend(SendStep::Queue, last_name(thread)?)),
         3 => Some(StepRef::Deliver(world.delivery(last_name(thread)?)?)),
-        4 => Some(StepRef::Wait(id)),
-        5 => Some(StepRef::SendTimeout(last_name(thread)?)),
-        6 => Some(StepRef::ReceiveTimeout(id)),
-        7 => Some(StepRef::SendNobody(last_name(thread)?)),
-        8 => Some(StepRef::ReceiveNobody(id)),
-        9 => Some(StepRef::SendCancel(last_name(thread)?)),
-        10 => Some(StepRef::ReceiveCancel(id)),
-        11 => Some(StepRef::Drop(last_name(thread)?)),
+        4 => Some(StepRef::OfThread(ThreadStep::Wait, id)),
+        5 => Some(StepRef::SendFailed(Failure::Timeout, last_name(thread)?)),
+        6 => Some(StepRef::ReceiveFailed(Failure::Timeout, id)),
+        7 => Some(StepRef::SendFailed(Failure::Nobody, last_name(thread)?)),
+        8 => Some(StepRef::ReceiveFailed(Failure::Nobody, id)),
+        9 => Some(StepRef::SendFailed(Failure::Cancel, last_name(thread)?)),
+        10 => Some(StepRef::ReceiveFailed(Failure::Cancel, id)),
+        11 => Some(StepRef::OfSend(SendStep::Drop, last_name(thread)?)),
         12 => order(world, thread),
-        _ => Some(StepRef::Obey(id)),
+        _ => Some(StepRef::OfThread(ThreadStep::Obey, id)),
     }
 }
 

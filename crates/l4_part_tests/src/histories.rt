@@ -5,7 +5,7 @@ use l4_trace::reading::read_events;
 use l4_types::errors::NoMemory;
 use l4_types::ids::GlobalId;
 use l4_types::step_ref::StepRef;
-use l4_types::steps::{Name, Step};
+use l4_types::steps::{Name, Step, ThreadStep};
 use std::process::Abort;
 
 // One step of most kinds, with deliveries of no word, of two and of 63.
@@ -84,7 +84,7 @@ fn grows_or_stays(history: &mut History) -> bool {
     let before = history.len();
     match history.reserve() {
         Ok(()) => {
-            history.push(StepRef::Local(GlobalId::default()));
+            history.push(StepRef::OfThread(ThreadStep::Local, GlobalId::default()));
             true
         }
         Err(NoMemory) => history.len() == before,

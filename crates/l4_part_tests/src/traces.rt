@@ -4,7 +4,7 @@ use l4_trace::reading::read_events;
 use l4_trace::traces::trace;
 use l4_types::ids::GlobalId;
 use l4_types::messages::Message;
-use l4_types::steps::{Delivery, Name, OrderKind, Step, Tick};
+use l4_types::steps::{Delivery, Failure, Name, OrderKind, SendStep, Step, ThreadStep, Tick};
 use std::alloc::{AllocError, Global};
 use std::process::Abort;
 
@@ -60,18 +60,18 @@ fn steps_of_lines() -> Option<[Step; 14]> {
     let delivered = delivered(two, one, 5, words)?;
     Some([
         delivered,
-        Step::SendTimeout(send),
-        Step::ReceiveTimeout(one),
-        Step::SendNobody(send),
-        Step::ReceiveNobody(one),
-        Step::SendCancel(send),
-        Step::ReceiveCancel(one),
-        Step::Drop(send),
+        Step::SendFailed(Failure::Timeout, send),
+        Step::ReceiveFailed(Failure::Timeout, one),
+        Step::SendFailed(Failure::Nobody, send),
+        Step::ReceiveFailed(Failure::Nobody, one),
+        Step::SendFailed(Failure::Cancel, send),
+        Step::ReceiveFailed(Failure::Cancel, one),
+        Step::OfSend(SendStep::Drop, send),
         order(one, two, OrderKind::CancelSend),
         order(one, two, OrderKind::CancelReceive),
         order(one, two, OrderKind::CancelBoth),
         order(one, two, OrderKind::Delete),
-        Step::Obey(one),
+        Step::OfThread(ThreadStep::Obey, one),
         Step::Tick(tick),
     ])
 }

@@ -6,7 +6,7 @@ use l4_types::ids::{GlobalId, Kind, ThreadId};
 use l4_types::letters::{Content, Letter, LetterHead};
 use l4_types::messages::Message;
 use l4_types::registers::Regs;
-use l4_types::steps::{Delivery, Name, Step, Tick};
+use l4_types::steps::{Delivery, Failure, Name, Step, Tick};
 use l4_types::tags::{MsgTag, TagFault};
 use l4_types::times::{Period, time_of, timeouts};
 use std::alloc::AllocError;
@@ -93,12 +93,12 @@ fn times_have_their_periods() -> bool {
 
 fn faults_have_their_codes() -> bool {
     let codes = [
-        IpcError::SendTimeout.code(),
-        IpcError::ReceiveTimeout.code(),
-        IpcError::SendNobody.code(),
-        IpcError::ReceiveNobody.code(),
-        IpcError::SendCancelled.code(),
-        IpcError::ReceiveCancelled.code(),
+        IpcError::Send(Failure::Timeout).code(),
+        IpcError::Receive(Failure::Timeout).code(),
+        IpcError::Send(Failure::Nobody).code(),
+        IpcError::Receive(Failure::Nobody).code(),
+        IpcError::Send(Failure::Cancel).code(),
+        IpcError::Receive(Failure::Cancel).code(),
     ];
     codes == [2, 3, 4, 5, 6, 7]
 }

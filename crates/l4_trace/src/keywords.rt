@@ -11,22 +11,35 @@ macro_rules! by_keyword {
     ($make:ident($($argument:ident),*)) => {
         $make! {
             ($($argument),*)
-            b"local" => Local(thread), of_thread, write_thread_line(thread);
-            b"begin" => Begin(name), of_name, write_name_line(name);
-            b"queue" => Queue(name), of_name, write_name_line(name);
-            b"wait" => Wait(thread), of_thread, write_thread_line(thread);
-            b"stimeout" => SendTimeout(name), of_name, write_name_line(name);
-            b"rtimeout" => ReceiveTimeout(thread), of_thread, write_thread_line(thread);
-            b"snobody" => SendNobody(name), of_name, write_name_line(name);
-            b"rnobody" => ReceiveNobody(thread), of_thread, write_thread_line(thread);
-            b"scancel" => SendCancel(name), of_name, write_name_line(name);
-            b"rcancel" => ReceiveCancel(thread), of_thread, write_thread_line(thread);
-            b"drop" => Drop(name), of_name, write_name_line(name);
+            b"local" => OfThread(ThreadStep::Local, thread), of_thread,
+                write_thread_line(thread);
+            b"begin" => OfSend(SendStep::Begin, name), of_name,
+                write_name_line(name);
+            b"queue" => OfSend(SendStep::Queue, name), of_name,
+                write_name_line(name);
+            b"wait" => OfThread(ThreadStep::Wait, thread), of_thread,
+                write_thread_line(thread);
+            b"stimeout" => SendFailed(Failure::Timeout, name), of_name,
+                write_name_line(name);
+            b"rtimeout" => ReceiveFailed(Failure::Timeout, thread), of_thread,
+                write_thread_line(thread);
+            b"snobody" => SendFailed(Failure::Nobody, name), of_name,
+                write_name_line(name);
+            b"rnobody" => ReceiveFailed(Failure::Nobody, thread), of_thread,
+                write_thread_line(thread);
+            b"scancel" => SendFailed(Failure::Cancel, name), of_name,
+                write_name_line(name);
+            b"rcancel" => ReceiveFailed(Failure::Cancel, thread), of_thread,
+                write_thread_line(thread);
+            b"drop" => OfSend(SendStep::Drop, name), of_name,
+                write_name_line(name);
             b"order" => Order { caller, target, what }, of_order,
                 write_order(caller, target, what);
-            b"obey" => Obey(thread), of_thread, write_thread_line(thread);
+            b"obey" => OfThread(ThreadStep::Obey, thread), of_thread,
+                write_thread_line(thread);
             b"tick" => Tick(tick), of_tick, write_tick(tick);
-            b"retarget" => Retarget(name), of_name, write_name_line(name);
+            b"retarget" => OfSend(SendStep::Retarget, name), of_name,
+                write_name_line(name);
         }
     };
 }

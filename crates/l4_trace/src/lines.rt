@@ -13,7 +13,7 @@ use l4_types::errors::NoMemory;
 use l4_types::ids::GlobalId;
 use l4_types::messages::MOST_WORDS;
 use l4_types::step_ref::{DeliveryRef, StepRef};
-use l4_types::steps::{Name, OrderKind, Step, Tick};
+use l4_types::steps::{Failure, Name, OrderKind, SendStep, Step, ThreadStep, Tick};
 use l4_words::digits::{write_byte, write_bytes};
 use l4_words::pieces::{
     WORD_BYTES, write_name, write_number, write_thread, write_word, write_words,

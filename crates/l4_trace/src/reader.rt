@@ -10,7 +10,7 @@ use crate::steps::step_of_line;
 use arrayvec::ArrayVec;
 use l4_types::messages::MOST_WORDS;
 use l4_types::step_ref::StepRef;
-use l4_types::steps::Step;
+use l4_types::steps::{Failure, SendStep, Step, ThreadStep};
 use l4_words::lines::split_line;
 use std::marker::Model;
 
@@ -68,17 +68,17 @@ impl<'t> Reader<'t> {
         let mut front = Front::of(self.rest);
         if let Some(thread) = front.thread_line(b"local ") {
             self.pass(front.rest());
-            return Ok(Some(Step::Local(thread)));
+            return Ok(Some(Step::OfThread(ThreadStep::Local, thread)));
         }
         let mut front = Front::of(self.rest);
         if let Some(name) = front.name_line(b"begin ") {
             self.pass(front.rest());
-            return Ok(Some(Step::Begin(name)));
+            return Ok(Some(Step::OfSend(SendStep::Begin, name)));
         }
         let mut front = Front::of(self.rest);
         if let Some(name) = front.name_line(b"queue ") {
             self.pass(front.rest());
-            return Ok(Some(Step::Queue(name)));
+            return Ok(Some(Step::OfSend(SendStep::Queue, name)));
         }
         let mut front = Front::of(self.rest);
         if let Some(told) = front.delivery_line(words) {
@@ -88,12 +88,12 @@ impl<'t> Reader<'t> {
         let mut front = Front::of(self.rest);
         if let Some(thread) = front.thread_line(b"wait ") {
             self.pass(front.rest());
-            return Ok(Some(Step::Wait(thread)));
+            return Ok(Some(Step::OfThread(ThreadStep::Wait, thread)));
         }
         let mut front = Front::of(self.rest);
         if let Some(thread) = front.thread_line(b"rtimeout ") {
             self.pass(front.rest());
-            return Ok(Some(Step::ReceiveTimeout(thread)));
+            return Ok(Some(Step::ReceiveFailed(Failure::Timeout, thread)));
         }
         let mut front = Front::of(self.rest);
         if let Some(tick) = front.tick_line() {

@@ -15,7 +15,7 @@ use crate::reader::ReadWords;
 use l4_types::ids::GlobalId;
 use l4_types::message_ref::MessageRef;
 use l4_types::step_ref::{DeliveryRef, StepRef};
-use l4_types::steps::{Name, OrderKind, Step, Tick};
+use l4_types::steps::{Failure, Name, OrderKind, SendStep, Step, ThreadStep, Tick};
 use l4_types::tags::MsgTag;
 use l4_words::numbers::decimal;
 use l4_words::threads::thread;

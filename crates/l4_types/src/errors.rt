@@ -1,24 +1,29 @@
 //! The ErrorCode of a failed Ipc, and want of memory.
-ghost use Rattle.std.specs.Prelude.{◌≡◌};
-ghost use Rattle.l4_types.specs.Inner.Codes.{code_of};
+ghost use Rattle.std.specs.Prelude.{◌≡◌, ◌<◌};
+ghost use Rattle.l4_types.specs.Inner.Codes.{cause_number, code_of};
 
+use crate::steps::Failure;
 use std::alloc::{AllocError, AllocFailed};
 
-/// Why an Ipc failed (manual: Ipc).
+/// Why an Ipc failed (manual: Ipc): which phase of it, and why.
 #[derive(Clone, Copy, PartialEq, Eq, Debug)]
 pub enum IpcError {
-    /// The send timed out.
-    SendTimeout,
-    /// The receive timed out.
-    ReceiveTimeout,
-    /// Nobody has the id that the message was sent to.
-    SendNobody,
-    /// Nobody has the id that the receive phase names.
-    ReceiveNobody,
-    /// The send phase was cancelled.
-    SendCancelled,
-    /// The receive phase was cancelled.
-    ReceiveCancelled,
+    /// The send phase failed.
+    Send(Failure),
+    /// The receive phase failed.
+    Receive(Failure),
+}
+
+// The cause in an ErrorCode: 1 timeout, 2 non-existing partner, 3 cancelled.
+fn cause(failure: Failure) -> u64
+    ensures value { result ≡ cause_number failure }
+    ensures fits { result < 4 }
+{
+    match failure {
+        Failure::Timeout => 1,
+        Failure::Nobody => 2,
+        Failure::Cancel => 3,
+    }
 }
 
 impl IpcError {
@@ -28,12 +33,8 @@ impl IpcError {
         ensures { result ≡ code_of self }
     {
         match self {
-            IpcError::SendTimeout => 2,
-            IpcError::ReceiveTimeout => 3,
-            IpcError::SendNobody => 4,
-            IpcError::ReceiveNobody => 5,
-            IpcError::SendCancelled => 6,
-            IpcError::ReceiveCancelled => 7,
+            IpcError::Send(failure) => 2 * cause(failure),
+            IpcError::Receive(failure) => 2 * cause(failure) + 1,
         }
     }
 }

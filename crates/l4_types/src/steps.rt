@@ -158,34 +158,56 @@ impl Tick {
     }
 }
 
+/// Why a phase fails.
+#[derive(Clone, Copy, PartialEq, Eq, Debug)]
+pub enum Failure {
+    /// Its time has passed.
+    Timeout,
+    /// Nobody has the id that it names.
+    Nobody,
+    /// It was cancelled.
+    Cancel,
+}
+
+/// What a thread does, but for the failure of its receive phase.
+#[derive(Clone, Copy, PartialEq, Eq, Debug)]
+pub enum ThreadStep {
+    /// It ran an instruction that concerns nobody else, or ended.
+    Local,
+    /// It began a receive phase without a send phase.
+    Wait,
+    /// Its order was done.
+    Obey,
+}
+
+/// What becomes of a send, but for its delivery and its failure.
+#[derive(Clone, Copy, PartialEq, Eq, Debug)]
+pub enum SendStep {
+    /// Its thread began it.
+    Begin,
+    /// It was appended to the list of its receiver.
+    Queue,
+    /// It was dropped: its thread is deleted.
+    Drop,
+    /// It was delivered, and its originator turned to the thread that received it (profile 2).
+    Retarget,
+}
+
 /// One step of a machine. It holds only what a line of a trace can spell. A delivery is a `D`:
-/// owned, borrowed, or the index where a history keeps it.
+/// owned, borrowed, or the index where a history keeps it. Failures stand beside the other steps of
+/// threads and of sends, so that each kind takes one byte.
 #[derive(Clone, Copy, PartialEq, Eq, Debug, Drop)]
 pub enum Step<D = Delivery> {
-    /// The thread ran an instruction that concerns nobody else, or ended.
-    Local(GlobalId),
-    /// A thread began this send.
-    Begin(Name),
-    /// The send was appended to the list of its receiver.
-    Queue(Name),
+    /// A step of this thread.
+    OfThread(ThreadStep, GlobalId),
+    /// A step of this send.
+    OfSend(SendStep, Name),
     /// The message of a send was delivered.
     Deliver(D),
-    /// The thread began a receive phase without a send phase.
-    Wait(GlobalId),
-    /// The send was refused, since its time has passed.
-    SendTimeout(Name),
-    /// The receive phase was refused, since its time has passed.
-    ReceiveTimeout(GlobalId),
-    /// The send was refused, since nobody has the id that it goes to.
-    SendNobody(Name),
-    /// The receive phase was refused, since nobody has the id that it names.
-    ReceiveNobody(GlobalId),
-    /// The send was cancelled.
-    SendCancel(Name),
-    /// The receive phase was cancelled.
-    ReceiveCancel(GlobalId),
-    /// The send of a deleted thread was dropped.
-    Drop(Name),
+    /// The receive phase of this thread failed.
+    ReceiveFailed(Failure, GlobalId),
+    /// This send failed.
+    SendFailed(Failure, Name),
     /// The caller gave an order to cancel or delete the target.
     Order {
         /// The thread that asked.
@@ -195,24 +217,21 @@ pub enum Step<D = Delivery> {
         /// What is to be done.
         what: OrderKind,
     },
-    /// The order of this caller was done.
-    Obey(GlobalId),
     /// The clock of a processor advanced.
     Tick(Tick),
-    /// The originator of a delivered send turned to the thread that received it (profile 2).
-    Retarget(Name),
 }
 
 impl<D> Default for Step<D> {
     ghost use Rattle.std.specs.Prelude.{◌≡◌};
     ghost use Rattle.l4_model.specs.Words.{global_id};
-    ghost use Rattle.l4_types.specs.declared.steps.Step.TheVariants.{Local};
+    ghost use Rattle.l4_types.specs.declared.steps.ThreadStep.TheVariants.{Local};
+    ghost use Rattle.l4_types.specs.declared.steps.Step.TheVariants.{OfThread};
 
-    ghost is_default = { λ step. step ≡ Local (global_id 0 1) };
+    ghost is_default = { λ step. step ≡ OfThread Local (global_id 0 1) };
 
     /// The value of an unused slot in an array.
     fn default() -> Step<D> {
-        Step::Local(GlobalId::default())
+        Step::OfThread(ThreadStep::Local, GlobalId::default())
     }
 }
 
@@ -226,17 +245,10 @@ impl<D> Step<D> {
     {
         Err(match self {
             Step::Deliver(delivery) => return Ok(delivery),
-            Step::Local(thread) => Step::Local(*thread),
-            Step::Begin(name) => Step::Begin(*name),
-            Step::Queue(name) => Step::Queue(*name),
-            Step::Wait(thread) => Step::Wait(*thread),
-            Step::SendTimeout(name) => Step::SendTimeout(*name),
-            Step::ReceiveTimeout(thread) => Step::ReceiveTimeout(*thread),
-            Step::SendNobody(name) => Step::SendNobody(*name),
-            Step::ReceiveNobody(thread) => Step::ReceiveNobody(*thread),
-            Step::SendCancel(name) => Step::SendCancel(*name),
-            Step::ReceiveCancel(thread) => Step::ReceiveCancel(*thread),
-            Step::Drop(name) => Step::Drop(*name),
+            Step::OfThread(kind, thread) => Step::OfThread(*kind, *thread),
+            Step::OfSend(kind, name) => Step::OfSend(*kind, *name),
+            Step::ReceiveFailed(failure, thread) => Step::ReceiveFailed(*failure, *thread),
+            Step::SendFailed(failure, name) => Step::SendFailed(*failure, *name),
             Step::Order {
                 caller,
                 target,
@@ -246,9 +258,7 @@ impl<D> Step<D> {
                 target: *target,
                 what: *what,
             },
-            Step::Obey(caller) => Step::Obey(*caller),
             Step::Tick(tick) => Step::Tick(*tick),
-            Step::Retarget(name) => Step::Retarget(*name),
         })
     }
 }

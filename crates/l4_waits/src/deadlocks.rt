@@ -11,27 +11,18 @@ ghost use Rattle.l4_audit.specs.Possible.{possible};
 ghost use Rattle.l4_waits.specs.Deadlocks.{is_of, is_stuck, are_stuck, IsDeadlock};
 
 use l4_types::ids::GlobalId;
-use l4_types::steps::Step;
+use l4_types::steps::{SendStep, Step, ThreadStep};
 
 // Whether a thread goes on, or may go on, by this step.
 fn is_of(id: GlobalId, step: &Step) -> bool
     ensures { result ≡ is_of id (step_of step.now) }
 {
     match step {
-        Step::Local(thread)
-        | Step::Wait(thread)
-        | Step::ReceiveTimeout(thread)
-        | Step::ReceiveNobody(thread)
-        | Step::ReceiveCancel(thread) => *thread == id,
-        Step::Order { caller, .. } => *caller == id,
-        Step::Begin(name)
-        | Step::Queue(name)
-        | Step::SendTimeout(name)
-        | Step::SendNobody(name)
-        | Step::SendCancel(name)
-        | Step::Drop(name) => name.thread() == id,
+        Step::OfThread(ThreadStep::Obey, _) | Step::OfSend(SendStep::Retarget, _) => true,
+        Step::OfThread(_, thread) | Step::ReceiveFailed(_, thread) => *thread == id,
+        Step::OfSend(_, name) | Step::SendFailed(_, name) => name.thread() == id,
         Step::Deliver(delivery) => delivery.name.thread() == id || delivery.receiver == id,
-        Step::Obey(_) | Step::Retarget(_) => true,
+        Step::Order { caller, .. } => *caller == id,
         Step::Tick(_) => false,
     }
 }

@@ -10,7 +10,7 @@ ghost use Rattle.l4_audit.specs.Inner.Due.{ticks_of, CanBeOver, CanBeDue};
 use crate::found::Found;
 use crate::world::World;
 use l4_types::step_ref::StepRef;
-use l4_types::steps::Tick;
+use l4_types::steps::{Failure, Tick};
 use l4_types::times::Period;
 
 impl World<'_> {
@@ -20,12 +20,12 @@ impl World<'_> {
         ensures { ticks_of result ≡ until_due self.now.machine self.now.world (seen step.now) }
     {
         match step {
-            StepRef::SendTimeout(name) => {
+            StepRef::SendFailed(Failure::Timeout, name) => {
                 let pending = self.undecided(*name)?;
                 let send = pending.send();
                 until_over(pending.sender(), send.period(), send.since())
             }
-            StepRef::ReceiveTimeout(id) => until_phase_over(&self.found(*id)?),
+            StepRef::ReceiveFailed(Failure::Timeout, id) => until_phase_over(&self.found(*id)?),
             _ => None,
         }
     }

@@ -15,7 +15,7 @@ use l4_types::errors::{IpcError, NoMemory};
 use l4_types::ids::GlobalId;
 use l4_types::letters::Refusal;
 use l4_types::step_ref::StepRef;
-use l4_types::steps::Name;
+use l4_types::steps::{Failure, Name};
 use l4_types::times::Period;
 
 impl World<'_> {
@@ -24,8 +24,8 @@ impl World<'_> {
         ensures { result ≡ is_some (next_late self.now.machine self.now.world (seen step.now)) }
     {
         match step {
-            StepRef::SendTimeout(name) => self.late_send(*name).is_some(),
-            StepRef::ReceiveTimeout(id) => self.late_receiver(*id).is_some(),
+            StepRef::SendFailed(Failure::Timeout, name) => self.late_send(*name).is_some(),
+            StepRef::ReceiveFailed(Failure::Timeout, id) => self.late_receiver(*id).is_some(),
             StepRef::Tick(_) => false,
             _ => self.reason(step).is_none(),
         }
@@ -39,8 +39,8 @@ impl World<'_> {
         ensures err { OnErr result (self.new ≡ self.old) }
     {
         match step {
-            StepRef::SendTimeout(name) => Ok(self.time_send_out(*name)),
-            StepRef::ReceiveTimeout(id) => Ok(self.time_receive_out(*id)),
+            StepRef::SendFailed(Failure::Timeout, name) => Ok(self.time_send_out(*name)),
+            StepRef::ReceiveFailed(Failure::Timeout, id) => Ok(self.time_receive_out(*id)),
             StepRef::Tick(_) => Ok(false),
             _ => self.take_now(step),
         }
@@ -79,7 +79,7 @@ impl World<'_> {
             return false;
         };
         let place = thread.place();
-        self.fail(place, IpcError::ReceiveTimeout);
+        self.fail(place, IpcError::Receive(Failure::Timeout));
         true
     }
 

@@ -2,10 +2,11 @@
 ghost use Rattle.std.specs.Prelude.{◌≡◌, Some, IfOk, OnOk, filter_map, map};
 ghost use Rattle.std.specs.Option.{option_map};
 ghost use Rattle.l4_model.specs.Conditions.{act_of, found};
-ghost use Rattle.l4_model.specs.Steps.{order_of};
+ghost use Rattle.l4_model.specs.Steps.{Begun, Failed, OfSend, order_of};
 ghost use Rattle.l4_types.specs.Inner.OwedView.{owed_of};
-ghost use Rattle.l4_types.specs.StepView.{delivered, step_of};
-ghost use Rattle.l4_audit.specs.Possible.{Adds, Appends, coming_name, delivery, last_name, order};
+ghost use Rattle.l4_types.specs.StepView.{delivered, failure_of, send_step_of, step_of};
+ghost use Rattle.l4_audit.specs.Possible.{Adds, Appends, coming_name, delivery, failures};
+ghost use Rattle.l4_audit.specs.Possible.{last_name, order};
 ghost use Rattle.l4_audit.specs.Possible.{possible, possible_of, turn, where_possible};
 
 use crate::found::Found;
@@ -16,7 +17,7 @@ use l4_types::errors::NoMemory;
 use l4_types::ids::GlobalId;
 use l4_types::owed::Owed;
 use l4_types::step_ref::{DeliveryRef, StepRef};
-use l4_types::steps::{Name, Step};
+use l4_types::steps::{Failure, Name, SendStep, Step, ThreadStep};
 use std::alloc::Global;
 
 impl World<'_> {
@@ -51,21 +52,34 @@ impl World<'_> {
             (possible_of self.now.machine self.now.world (Some thread.now))) }
     {
         let id = thread.id();
-        self.push(Some(Step::Local(id)), steps)?;
-        self.push(coming_name(thread).map(Step::Begin), steps)?;
-        self.push(last_name(thread).map(Step::Queue), steps)?;
+        self.push(Some(Step::OfThread(ThreadStep::Local, id)), steps)?;
+        self.push(begins(thread), steps)?;
+        self.push(of_last_send(SendStep::Queue, thread), steps)?;
         self.push(self.delivery_of(last_name(thread)), steps)?;
-        self.push(Some(Step::Wait(id)), steps)?;
-        self.push(last_name(thread).map(Step::SendTimeout), steps)?;
-        self.push(Some(Step::ReceiveTimeout(id)), steps)?;
-        self.push(last_name(thread).map(Step::SendNobody), steps)?;
-        self.push(Some(Step::ReceiveNobody(id)), steps)?;
-        self.push(last_name(thread).map(Step::SendCancel), steps)?;
-        self.push(Some(Step::ReceiveCancel(id)), steps)?;
-        self.push(last_name(thread).map(Step::Drop), steps)?;
+        self.push(Some(Step::OfThread(ThreadStep::Wait, id)), steps)?;
+        self.push_failures(Failure::Timeout, thread, steps)?;
+        self.push_failures(Failure::Nobody, thread, steps)?;
+        self.push_failures(Failure::Cancel, thread, steps)?;
+        self.push(of_last_send(SendStep::Drop, thread), steps)?;
         self.push(order(self.machine, thread), steps)?;
-        self.push(Some(Step::Obey(id)), steps)?;
+        self.push(Some(Step::OfThread(ThreadStep::Obey, id)), steps)?;
         self.push_turns(id, steps)
+    }
+
+    // Appends the failures for this reason of the last send of a thread and of its receive phase, if
+    // they are possible.
+    fn push_failures(
+        &self,
+        failure: Failure,
+        thread: &Found,
+        steps: &mut Vec<Step>,
+    ) -> Result<(), NoMemory>
+        ensures { OnOk result (Appends steps.old.items steps.new.items
+            (filter_map (where_possible self.now.machine self.now.world)
+            (failures (failure_of failure) thread.now))) }
+    {
+        self.push(send_fails(failure, thread), steps)?;
+        self.push(Some(Step::ReceiveFailed(failure, thread.id())), steps)
     }
 
     // Appends the retargets by which a thread is to turn, if they are possible.
@@ -148,10 +162,33 @@ fn turn(id: GlobalId, owed: &Owed) -> Option<Step>
     ensures { option_map step_of result ≡ turn id (owed_of owed.now) }
 {
     if id == owed.originator {
-        Some(Step::Retarget(owed.send))
+        Some(Step::OfSend(SendStep::Retarget, owed.send))
     } else {
         None
     }
+}
+
+// The send that a thread begins next, as a step, if the send has a name.
+fn begins(thread: &Found) -> Option<Step>
+    ensures { option_map step_of result ≡ option_map (OfSend Begun) (coming_name thread.now) }
+{
+    Some(Step::OfSend(SendStep::Begin, coming_name(thread)?))
+}
+
+// A step of the last send that a thread began, if the send has a name.
+fn of_last_send(kind: SendStep, thread: &Found) -> Option<Step>
+    ensures { option_map step_of result
+        ≡ option_map (OfSend (send_step_of kind)) (last_name thread.now) }
+{
+    Some(Step::OfSend(kind, last_name(thread)?))
+}
+
+// The failure of the last send that a thread began, if the send has a name.
+fn send_fails(failure: Failure, thread: &Found) -> Option<Step>
+    ensures { option_map step_of result
+        ≡ option_map (OfSend (Failed (failure_of failure))) (last_name thread.now) }
+{
+    Some(Step::SendFailed(failure, last_name(thread)?))
 }
 
 // The send that a thread begins next, if the send has a name.

@@ -3,7 +3,8 @@ ghost use Rattle.std.specs.Prelude.{◌≡◌, Some, IfOk};
 ghost use Rattle.std.specs.Result.{result_err};
 ghost use Rattle.l4_model.specs.Conditions.{found};
 ghost use Rattle.l4_model.specs.Steps.{ReceiveTimeout, ReceiveNobody, ReceiveCancel, Obey};
-ghost use Rattle.l4_types.specs.StepView.{order_kind_of};
+ghost use Rattle.l4_model.specs.Steps.{Fails, OfThread};
+ghost use Rattle.l4_types.specs.StepView.{failure_of, order_kind_of};
 ghost use Rattle.l4_audit.specs.Inner.Audited.{IsAsked, IsPlaced};
 ghost use Rattle.l4_audit.specs.Reasons.{reason};
 ghost use Rattle.l4_audit.specs.Inner.Taking.{Judged};
@@ -13,11 +14,11 @@ use crate::reasons::{Reason, StepFault, need, test};
 use crate::world::World;
 use l4_types::errors::IpcError;
 use l4_types::ids::GlobalId;
-use l4_types::steps::OrderKind;
+use l4_types::steps::{Failure, OrderKind};
 
 impl World<'_> {
-    /// The thread whose receive phase may time out.
-    pub(crate) fn may_receive_timeout(&self, id: GlobalId) -> Result<Found<'_>, Reason>
+    // The thread whose receive phase may time out.
+    fn may_receive_timeout(&self, id: GlobalId) -> Result<Found<'_>, Reason>
         ensures thread { IfOk result (λ t. found self.now.machine self.now.world id ≡ Some t) }
         ensures reason { result_err result ≡
             reason self.now.machine self.now.world (ReceiveTimeout id) }
@@ -32,19 +33,8 @@ impl World<'_> {
         Ok(thread)
     }
 
-    /// Times a receive phase out.
-    #[inline(always)]
-    pub(crate) fn receive_timeout(&mut self, id: GlobalId) -> Result<(), StepFault>
-        ensures { Judged self.old (ReceiveTimeout id) result self.new }
-    {
-        let thread = self.may_receive_timeout(id)?;
-        let place = thread.place();
-        self.fail(place, IpcError::ReceiveTimeout);
-        Ok(())
-    }
-
-    /// The thread whose receive phase may be refused: nobody has the id that it names.
-    pub(crate) fn may_receive_nobody(&self, id: GlobalId) -> Result<Found<'_>, Reason>
+    // The thread whose receive phase may be refused: nobody has the id that it names.
+    fn may_receive_nobody(&self, id: GlobalId) -> Result<Found<'_>, Reason>
         ensures thread { IfOk result (λ t. found self.now.machine self.now.world id ≡ Some t) }
         ensures reason { result_err result ≡
             reason self.now.machine self.now.world (ReceiveNobody id) }
@@ -57,18 +47,8 @@ impl World<'_> {
         Ok(thread)
     }
 
-    /// Refuses a receive phase: nobody has the id that it names.
-    pub(crate) fn receive_nobody(&mut self, id: GlobalId) -> Result<(), StepFault>
-        ensures { Judged self.old (ReceiveNobody id) result self.new }
-    {
-        let thread = self.may_receive_nobody(id)?;
-        let place = thread.place();
-        self.fail(place, IpcError::ReceiveNobody);
-        Ok(())
-    }
-
-    /// The thread whose receive phase may be cancelled.
-    pub(crate) fn may_receive_cancel(&self, id: GlobalId) -> Result<Found<'_>, Reason>
+    // The thread whose receive phase may be cancelled.
+    fn may_receive_cancel(&self, id: GlobalId) -> Result<Found<'_>, Reason>
         ensures thread { IfOk result (λ t. found self.now.machine self.now.world id ≡ Some t) }
         ensures reason { result_err result ≡
             reason self.now.machine self.now.world (ReceiveCancel id) }
@@ -79,13 +59,32 @@ impl World<'_> {
         Ok(thread)
     }
 
-    /// Cancels a receive phase.
-    pub(crate) fn receive_cancel(&mut self, id: GlobalId) -> Result<(), StepFault>
-        ensures { Judged self.old (ReceiveCancel id) result self.new }
+    /// The thread whose receive phase may fail for this reason.
+    #[inline(always)]
+    pub(crate) fn may_fail_receive(
+        &self,
+        failure: Failure,
+        id: GlobalId,
+    ) -> Result<Found<'_>, Reason>
+        ensures thread { IfOk result (λ t. found self.now.machine self.now.world id ≡ Some t) }
+        ensures reason { result_err result ≡ reason self.now.machine self.now.world
+            (OfThread (Fails (failure_of failure)) id) }
     {
-        let thread = self.may_receive_cancel(id)?;
+        match failure {
+            Failure::Timeout => self.may_receive_timeout(id),
+            Failure::Nobody => self.may_receive_nobody(id),
+            Failure::Cancel => self.may_receive_cancel(id),
+        }
+    }
+
+    /// Fails a receive phase.
+    #[inline(always)]
+    pub(crate) fn fail_receive(&mut self, failure: Failure, id: GlobalId) -> Result<(), StepFault>
+        ensures { Judged self.old (OfThread (Fails (failure_of failure)) id) result self.new }
+    {
+        let thread = self.may_fail_receive(failure, id)?;
         let place = thread.place();
-        self.fail(place, IpcError::ReceiveCancelled);
+        self.fail(place, IpcError::Receive(failure));
         Ok(())
     }
 

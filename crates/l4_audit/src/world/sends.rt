@@ -15,7 +15,18 @@ use crate::found::{Found, Pending};
 use crate::reasons::{Reason, StepFault, need, test};
 use crate::world::World;
 use l4_types::letters::{Decision, Refusal};
-use l4_types::steps::Name;
+use l4_types::steps::{Failure, Name};
+
+// What a send that fails is refused for.
+fn refusal_by(failure: Failure) -> Refusal
+    ensures { refusal_of_send result ≡ refusal_for (failure_of failure) }
+{
+    match failure {
+        Failure::Timeout => Refusal::TimedOut,
+        Failure::Nobody => Refusal::Nobody,
+        Failure::Cancel => Refusal::Cancelled,
+    }
+}
 
 impl World<'_> {
     /// The send that may be queued, and its receiver.
@@ -62,8 +73,8 @@ impl World<'_> {
         self.end_send(sender, Decision::Refused(refusal), now);
     }
 
-    /// The send that may time out. Not while it must wait.
-    pub(crate) fn may_send_timeout(&self, name: Name) -> Result<Pending<'_>, Reason>
+    // The send that may time out. Not while it must wait.
+    fn may_send_timeout(&self, name: Name) -> Result<Pending<'_>, Reason>
         ensures send { IfOk result (λ p. undecided self.now.machine self.now.world name ≡ Some p) }
         ensures reason { result_err result ≡
             reason self.now.machine self.now.world (SendTimeout name) }
@@ -76,18 +87,8 @@ impl World<'_> {
         Ok(pending)
     }
 
-    /// Times a send out.
-    pub(crate) fn send_timeout(&mut self, name: Name) -> Result<(), StepFault>
-        ensures { Judged self.old (SendTimeout name) result self.new }
-    {
-        let pending = self.may_send_timeout(name)?;
-        let (sender, clock) = pending.sender_now();
-        self.refuse(sender, Refusal::TimedOut, clock);
-        Ok(())
-    }
-
-    /// The send that may be refused: nobody has its destination. Not while it must wait.
-    pub(crate) fn may_send_nobody(&self, name: Name) -> Result<Pending<'_>, Reason>
+    // The send that may be refused: nobody has its destination. Not while it must wait.
+    fn may_send_nobody(&self, name: Name) -> Result<Pending<'_>, Reason>
         ensures send { IfOk result (λ p. undecided self.now.machine self.now.world name ≡ Some p) }
         ensures reason { result_err result ≡
             reason self.now.machine self.now.world (SendNobody name) }
@@ -99,18 +100,8 @@ impl World<'_> {
         Ok(pending)
     }
 
-    /// Refuses a send: nobody has its destination.
-    pub(crate) fn send_nobody(&mut self, name: Name) -> Result<(), StepFault>
-        ensures { Judged self.old (SendNobody name) result self.new }
-    {
-        let pending = self.may_send_nobody(name)?;
-        let (sender, clock) = pending.sender_now();
-        self.refuse(sender, Refusal::Nobody, clock);
-        Ok(())
-    }
-
-    /// The send that may be cancelled.
-    pub(crate) fn may_send_cancel(&self, name: Name) -> Result<Pending<'_>, Reason>
+    // The send that may be cancelled.
+    fn may_send_cancel(&self, name: Name) -> Result<Pending<'_>, Reason>
         ensures send { IfOk result (λ p. undecided self.now.machine self.now.world name ≡ Some p) }
         ensures reason { result_err result ≡
             reason self.now.machine self.now.world (SendCancel name) }
@@ -124,13 +115,26 @@ impl World<'_> {
         Ok(pending)
     }
 
-    /// Cancels a send.
-    pub(crate) fn send_cancel(&mut self, name: Name) -> Result<(), StepFault>
-        ensures { Judged self.old (SendCancel name) result self.new }
+    /// The send that may fail for this reason.
+    pub(crate) fn may_fail_send(&self, failure: Failure, name: Name) -> Result<Pending<'_>, Reason>
+        ensures send { IfOk result (λ p. undecided self.now.machine self.now.world name ≡ Some p) }
+        ensures reason { result_err result ≡ reason self.now.machine self.now.world
+            (OfSend (Failed (failure_of failure)) name) }
     {
-        let pending = self.may_send_cancel(name)?;
+        match failure {
+            Failure::Timeout => self.may_send_timeout(name),
+            Failure::Nobody => self.may_send_nobody(name),
+            Failure::Cancel => self.may_send_cancel(name),
+        }
+    }
+
+    /// Fails a send.
+    pub(crate) fn fail_send(&mut self, failure: Failure, name: Name) -> Result<(), StepFault>
+        ensures { Judged self.old (OfSend (Failed (failure_of failure)) name) result self.new }
+    {
+        let pending = self.may_fail_send(failure, name)?;
         let (sender, clock) = pending.sender_now();
-        self.refuse(sender, Refusal::Cancelled, clock);
+        self.refuse(sender, refusal_by(failure), clock);
         Ok(())
     }
 

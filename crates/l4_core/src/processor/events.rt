@@ -1,14 +1,14 @@
 //! Does what a turn has chosen.
 ghost use Rattle.std.specs.Prelude.{◌≡◌, ◌<◌, ◌≤◌, Some, slice_get, ℕ, true};
-ghost use Rattle.l4_types.specs.Inner.Codes.{code_of};
-ghost use Rattle.l4_types.specs.StepView.{seen};
+ghost use Rattle.l4_types.specs.StepView.{failure_of};
+ghost use Rattle.l4_core_model.specs.Acts.{fails_for};
 ghost use Rattle.l4_core_model.specs.Plain.{due_block};
 ghost use Rattle.l4_core_model.specs.Local.{is_own, thread};
 ghost use Rattle.l4_core_model.specs.Turns.{does_choice, does_duty, times_out, TellsGone};
 ghost use Rattle.l4_core_model.specs.Turns.{ByDue as IsDue, ByReady as IsReady};
 ghost use Rattle.l4_core.specs.Inner.Choosing.{choice_of, duty_of, IsPossible};
 ghost use Rattle.l4_core.specs.Inner.Covered.{IsFirstDuty};
-ghost use Rattle.l4_core.specs.Inner.Turning.{fails_with, Does, IsOwnOf, IsReceiver};
+ghost use Rattle.l4_core.specs.Inner.Turning.{Does, IsOwnOf, IsReceiver};
 
 use crate::event_buffer::EventBuffer;
 use crate::known::duties::Duty;
@@ -18,6 +18,7 @@ use l4_thread::changes::Change;
 use l4_types::errors::IpcError;
 use l4_types::letters::{Cause, Content, Refusal};
 use l4_types::step_ref::StepRef;
+use l4_types::steps::Failure;
 
 impl Core<'_> {
     /// Does what a turn has chosen.
@@ -79,8 +80,7 @@ impl Core<'_> {
     {
         self.known.facts();
         if self.known.receiving(place).is_some() {
-            let step = StepRef::ReceiveTimeout(self.known.id(place));
-            self.fail_receive(place, step, IpcError::ReceiveTimeout, buffer);
+            self.fail_receive(place, Failure::Timeout, buffer);
         } else if self.known.is_queued(place) {
             self.refuse(place, Refusal::TimedOut, buffer);
         } else {
@@ -88,24 +88,23 @@ impl Core<'_> {
         }
     }
 
-    // Fails the receive phase of a thread with this error; the step says so. Inlined, so that no
-    // step is built in memory.
+    // Fails the receive phase of a thread; the step says so. Inlined, so that no step is built in
+    // memory.
     #[inline(always)]
     fn fail_receive<S: Sink>(
         &mut self,
         place: usize,
-        step: StepRef<'_>,
-        error: IpcError,
+        failure: Failure,
         buffer: &mut EventBuffer<S>,
     )
         requires receiver { IsReceiver self.old place }
         requires room { 0 < buffer.old.room }
-        ensures { Does (fails_with (seen step.entry)
-            (code_of error) place) self.old self.new buffer.old buffer.new }
+        ensures { Does (fails_for self.old.machine (failure_of failure) place)
+            self.old self.new buffer.old buffer.new }
     {
         self.known.facts();
-        buffer.emit(step);
-        self.apply_change(place, &Change::Fail(error));
+        buffer.emit(StepRef::ReceiveFailed(failure, self.known.id(place)));
+        self.apply_change(place, &Change::Fail(IpcError::Receive(failure)));
     }
 
     // Does the duty of a thread.
@@ -124,15 +123,9 @@ impl Core<'_> {
             Duty::RefuseFirst(sender) => self.refuse(sender, Refusal::Nobody, buffer),
             Duty::NotifyDeletion(cpu) => self.notify_deletion(place, cpu, buffer),
             Duty::CancelOwn => self.refuse(place, Refusal::Cancelled, buffer),
-            Duty::CancelReceive => {
-                let step = StepRef::ReceiveCancel(self.known.id(place));
-                self.fail_receive(place, step, IpcError::ReceiveCancelled, buffer);
-            }
+            Duty::CancelReceive => self.fail_receive(place, Failure::Cancel, buffer),
             Duty::DeliverFirst(sender) => self.deliver(place, sender, buffer),
-            Duty::CloseReceive => {
-                let step = StepRef::ReceiveNobody(self.known.id(place));
-                self.fail_receive(place, step, IpcError::ReceiveNobody, buffer);
-            }
+            Duty::CloseReceive => self.fail_receive(place, Failure::Nobody, buffer),
             Duty::RefuseZero(sender) => self.refuse(sender, Refusal::TimedOut, buffer),
         }
     }

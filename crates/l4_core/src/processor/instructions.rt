@@ -25,7 +25,7 @@ use l4_thread::phases::Began;
 use l4_types::ids::GlobalId;
 use l4_types::letters::{Cause, Content};
 use l4_types::step_ref::StepRef;
-use l4_types::steps::OrderKind;
+use l4_types::steps::{OrderKind, SendStep, ThreadStep};
 
 // Why an order withdraws a send of its target, if it does.
 fn cause_of(what: OrderKind) -> Option<Cause>
@@ -56,7 +56,7 @@ impl Core<'_> {
         ensures slots { 1 ≤ buffer.new.slots }
     {
         let was_deleted = self.known.is_deleted(place);
-        buffer.emit(StepRef::Obey(caller));
+        buffer.emit(StepRef::OfThread(ThreadStep::Obey, caller));
         self.ask(place, what);
         if !was_deleted {
             if let Some(cause) = cause_of(what) {
@@ -104,7 +104,7 @@ impl Core<'_> {
             self.old self.new buffer.old buffer.new }
     {
         self.known.facts();
-        buffer.emit(StepRef::Local(self.known.id(place)));
+        buffer.emit(StepRef::OfThread(ThreadStep::Local, self.known.id(place)));
         self.run_alone(place, instr);
     }
 
@@ -135,9 +135,9 @@ impl Core<'_> {
         self.known.facts();
         match self.begin(place, instr) {
             Began::Nothing => self.run(place, instr, buffer),
-            Began::Receive => buffer.emit(StepRef::Wait(self.known.id(place))),
+            Began::Receive => buffer.emit(StepRef::OfThread(ThreadStep::Wait, self.known.id(place))),
             Began::Send => {
-                buffer.emit(StepRef::Begin(self.known.last_name(place)));
+                buffer.emit(StepRef::OfSend(SendStep::Begin, self.known.last_name(place)));
                 self.send(place, partner, buffer);
             }
         }

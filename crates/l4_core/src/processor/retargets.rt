@@ -13,6 +13,7 @@ use l4_history::sink::Sink;
 use l4_types::letters::Content;
 use l4_types::owed::Owed;
 use l4_types::step_ref::StepRef;
+use l4_types::steps::SendStep;
 
 impl Core<'_> {
     /// Notes a retarget that is owed since this receiver got a message. It is kept beside the
@@ -64,7 +65,7 @@ impl Core<'_> {
         ensures { Does (retargets
             (owed_of owed.now) originator) self.old self.new buffer.old buffer.new }
     {
-        buffer.emit(StepRef::Retarget(owed.send));
+        buffer.emit(StepRef::OfSend(SendStep::Retarget, owed.send));
         self.turn_to(originator, owed);
     }
 }

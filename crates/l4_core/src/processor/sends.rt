@@ -20,17 +20,17 @@ use l4_history::sink::Sink;
 use l4_thread::changes::Change;
 use l4_types::letters::{Cause, Content, Decision, LetterHead, Refusal};
 use l4_types::step_ref::{DeliveryRef, StepRef};
-use l4_types::steps::Name;
+use l4_types::steps::{Failure, Name, SendStep};
 
 // The step of a refusal.
 fn refusal_step(refusal: Refusal, name: Name) -> StepRef<'static>
     ensures { seen result ≡ refusal_step (refusal_of_send refusal) name }
 {
     match refusal {
-        Refusal::TimedOut => StepRef::SendTimeout(name),
-        Refusal::Nobody => StepRef::SendNobody(name),
-        Refusal::Cancelled => StepRef::SendCancel(name),
-        Refusal::Dropped => StepRef::Drop(name),
+        Refusal::TimedOut => StepRef::SendFailed(Failure::Timeout, name),
+        Refusal::Nobody => StepRef::SendFailed(Failure::Nobody, name),
+        Refusal::Cancelled => StepRef::SendFailed(Failure::Cancel, name),
+        Refusal::Dropped => StepRef::OfSend(SendStep::Drop, name),
     }
 }
 
@@ -213,7 +213,7 @@ impl Core<'_> {
             (queues_send self.old.machine self.old.cpu receiver sender
             (Some send)) self.old self.new buffer.old buffer.new }
     {
-        buffer.emit(StepRef::Queue(self.known.last_name(sender)));
+        buffer.emit(StepRef::OfSend(SendStep::Queue, self.known.last_name(sender)));
         let waiting = self.known.entry(receiver, sender);
         self.queue_send(receiver, waiting);
         if self.known.is_first(receiver, sender) {

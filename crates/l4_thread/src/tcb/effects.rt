@@ -37,7 +37,7 @@ use l4_types::ids::{GlobalId, ThreadId};
 use l4_types::letters::{Decision, Refusal};
 use l4_types::message_ref::MessageRef;
 use l4_types::messages::MOST_WORDS;
-use l4_types::steps::OrderKind;
+use l4_types::steps::{Failure, OrderKind};
 use l4_types::tags::MsgTag;
 use l4_types::times::Period;
 
@@ -208,9 +208,9 @@ impl Tcb {
     {
         match decision {
             Decision::Delivered => self.end_delivered(now),
-            Decision::Refused(Refusal::TimedOut) => self.refuse(IpcError::SendTimeout),
-            Decision::Refused(Refusal::Nobody) => self.refuse(IpcError::SendNobody),
-            Decision::Refused(Refusal::Cancelled) => self.refuse(IpcError::SendCancelled),
+            Decision::Refused(Refusal::TimedOut) => self.refuse(IpcError::Send(Failure::Timeout)),
+            Decision::Refused(Refusal::Nobody) => self.refuse(IpcError::Send(Failure::Nobody)),
+            Decision::Refused(Refusal::Cancelled) => self.refuse(IpcError::Send(Failure::Cancel)),
             Decision::Refused(Refusal::Dropped) => self.end_dropped(),
         }
     }

@@ -7,7 +7,8 @@ use Rattle.l4_types.specs.Inner.PeriodView.{period_from, periods_from}
 use Rattle.l4_types.specs.declared.times.Period.{Period}
 use Rattle.l4_types.specs.declared.times.Period.TheVariants.{Never, Zero, Ticks}
 use Rattle.l4_types.specs.Inner.Codes.{code_of}
-use Rattle.l4_types.specs.declared.errors.IpcError.TheVariants.{SendTimeout, ReceiveTimeout, SendNobody, ReceiveNobody, SendCancelled, ReceiveCancelled}
+use Rattle.l4_types.specs.declared.errors.IpcError.TheVariants.{Send, Receive}
+use Rattle.l4_types.specs.declared.steps.Failure.TheVariants.{Timeout, Nobody, Cancel}
 
 -- The id 1.1, and the id 2.65 both ways.
 word_of_1_1 : word_of (GlobalThread (global_id 1 1)) ≡ 0x0000000100000001
@@ -94,20 +95,20 @@ periods_of_timeouts : map (λ row. option_map periods_from (timeouts_of row.0)) 
 periods_of_timeouts = refl
 
 -- The codes of all failures.
-code_of_send_timeout : code_of SendTimeout ≡ 2
+code_of_send_timeout : code_of (Send Timeout) ≡ 2
 code_of_send_timeout = refl
 
-code_of_receive_timeout : code_of ReceiveTimeout ≡ 3
+code_of_receive_timeout : code_of (Receive Timeout) ≡ 3
 code_of_receive_timeout = refl
 
-code_of_send_nobody : code_of SendNobody ≡ 4
+code_of_send_nobody : code_of (Send Nobody) ≡ 4
 code_of_send_nobody = refl
 
-code_of_receive_nobody : code_of ReceiveNobody ≡ 5
+code_of_receive_nobody : code_of (Receive Nobody) ≡ 5
 code_of_receive_nobody = refl
 
-code_of_send_cancelled : code_of SendCancelled ≡ 6
+code_of_send_cancelled : code_of (Send Cancel) ≡ 6
 code_of_send_cancelled = refl
 
-code_of_receive_cancelled : code_of ReceiveCancelled ≡ 7
+code_of_receive_cancelled : code_of (Receive Cancel) ≡ 7
 code_of_receive_cancelled = refl

@@ -1,5 +1,5 @@
 -- What a push makes of the rows.
-use Rattle.std.proofs.Common.{◌≡◌, ℕ, ◌+◌, ◌-◌, ◌<◌, ◌≤◌, Bool, Option, List, [], ◌∷◌, ◌++◌, length, take, drop, refl, ap, ap₂, arith, sym, append-nil, append_assoc, ◌∙◌, subst}
+use Rattle.std.proofs.Common.{◌≡◌, ℕ, ◌-◌, ◌<◌, ◌≤◌, Bool, Option, List, [], ◌∷◌, ◌++◌, length, take, drop, refl, ap, ap₂, arith, sym, append-nil, append_assoc, ◌∙◌, subst}
 use Rattle.std.specs.Prelude.{All, IfSome, slice_get, Some, None}
 use Rattle.std.proofs.lemmas.List.{take_all, drop_at, length-append, length_push, map-append}
 use Rattle.std.proofs.lemmas.List.Elements.{All-push, All-weaker}
@@ -16,12 +16,11 @@ use Rattle.l4_history.specs.declared.records.Body.{Body}
 use Rattle.l4_history.specs.declared.records.Head.{Head}
 use Rattle.l4_history.specs.declared.records.WideHead.{WideHead}
 use Rattle.l4_history.specs.declared.records.Kind.{Kind}
-use Rattle.l4_history.specs.declared.records.Kind.TheVariants.{Thread, Send, Tick, Deliver, Wide}
-use Rattle.l4_history.specs.declared.records.OfThread.{OfThread}
-use Rattle.l4_history.specs.declared.records.OfSend.{OfSend}
-use Rattle.l4_history.specs.declared.records.OfSend.TheVariants as send
+use Rattle.l4_history.specs.declared.records.Kind.TheVariants.{Thread, Send, ReceiveFailed, SendFailed, Tick, Deliver, Wide}
+use Rattle.l4_types.specs.declared.steps.SendStep.{SendStep}
+use Rattle.l4_types.specs.declared.steps.SendStep.TheVariants as send
 use Rattle.l4_history.specs.declared.records.Record.{Record}
-use Rattle.l4_history.specs.Inner.Rows.{AreRows, IsBody, IsBodyOf, IsHead, IsHeadOf, IsName, IsOfKind, IsRecord, IsWide, IsWideHeadOf, Told, delivery_at, delivery_by, head_delivery, name_at, plain_step, send_step, step_at, thread_step, told, wide_at, wide_delivery}
+use Rattle.l4_history.specs.Inner.Rows.{AreRows, IsBody, IsBodyOf, IsHead, IsHeadOf, IsName, IsOfKind, IsRecord, IsWide, IsWideHeadOf, Told, delivery_at, delivery_by, head_delivery, name_at, plain_step, step_at, step_of_kind, told, wide_at, wide_delivery}
 use Rattle.l4_history.specs.Inner.Sent.{sent}
 use Rattle.l4_history.specs.Inner.Slots.{HasSlot, Keeps, thread_at}
 use Rattle.l4_history.proofs.Kept.{told-kept}
@@ -44,6 +43,8 @@ kind-more : (slots slots' : List GlobalId) → Keeps slots slots' → (heads hea
     IsOfKind slots heads wide slot number kind → IsOfKind slots' heads' wide' slot number kind
 kind-more slots slots' keeps heads heads' wide wide' slot number (Thread kind) longer wider is = (keeps slot is).is_slot
 kind-more slots slots' keeps heads heads' wide wide' slot number (Send kind) longer wider is = name-more slots slots' keeps slot number is
+kind-more slots slots' keeps heads heads' wide wide' slot number (ReceiveFailed why) longer wider is = (keeps slot is).is_slot
+kind-more slots slots' keeps heads heads' wide wide' slot number (SendFailed why) longer wider is = name-more slots slots' keeps slot number is
 kind-more slots slots' keeps heads heads' wide wide' slot number Tick longer wider is = is
 kind-more slots slots' keeps heads heads' wide wide' slot number Deliver longer wider is = let known : number < heads = is in omega arith
 kind-more slots slots' keeps heads heads' wide wide' slot number Wide longer wider is = let known : number < wide = is in omega arith
@@ -126,18 +127,18 @@ pub name-told : (slots : List GlobalId) (name : Name) (slot k : ℕ) → HasSlot
 name-told slots name slot k has same = rw (has.has, same) refl
 
 -- A step of a thread that has a slot was stored.
-pub thread-told : (slots slots' : List GlobalId) → Keeps slots slots' → (records records' : List Record) (heads : List Head) (wide : List (Step WideHead)) (words : List ℕ) (kind : OfThread) (thread : GlobalId) (slot : ℕ) →
-    AreRows slots records heads wide words → HasSlot slots' thread slot → records' ≡ records ++ record { kind = Thread kind; slot = slot; number = 0 } ∷ [] →
-    told slots' records' heads wide words ≡ told slots records heads wide words ++ thread_step kind thread ∷ []
-thread-told slots slots' keeps records records' heads wide words kind thread slot are has e =
-    rw e (record-told slots slots' keeps records heads wide words (record { kind = Thread kind; slot = slot; number = 0 }) (thread_step kind thread) are (ap (thread_step kind) has.has))
+pub thread-told : (slots slots' : List GlobalId) → Keeps slots slots' → (records records' : List Record) (heads : List Head) (wide : List (Step WideHead)) (words : List ℕ) (kind : Kind) (step : steps.ThreadStep) (thread : GlobalId) (slot : ℕ) →
+    AreRows slots records heads wide words → HasSlot slots' thread slot → step_of_kind slots' heads wide words slot 0 kind ≡ steps.OfThread step (thread_at slots' slot) →
+    records' ≡ records ++ record { kind = kind; slot = slot; number = 0 } ∷ [] → told slots' records' heads wide words ≡ told slots records heads wide words ++ steps.OfThread step thread ∷ []
+thread-told slots slots' keeps records records' heads wide words kind step thread slot are has tells e =
+    rw e (record-told slots slots' keeps records heads wide words (record { kind = kind; slot = slot; number = 0 }) (steps.OfThread step thread) are (tells ∙ ap (steps.OfThread step) has.has))
 
 -- A step of a send whose thread has a slot was stored.
-pub send-told : (slots slots' : List GlobalId) → Keeps slots slots' → (records records' : List Record) (heads : List Head) (wide : List (Step WideHead)) (words : List ℕ) (kind : OfSend) (name : Name) (slot k : ℕ) →
-    AreRows slots records heads wide words → HasSlot slots' name.thread slot → k ≡ name.k → records' ≡ records ++ record { kind = Send kind; slot = slot; number = k } ∷ [] →
-    told slots' records' heads wide words ≡ told slots records heads wide words ++ send_step kind name ∷ []
-send-told slots slots' keeps records records' heads wide words kind name slot k are has same e =
-    rw e (record-told slots slots' keeps records heads wide words (record { kind = Send kind; slot = slot; number = k }) (send_step kind name) are (ap (send_step kind) (name-told slots' name slot k has same)))
+pub send-told : (slots slots' : List GlobalId) → Keeps slots slots' → (records records' : List Record) (heads : List Head) (wide : List (Step WideHead)) (words : List ℕ) (kind : Kind) (step : steps.SendStep) (name : Name) (slot k : ℕ) →
+    AreRows slots records heads wide words → HasSlot slots' name.thread slot → k ≡ name.k → step_of_kind slots' heads wide words slot k kind ≡ steps.OfSend step (name_at slots' slot k) →
+    records' ≡ records ++ record { kind = kind; slot = slot; number = k } ∷ [] → told slots' records' heads wide words ≡ told slots records heads wide words ++ steps.OfSend step name ∷ []
+send-told slots slots' keeps records records' heads wide words kind step name slot k are has same tells e =
+    rw e (record-told slots slots' keeps records heads wide words (record { kind = kind; slot = slot; number = k }) (steps.OfSend step name) are (tells ∙ ap (steps.OfSend step) (name-told slots' name slot k has same)))
 
 not_both : {A : Type 0} (o : Option A) (x : A) → o ≡ None → o ≡ Some x → ⊥
 not_both o x e f = cc
@@ -247,7 +248,7 @@ delivery-told slots slots' keeps records records' heads heads' wide words words'
     ∙ ap (λ (x : steps.Step). told slots records heads wide words ++ x ∷ []) (head-told slots' words d start h is begins))
 
 -- The three steps of a send were stored.
-abbrev send-record : OfSend → Head → Record
+abbrev send-record : SendStep → Head → Record
 send-record kind h = record { kind = Send kind; slot = h.sender; number = h.k }
 
 pub sent-rows : (slots slots' : List GlobalId) → Keeps slots slots' → (records records1 records2 records' : List Record) (heads heads' : List Head) (wide : List (Step WideHead)) (words words' : List ℕ) (r : Record) (at start : ℕ) (h : Head) (d : DeliveryRef) →
@@ -270,9 +271,9 @@ sent-told slots slots' keeps records records1 records2 records' heads heads' wid
     let are2 : AreRows slots' records2 heads wide words = rw r2 (record-rows slots' slots' (same-slots slots') records1 heads wide words (send-record send.Queue h) are1 name) in
     let before : List steps.Step = told slots records heads wide words in
     let begun : told slots' records1 heads wide words ≡ before ++ steps.Begin d.name ∷ [] =
-    send-told slots slots' keeps records records1 heads wide words send.Begin d.name h.sender h.k are is.sender is.k r1 in
+    send-told slots slots' keeps records records1 heads wide words (Send send.Begin) steps.Begun d.name h.sender h.k are is.sender is.k refl r1 in
     let queued : told slots' records2 heads wide words ≡ told slots' records1 heads wide words ++ steps.Queue d.name ∷ [] =
-    send-told slots' slots' (same-slots slots') records1 records2 heads wide words send.Queue d.name h.sender h.k are1 is.sender is.k r2 in
+    send-told slots' slots' (same-slots slots') records1 records2 heads wide words (Send send.Queue) steps.Queued d.name h.sender h.k are1 is.sender is.k refl r2 in
     let last : told slots' records' heads' wide words' ≡ told slots' records2 heads wide words ++ delivered d ∷ [] =
     delivery-told slots' slots' (same-slots slots') records2 records' heads heads' wide words words' r at start h d are2 is names place begins e1 e2 e3 in
     rw (last, queued, begun, append_assoc before (steps.Begin d.name ∷ []) (steps.Queue d.name ∷ []), append_assoc before (steps.Begin d.name ∷ steps.Queue d.name ∷ []) (delivered d ∷ [])) refl

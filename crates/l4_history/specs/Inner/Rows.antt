@@ -1,15 +1,11 @@
 -- What the rows of a history tell: the threads that have slots, its records, the heads of its
 -- deliveries, the steps that no record fits, and the words of all deliveries.
-use Rattle.std.specs.Prelude.{◌≡◌, ⊤, ℕ, ◌+◌, ◌<◌, ◌≤◌, ◌^◌, Option, Some, None, IfSome, List, ◌++◌, length, map, take, drop, slice_get, All}
+use Rattle.std.specs.Prelude.{◌≡◌, ℕ, ◌+◌, ◌<◌, ◌≤◌, ◌^◌, Option, Some, None, IfSome, List, ◌++◌, length, map, take, drop, slice_get, All}
 use Rattle.l4_history.specs.declared.records.Body.{Body}
 use Rattle.l4_history.specs.declared.records.Head.{Head}
 use Rattle.l4_history.specs.declared.records.WideHead.{WideHead}
 use Rattle.l4_history.specs.declared.records.Kind.{Kind}
-use Rattle.l4_history.specs.declared.records.Kind.TheVariants.{Thread, Send, Tick, Deliver, Wide}
-use Rattle.l4_history.specs.declared.records.OfThread.{OfThread}
-use Rattle.l4_history.specs.declared.records.OfThread.TheVariants as thread
-use Rattle.l4_history.specs.declared.records.OfSend.{OfSend}
-use Rattle.l4_history.specs.declared.records.OfSend.TheVariants as send
+use Rattle.l4_history.specs.declared.records.Kind.TheVariants.{Thread, Send, ReceiveFailed, SendFailed, Tick, Deliver, Wide}
 use Rattle.l4_history.specs.declared.records.Record.{Record}
 use Rattle.l4_history.specs.Inner.Slots.{HasSlot, IsSlot, thread_at}
 use Rattle.l4_types.specs.declared.step_ref.DeliveryRef.{DeliveryRef}
@@ -19,7 +15,7 @@ use Rattle.l4_model.specs.Machine.{most_processors}
 use Rattle.l4_model.specs.World.{Message, Name}
 use Rattle.l4_model.specs.Rules.{received_tag}
 use Rattle.l4_model.specs.Steps as steps
-use Rattle.l4_types.specs.StepView.{delivery_in, seen, step_by}
+use Rattle.l4_types.specs.StepView.{delivery_in, failure_of, send_step_of, step_by, thread_step_of}
 
 -- A history to its callers: its steps, and how many more it takes without memory.
 pub record Told : Type 0 where
@@ -29,25 +25,6 @@ pub record Told : Type 0 where
 -- Steps behind those that were told before.
 abbrev pub HasMore : (old new : List steps.Step) → Type 0
 HasMore old new = (more : List steps.Step) × (new ≡ old ++ more)
-
--- The step of a kind of a thread.
-abbrev pub thread_step : OfThread → GlobalId → steps.Step
-thread_step thread.Local t = steps.Local t
-thread_step thread.Wait t = steps.Wait t
-thread_step thread.ReceiveTimeout t = steps.ReceiveTimeout t
-thread_step thread.ReceiveNobody t = steps.ReceiveNobody t
-thread_step thread.ReceiveCancel t = steps.ReceiveCancel t
-thread_step thread.Obey t = steps.Obey t
-
--- The step of a kind of a send.
-abbrev pub send_step : OfSend → Name → steps.Step
-send_step send.Begin s = steps.Begin s
-send_step send.Queue s = steps.Queue s
-send_step send.Timeout s = steps.SendTimeout s
-send_step send.Nobody s = steps.SendNobody s
-send_step send.Cancel s = steps.SendCancel s
-send_step send.Drop s = steps.Drop s
-send_step send.Retarget s = steps.Retarget s
 
 -- The send of the thread in a slot.
 abbrev pub name_at : List GlobalId → (slot k : ℕ) → Name
@@ -94,9 +71,13 @@ plain_step s = step_by (λ w. steps.Local (global_id 0 1)) s
 abbrev pub step_of_kind : List GlobalId → List Head → List (Step WideHead) → List ℕ →
     (slot number : ℕ) → Kind → steps.Step
 step_of_kind slots heads wide words slot number (Thread kind) =
-    thread_step kind (thread_at slots slot)
+    steps.OfThread (thread_step_of kind) (thread_at slots slot)
 step_of_kind slots heads wide words slot number (Send kind) =
-    send_step kind (name_at slots slot number)
+    steps.OfSend (send_step_of kind) (name_at slots slot number)
+step_of_kind slots heads wide words slot number (ReceiveFailed why) =
+    steps.OfThread (steps.Fails (failure_of why)) (thread_at slots slot)
+step_of_kind slots heads wide words slot number (SendFailed why) =
+    steps.OfSend (steps.Failed (failure_of why)) (name_at slots slot number)
 step_of_kind slots heads wide words slot number Tick = steps.Tick slot number
 step_of_kind slots heads wide words slot number Deliver =
     delivery_at slots words (slice_get heads number)
@@ -174,6 +155,8 @@ pub record IsTick (cpu clock : ℕ) : Type 0 where
 abbrev pub IsOfKind : List GlobalId → (heads wide slot number : ℕ) → Kind → Type 0
 IsOfKind slots heads wide slot number (Thread kind) = IsSlot slots slot
 IsOfKind slots heads wide slot number (Send kind) = IsName slots slot number
+IsOfKind slots heads wide slot number (ReceiveFailed why) = IsSlot slots slot
+IsOfKind slots heads wide slot number (SendFailed why) = IsName slots slot number
 IsOfKind slots heads wide slot number Tick = IsTick slot number
 IsOfKind slots heads wide slot number Deliver = number < heads
 IsOfKind slots heads wide slot number Wide = number < wide

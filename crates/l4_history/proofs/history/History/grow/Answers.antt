@@ -1,4 +1,3 @@
-use Rattle.std.proofs.Common.{◌∙◌}
 use Rattle.l4_history.proofs.Pushed.{slots-told}
 use Rattle.l4_history.proofs.history.History.grow.Goals as goal
 

@@ -3,7 +3,9 @@ use Rattle.std.proofs.lemmas.Grind.{common_steps}
 use Rattle.l4_model.specs.Steps as steps
 use Rattle.l4_model.specs.Words.{GlobalId}
 use Rattle.l4_model.specs.World.{Name}
-use Rattle.l4_history.specs.Inner.Rows.{Told, send_step}
+use Rattle.l4_types.specs.StepView.{send_step_of}
+use Rattle.l4_history.specs.declared.records.Kind.TheVariants.{Send}
+use Rattle.l4_history.specs.Inner.Rows.{Told}
 use Rattle.l4_history.specs.Inner.Slots.{HasSlot}
 use Rattle.l4_history.proofs.Pushed.{send-told, slots-told}
 use Rattle.l4_history.proofs.history.History.push_of_send.Goals as goal
@@ -13,13 +15,13 @@ returns-in-Some c =
     rw (← c.self.view_is)
     (ap {B = Told} (λ (told : List steps.Step). record { steps = told; room = c.self.inside.room - 1 })
     (send-told c.self.inside.threads.slots.items c.slot_of.new.self.slots.items c.slot_of.ensures.kept c.self.inside.records.items _ c.self.inside.heads.items c.self.inside.wide.items c.self.inside.words.items
-    c.args.kind c.args.name c.in-Some.slot _ c.self.invariant.0
+    (Send c.args.kind) (send_step_of c.args.kind) c.args.name c.in-Some.slot _ c.self.invariant.0
     (subst (λ (t : GlobalId). HasSlot c.slot_of.new.self.slots.items t c.in-Some.slot) c.thread-thread.ensures c.in-Some.ensures.some)
-    (grind (arith, common_steps)) c.push_reserved.ensures.items))
+    (grind (arith, common_steps)) refl c.push_reserved.ensures.items))
 
 pub returns-in-None : goal.returns-in-None
 returns-in-None c =
     let same : record { thread = c.thread-thread.result; k = c.k-k.result } ≡ c.args.name = rw (c.thread-thread.ensures, c.k-k.ensures.value) refl in
     rw (← c.self.view_is)
-    (c.push_rare_of_send-in-None.ensures ∙ ap₂ {C = Told} (λ (told : List steps.Step) (name : Name). record { steps = told ++ send_step c.args.kind name ∷ []; room = c.self.inside.room - 1 })
+    (c.push_rare_of_send-in-None.ensures ∙ ap₂ {C = Told} (λ (told : List steps.Step) (name : Name). record { steps = told ++ steps.OfSend (send_step_of c.args.kind) name ∷ []; room = c.self.inside.room - 1 })
     (slots-told c.self.inside.threads.slots.items c.slot_of.new.self.slots.items c.slot_of.ensures.kept c.self.inside.records.items c.self.inside.heads.items c.self.inside.wide.items c.self.inside.words.items c.self.invariant.0) same)

@@ -1,6 +1,8 @@
-use Rattle.std.proofs.Common.{◌∙◌, ◌≡◌, ◌++◌, [], ◌∷◌, ap, ◌-◌, List}
+use Rattle.std.proofs.Common.{◌∙◌, ◌++◌, [], ◌∷◌, ap, refl, ◌-◌, List}
 use Rattle.l4_model.specs.Steps as steps
-use Rattle.l4_history.specs.Inner.Rows.{Told, thread_step}
+use Rattle.l4_types.specs.StepView.{thread_step_of}
+use Rattle.l4_history.specs.declared.records.Kind.TheVariants.{Thread}
+use Rattle.l4_history.specs.Inner.Rows.{Told}
 use Rattle.l4_history.proofs.Pushed.{slots-told, thread-told}
 use Rattle.l4_history.proofs.history.History.push_of_thread.Goals as goal
 
@@ -9,10 +11,10 @@ returns-in-Some c =
     rw (← c.self.view_is)
     (ap {B = Told} (λ (told : List steps.Step). record { steps = told; room = c.self.inside.room - 1 })
     (thread-told c.self.inside.threads.slots.items c.slot_of.new.self.slots.items c.slot_of.ensures.kept c.self.inside.records.items _ c.self.inside.heads.items c.self.inside.wide.items c.self.inside.words.items
-    c.args.kind c.args.thread c.in-Some.slot c.self.invariant.0 c.in-Some.ensures.some c.push_reserved.ensures.items))
+    (Thread c.args.kind) (thread_step_of c.args.kind) c.args.thread c.in-Some.slot c.self.invariant.0 c.in-Some.ensures.some refl c.push_reserved.ensures.items))
 
 pub returns-in-None : goal.returns-in-None
 returns-in-None c =
     rw (← c.self.view_is)
-    (c.push_rare_of_thread.ensures ∙ ap {B = Told} (λ (told : List steps.Step). record { steps = told ++ thread_step c.args.kind c.args.thread ∷ []; room = c.self.inside.room - 1 })
+    (c.push_rare_of_thread.ensures ∙ ap {B = Told} (λ (told : List steps.Step). record { steps = told ++ steps.OfThread (thread_step_of c.args.kind) c.args.thread ∷ []; room = c.self.inside.room - 1 })
     (slots-told c.self.inside.threads.slots.items c.slot_of.new.self.slots.items c.slot_of.ensures.kept c.self.inside.records.items c.self.inside.heads.items c.self.inside.wide.items c.self.inside.words.items c.self.invariant.0))

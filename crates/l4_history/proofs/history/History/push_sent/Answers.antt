@@ -1,8 +1,7 @@
-use Rattle.std.proofs.Common.{◌∙◌, ◌≡◌, arith, ap, refl, ◌++◌, [], ◌∷◌, length, ◌-◌, List}
+use Rattle.std.proofs.Common.{◌≡◌, arith, ap, refl, ◌++◌, length, ◌-◌, List}
 use Rattle.std.proofs.lemmas.Grind.{common_steps}
 use Rattle.l4_model.specs.Steps as steps
 use Rattle.l4_history.specs.Inner.Rows.{Told}
-use Rattle.l4_history.specs.Inner.Sent.{sent}
 use Rattle.l4_history.proofs.Pushed.{each-told, sent-rows, sent-told, slots-told}
 use Rattle.l4_history.proofs.history.History.push_sent.Goals as goal
 

@@ -6,12 +6,12 @@ use Rattle.std.specs.Prelude.{flat_map, option_map, option_to_list, slice_get}
 use Rattle.l4_model.specs.Words.{GlobalId, same_id}
 use Rattle.l4_model.specs.Machine.{Machine}
 use Rattle.l4_model.specs.World.{Name, Message, PendingOrder, Owed, World}
-use Rattle.l4_model.specs.Rules.{received_tag, is_cross}
+use Rattle.l4_model.specs.Rules.{Failure, TimeOver, NobodyThere, CancelAsked, received_tag}
+use Rattle.l4_model.specs.Rules.{is_cross}
 use Rattle.l4_model.specs.Conditions.{◌>>=◌, ◌>>◌, Found, found, undecided, receiver_of, act_of}
-use Rattle.l4_model.specs.Steps.{Step, Local, Begin, Queue, Deliver, Wait, SendTimeout}
-use Rattle.l4_model.specs.Steps.{ReceiveTimeout, SendNobody, ReceiveNobody, SendCancel}
-use Rattle.l4_model.specs.Steps.{ReceiveCancel, Drop, Order, Obey, Retarget, order_of, next}
-use Rattle.l4_model.specs.Steps.{OfSend, Retargeted}
+use Rattle.l4_model.specs.Steps.{Step, Local, Begin, Queue, Deliver, Wait, Drop, Order, Obey}
+use Rattle.l4_model.specs.Steps.{Retarget, OfThread, Fails, OfSend, Failed, Retargeted, order_of}
+use Rattle.l4_model.specs.Steps.{next}
 use Rattle.l4_model.specs.History.{reached}
 use Rattle.l4_model.specs.Still.{is_tick}
 use Rattle.l4_core_model.specs.Runs.{IsMachine}
@@ -55,6 +55,10 @@ coming_name t = name_of t.declared.id (t.now.context.begun + 1)
 abbrev pub last_name : Found → Option Name
 last_name t = name_of t.declared.id t.now.context.begun
 
+-- The failures for one reason: of the last send of a thread, and of its receive phase.
+abbrev pub failures : Failure → GlobalId → (last : Option Name) → List (Option Step)
+failures why id last = option_map (OfSend (Failed why)) last ∷ Some (OfThread (Fails why) id) ∷ []
+
 -- The steps that a thread may be in for, retargets aside, in the order of the table of steps.
 abbrev pub in_order :
     Machine → World → Found → GlobalId → (coming last : Option Name) → List (Option Step)
@@ -64,16 +68,8 @@ in_order m w t id coming last =
     ∷ option_map Queue last
     ∷ delivery m w last
     ∷ Some (Wait id)
-    ∷ option_map SendTimeout last
-    ∷ Some (ReceiveTimeout id)
-    ∷ option_map SendNobody last
-    ∷ Some (ReceiveNobody id)
-    ∷ option_map SendCancel last
-    ∷ Some (ReceiveCancel id)
-    ∷ option_map Drop last
-    ∷ order id (order_of (act_of m t))
-    ∷ Some (Obey id)
-    ∷ []
+    ∷ (failures TimeOver id last ++ failures NobodyThere id last ++ failures CancelAsked id last ++
+    option_map Drop last ∷ order id (order_of (act_of m t)) ∷ Some (Obey id) ∷ [])
 
 abbrev pub candidates : Machine → World → Found → List (Option Step)
 candidates m w t =

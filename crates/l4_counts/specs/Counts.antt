@@ -1,7 +1,7 @@
 -- Counts of what each thread does in a history.
 use Rattle.std.specs.Prelude.{ℕ, ◌+◌, Bool, true, false, List, [], ◌∷◌}
 use Rattle.l4_model.specs.Words.{GlobalId, same_id}
-use Rattle.l4_model.specs.Rules.{bit}
+use Rattle.l4_model.specs.Rules.{Failure, TimeOver, NobodyThere, CancelAsked, bit}
 use Rattle.l4_model.specs.Steps.{Step, Local, Begin, Deliver, Wait, SendTimeout, ReceiveTimeout}
 use Rattle.l4_model.specs.Steps.{SendNobody, ReceiveNobody, SendCancel, ReceiveCancel, Order}
 use Rattle.l4_counts.specs.declared.counts.Counts.{Counts}
@@ -75,6 +75,21 @@ counts_of id steps =
       sends_cancelled = how_many (is_send_cancel id) steps;
       receives_cancelled = how_many (is_receive_cancel id) steps;
     }
+
+-- The counts after one more failure: of a receive phase, and of a send.
+
+abbrev pub with_failed_receive : Failure → Bool → Counts → Counts
+with_failed_receive TimeOver own c =
+    record c { receive_timeouts = c.receive_timeouts + bit own }
+with_failed_receive NobodyThere own c =
+    record c { receives_from_nobody = c.receives_from_nobody + bit own }
+with_failed_receive CancelAsked own c =
+    record c { receives_cancelled = c.receives_cancelled + bit own }
+
+abbrev pub with_failed_send : Failure → Bool → Counts → Counts
+with_failed_send TimeOver own c = record c { send_timeouts = c.send_timeouts + bit own }
+with_failed_send NobodyThere own c = record c { sends_to_nobody = c.sends_to_nobody + bit own }
+with_failed_send CancelAsked own c = record c { sends_cancelled = c.sends_cancelled + bit own }
 
 -- The counts after one more step.
 abbrev pub with_step : GlobalId → Step → Counts → Counts

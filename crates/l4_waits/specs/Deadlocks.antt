@@ -4,9 +4,8 @@ use Rattle.std.specs.List.{list_all, AllByRecursion}
 use Rattle.l4_model.specs.Words.{GlobalId, same_id}
 use Rattle.l4_model.specs.Machine.{Machine}
 use Rattle.l4_model.specs.World.{World}
-use Rattle.l4_model.specs.Steps.{Step, Local, Begin, Queue, Deliver, Wait, SendTimeout}
-use Rattle.l4_model.specs.Steps.{ReceiveTimeout, SendNobody, ReceiveNobody, SendCancel}
-use Rattle.l4_model.specs.Steps.{ReceiveCancel, Drop, Order, Obey, Tick, Retarget, next}
+use Rattle.l4_model.specs.Steps.{Step, OfThread, Obeys, OfSend, Retargeted, Deliver, Order, Tick}
+use Rattle.l4_model.specs.Steps.{next}
 use Rattle.l4_model.specs.History.{run}
 use Rattle.l4_model.specs.Still.{is_tick}
 use Rattle.l4_audit.specs.Possible.{has_number}
@@ -14,22 +13,13 @@ use Rattle.l4_audit.specs.Possible.{has_number}
 -- A step by which this thread goes on. An undone order and an owed retarget may concern any thread,
 -- so their steps count for each.
 abbrev pub is_of : GlobalId → Step → Bool
-is_of id (Local t) = same_id t id
-is_of id (Begin s) = same_id s.thread id
-is_of id (Queue s) = same_id s.thread id
+is_of id (OfThread Obeys caller) = true
+is_of id (OfThread step t) = same_id t id
+is_of id (OfSend Retargeted s) = true
+is_of id (OfSend step s) = same_id s.thread id
 is_of id (Deliver s receiver shown actual tag words) = same_id s.thread id || same_id receiver id
-is_of id (Wait t) = same_id t id
-is_of id (SendTimeout s) = same_id s.thread id
-is_of id (ReceiveTimeout t) = same_id t id
-is_of id (SendNobody s) = same_id s.thread id
-is_of id (ReceiveNobody t) = same_id t id
-is_of id (SendCancel s) = same_id s.thread id
-is_of id (ReceiveCancel t) = same_id t id
-is_of id (Drop s) = same_id s.thread id
 is_of id (Order caller target what) = same_id caller id
-is_of id (Obey caller) = true
 is_of id (Tick cpu clock) = false
-is_of id (Retarget s) = true
 
 -- By no step of a trace can the thread go on, now or after any ticks.
 abbrev pub IsStuck : Machine → World → GlobalId → Type 0

@@ -76,7 +76,7 @@ impl World<'_> {
     ) -> Result<(), NoMemory>
         ensures { OnOk result (Appends steps.old.items steps.new.items
             (filter_map (where_possible self.now.machine self.now.world)
-            (failures (failure_of failure) thread.now))) }
+            (failures (failure_of failure) thread.now.declared.id (last_name thread.now)))) }
     {
         self.push(send_fails(failure, thread), steps)?;
         self.push(Some(Step::ReceiveFailed(failure, thread.id())), steps)

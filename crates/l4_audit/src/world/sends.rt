@@ -1,9 +1,13 @@
 //! The steps that queue or decide a send.
-ghost use Rattle.std.specs.Prelude.{◌≡◌, ◌<◌, Some, IfOk, length};
+ghost use Rattle.std.specs.Prelude.{◌≡◌, ◌<◌, ℕ, Some, IfOk, length};
 ghost use Rattle.std.specs.Result.{result_err};
-ghost use Rattle.l4_model.specs.World.{change, unqueued};
+ghost use Rattle.l4_model.specs.World.{Thread, change, unqueued};
+ghost use Rattle.l4_model.specs.Rules.{send_code};
+ghost use Rattle.l4_model.specs.Effects.{refused};
 ghost use Rattle.l4_model.specs.Conditions.{undecided, receiver_of};
 ghost use Rattle.l4_model.specs.Steps.{Queue, SendTimeout, SendNobody, SendCancel, Drop as Drops};
+ghost use Rattle.l4_model.specs.Steps.{Failed, OfSend};
+ghost use Rattle.l4_types.specs.StepView.{failure_of};
 ghost use Rattle.l4_core_model.specs.Local.{after_decision};
 ghost use Rattle.l4_types.specs.Inner.LetterView.{decision_of};
 ghost use Rattle.l4_types.specs.declared.letters.Decision.TheVariants.{Refused};
@@ -19,7 +23,8 @@ use l4_types::steps::{Failure, Name};
 
 // What a send that fails is refused for.
 fn refusal_by(failure: Failure) -> Refusal
-    ensures { refusal_of_send result ≡ refusal_for (failure_of failure) }
+    ensures { (now : ℕ) (t : Thread) → after_decision (decision_of (Refused result)) now t ≡
+        refused (send_code (failure_of failure)) t }
 {
     match failure {
         Failure::Timeout => Refusal::TimedOut,

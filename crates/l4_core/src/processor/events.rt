@@ -91,12 +91,7 @@ impl Core<'_> {
     // Fails the receive phase of a thread; the step says so. Inlined, so that no step is built in
     // memory.
     #[inline(always)]
-    fn fail_receive<S: Sink>(
-        &mut self,
-        place: usize,
-        failure: Failure,
-        buffer: &mut EventBuffer<S>,
-    )
+    fn fail_receive<S: Sink>(&mut self, place: usize, failure: Failure, buffer: &mut EventBuffer<S>)
         requires receiver { IsReceiver self.old place }
         requires room { 0 < buffer.old.room }
         ensures { Does (fails_for self.old.machine (failure_of failure) place)

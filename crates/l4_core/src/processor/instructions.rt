@@ -135,7 +135,10 @@ impl Core<'_> {
         self.known.facts();
         match self.begin(place, instr) {
             Began::Nothing => self.run(place, instr, buffer),
-            Began::Receive => buffer.emit(StepRef::OfThread(ThreadStep::Wait, self.known.id(place))),
+            Began::Receive => buffer.emit(StepRef::OfThread(
+                ThreadStep::Wait,
+                self.known.id(place),
+            )),
             Began::Send => {
                 buffer.emit(StepRef::OfSend(SendStep::Begin, self.known.last_name(place)));
                 self.send(place, partner, buffer);

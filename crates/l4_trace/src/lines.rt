@@ -99,7 +99,7 @@ pub(crate) fn write_line<S: Speller>(
 
 // Inlined, since each caller knows the step: a keyword of known length is copied in one go.
 #[inline(always)]
-fn write_thread_line<S: Speller>(
+pub(crate) fn write_thread_line<S: Speller>(
     keyword: &[u8],
     thread: GlobalId,
     speller: &mut S,
@@ -122,7 +122,7 @@ fn write_thread_line<S: Speller>(
 
 // Writes the line of a keyword and the name of a send.
 #[inline(always)]
-fn write_name_line<S: Speller>(
+pub(crate) fn write_name_line<S: Speller>(
     keyword: &[u8],
     name: Name,
     speller: &mut S,
@@ -145,7 +145,7 @@ fn write_name_line<S: Speller>(
 
 // Writes the line of a delivery. Inlined, since a step that is passed on lies in memory as a whole.
 #[inline(always)]
-fn write_delivery<S: Speller>(
+pub(crate) fn write_delivery<S: Speller>(
     delivery: &DeliveryRef<'_>,
     speller: &mut S,
     line: &mut [u8],

@@ -1,11 +1,13 @@
 //! The trace of a history.
-ghost use Rattle.std.specs.Prelude.{◌≡◌, ◌≤◌, ◌++◌, [], IfOk, OnOk, drop, length, map, true};
+ghost use Rattle.std.specs.Prelude.{◌≡◌, ◌+◌, ◌≤◌, ◌++◌, [], IfOk, OnOk, drop, length, map, true};
 ghost use Rattle.std.specs.List.{list_all};
-ghost use Rattle.l4_types.specs.StepView.{step_of};
-ghost use Rattle.l4_trace.specs.Lines.{has_line, trace_of};
+ghost use Rattle.l4_types.specs.StepView.{seen, step_of};
+ghost use Rattle.l4_trace.specs.Lines.{has_line, line_of, trace_of};
 ghost use Rattle.l4_trace.specs.Inner.Texts.{HasBefore};
 
-use crate::lines::{LONGEST_LINE, append_line, write_line};
+use crate::lines::{
+    LONGEST_LINE, append_line, write_delivery, write_line, write_name_line, write_thread_line,
+};
 use crate::texts::Texts;
 use l4_history::steps::Steps;
 use l4_history::visitor::Visitor;
@@ -54,8 +56,43 @@ impl Visitor for Block {
 
     #[inline(always)]
     fn visit(&mut self, step: StepRef<'_>) {
-        self.start = write_line(&step, &mut self.texts, &mut self.bytes, self.start);
+        let end = self.start;
+        self.start = match &step {
+            Step::Begin(name) => {
+                write_name_line(b"begin", *name, &mut self.texts, &mut self.bytes, end)
+            }
+            Step::Queue(name) => {
+                write_name_line(b"queue", *name, &mut self.texts, &mut self.bytes, end)
+            }
+            Step::Local(thread) => {
+                write_thread_line(b"local", *thread, &mut self.texts, &mut self.bytes, end)
+            }
+            Step::Wait(thread) => {
+                write_thread_line(b"wait", *thread, &mut self.texts, &mut self.bytes, end)
+            }
+            Step::ReceiveTimeout(thread) => {
+                write_thread_line(b"rtimeout", *thread, &mut self.texts, &mut self.bytes, end)
+            }
+            Step::Deliver(delivery) => {
+                write_delivery(delivery, &mut self.texts, &mut self.bytes, end)
+            }
+            other => write_rare(other, &mut self.texts, &mut self.bytes, end),
+        };
     }
+}
+
+// The line of a step that is seldom told. It is a call: what is large in each place where a step is
+// seen is not compiled in one piece there.
+#[inline(never)]
+fn write_rare(step: &StepRef<'_>, texts: &mut Texts, line: &mut [u8], end: usize) -> usize
+    requires room { LONGEST_LINE ≤ end }
+    requires within { end ≤ length line.old }
+    ensures room { end ≤ result + LONGEST_LINE }
+    ensures within { result ≤ end }
+    ensures written { drop result line.new ≡ line_of (seen step.now) ++ drop end line.old }
+    ensures spelled { has_line (seen step.now) ≡ true }
+{
+    write_line(step, texts, line, end)
 }
 
 impl Block {

@@ -9,6 +9,7 @@ pub use Rattle.l4_script.specs.Texts
 pub use Rattle.l4_script.specs.Versions
 pub use Rattle.l4_replay.specs.Entries
 pub use Rattle.l4_machine.specs.Outcomes
+pub use Rattle.l4_told.specs.Told
 pub use Rattle.l4_rounds.specs.ThenRest
 pub use Rattle.l4_audit.specs.Audits
 pub use Rattle.l4_trace.specs.Lines

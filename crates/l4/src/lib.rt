@@ -5,8 +5,9 @@
 //! its processors work on host threads, `replay` in the order of a schedule. Both return an
 //! `Outcome`: the history, the undecided sends, the report of each thread, and whether anything was
 //! left to do. `replay_compact` takes entries that name each choice, and `replay_then_rest` goes on
-//! in rounds behind them. `trace` and `read_events` write a history and read it, `check` judges
-//! whether steps are a history at all.
+//! in rounds behind them. `run_told` and `replay_told` tell the history to a `Listener`, and keep
+//! none on one processor: long runs take little memory. `trace` and `read_events` write a history
+//! and read it, `check` judges whether steps are a history at all.
 //!
 //! Contracts see the definitions of the model (docs/MODEL.md). The history of an outcome is one of
 //! the machine, and the laws of all histories hold for it. `check` is Ok for histories alone. The
@@ -37,6 +38,7 @@ pub use l4_types::times::Period;
 pub use l4_machine::{CompactOutcome, Outcome, RunHistory, replay, replay_compact, run};
 pub use l4_proc::gate::{Gate, Open};
 pub use l4_replay::{Entry, Listener, MOST_ENTRIES, MOST_EVENTS, MOST_TURNS, RunFault};
+pub use l4_told::{FinalState, replay_told, run_told};
 pub use l4_types::reports::{Ending, State, ThreadView};
 pub use rests::replay_then_rest;
 

@@ -65,7 +65,7 @@ pub(crate) fn asked_entries<'a, L: Source>(
 }
 
 // These entries, and those of the rest where the replay goes on in rounds.
-fn with_asked_rest(
+pub(crate) fn with_asked_rest(
     alloc: Global,
     machine: &Machine,
     entries: Vec<Entry>,

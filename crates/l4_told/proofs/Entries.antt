@@ -1,0 +1,72 @@
+-- A replay of a processor that is alone, entry by entry.
+use Rattle.std.proofs.Common.{◌≡◌, ℕ, ◌+◌, ◌≤◌, Option, Some, None, List, [], ◌∷◌, ◌++◌, drop, length, refl}
+use Rattle.std.proofs.Common.{ap, sym, ◌∙◌, arith, length-append}
+use Rattle.std.specs.Prelude.{slice_get}
+use Rattle.std.proofs.Math.Seq.{drop-length}
+use Rattle.l4_model.specs.Conditions.{◌>>=◌}
+use Rattle.l4_model.specs.Machine.{Machine}
+use Rattle.l4_model.specs.Steps.{Step}
+use Rattle.l4_core_model.specs.Runs.{Action, Happened, Run, happens, opening_run}
+use Rattle.l4_core_model.specs.Schedules.{Entry, attempts, entry_event, or_stays, replay_entries, replays}
+use Rattle.l4_replay.specs.Entries.{after_entry}
+use Rattle.l4_replay.proofs.Replays.{rest_is}
+use Rattle.l4_told.specs.Inner.Alone.{HasCome, HasToldAnd}
+use Rattle.l4_told.specs.declared.alone.Alone.{Alone}
+
+-- What is tried adds one event at most.
+one_more : (m : Machine) (r : Run) (e : Action) → length (attempts m r e).events ≤ length r.events + 1
+one_more m r e = by (happens m r.system e)
+  where
+    by : (o : Option Happened) → length (or_stays r o).events ≤ length r.events + 1
+    by None = omega arith
+    by (Some h) = let longer = length-append r.events (h.event ∷ []) in omega arith
+
+entry_count : (m : Machine) (r : Run) (o : Option Action) →
+    length (or_stays r (o >>= happens m r.system)).events ≤ length r.events + 1
+entry_count m r None = omega arith
+entry_count m r (Some e) = one_more m r e
+
+pub record IsReplaying (m : Machine) (schedule : List Entry) (place : ℕ) (hears : List Step →
+    Type 0) (a : Alone) : Type 0 where
+  pub run : Run
+  pub before : List Step
+  pub come : HasCome m run before a
+  pub goes_on : replay_entries m schedule ≡ replays m run (drop place schedule)
+  pub count : length run.events ≤ place
+  pub heard : hears before
+
+pub replaying_start : (m : Machine) (schedule : List Entry) (hears : List Step → Type 0) (a : Alone) →
+    HasCome m (opening_run m) [] a → hears [] → IsReplaying m schedule 0 hears a
+replaying_start m schedule hears a come none = record {
+  run = opening_run m;
+  before = [];
+  come = come;
+  goes_on = refl;
+  count = omega arith;
+  heard = none;
+}
+
+pub replaying_next : (m : Machine) (schedule : List Entry) (place : ℕ) (entry : Entry)
+    (first second both : List Step → Type 0) (old new : Alone) →
+    slice_get schedule place ≡ Some entry → IsReplaying m schedule place first old →
+    HasToldAnd (after_entry entry) second old new →
+    ((xs ys : List Step) → first xs → second ys → both (xs ++ ys)) → IsReplaying m schedule (place + 1) both new
+replaying_next m schedule place entry first second both old new at is told joined =
+    let t = told m is.run is.before is.come in
+    let before = is.count in
+    let more = entry_count m is.run (entry_event m is.run.system entry) in
+    record {
+      run = after_entry entry m is.run;
+      before = is.before ++ t.0;
+      come = t.1;
+      goes_on = is.goes_on ∙ ap (replays m is.run) (rest_is schedule place entry at);
+      count = omega (arith, before, more);
+      heard = joined is.before t.0 is.heard t.2;
+    }
+
+-- Behind the last entry the run is that of the replay.
+pub replaying_end : (m : Machine) (schedule : List Entry) (place : ℕ) (hears : List Step →
+    Type 0) (a : Alone) (is : IsReplaying m schedule place hears a) →
+    place ≡ length schedule → is.run ≡ replay_entries m schedule
+replaying_end m schedule place hears a is all =
+    sym (is.goes_on ∙ ap (λ n. replays m is.run (drop n schedule)) all ∙ ap (replays m is.run) (drop-length schedule))

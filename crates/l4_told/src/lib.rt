@@ -1,0 +1,21 @@
+//! Runs and replays whose history is told and not kept: a listener hears its steps on the way, and
+//! what is returned is where the run ended.
+//!
+//! Contracts say that some history was told, and that with it the findings are those of a run or
+//! replay of `l4_machine`, with all laws. A machine of one processor keeps at most so many steps as
+//! fill some two MiB, and no log: what a run of it takes in memory does not grow with its turns. Of
+//! several processors the logs are kept, as their events are merged or told in their order.
+//!
+//! ```rust
+//! let mut history = History::new(alloc);
+//! let state = run_told(&rt, alloc, &machine, 1_000, &mut history)?;
+//! assert!(rt; state.turns <= 1_000 + 15);
+//! ```
+#![tactic(auto)]
+
+mod alone;
+mod final_state;
+mod told;
+
+pub use final_state::{FinalState, parts_of};
+pub use told::{replay_told, run_told};

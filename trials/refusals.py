@@ -9,8 +9,8 @@ import sys
 OTHERS = {"calloc", "reallocarray", "aligned_alloc", "memalign", "posix_memalign", "valloc", "mmap", "mmap64", "sbrk", "brk"}
 # The calls at which memory is to be refused, as the tests name them.
 CALLS = {
-    "Core::new", "Walk", "assemble", "check", "endings", "fabric", "gather", "parse", "possible", "read_events", "replay", "reserve",
-    "rest", "rest (ports)", "run", "tick", "work", "write_event",
+    "Core::new", "Walk", "assemble", "check", "endings", "fabric", "gather", "parse", "possible", "read_events", "replay", "replay_told", "reserve",
+    "rest", "rest (ports)", "run", "run_told", "tick", "work", "write_event",
 }
 # The modules whose tests say where calls begin and end.
 MODULES = ("refused", "gathers")

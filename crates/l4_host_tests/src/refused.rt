@@ -23,6 +23,7 @@ use l4_proc::stops::{ProcFault, Stop};
 use l4_replay::{Entry, RunFault, Walk};
 use l4_samples::{ACROSS, ACROSS_TRACE, PING, call_begins, call_ends};
 use l4_script::machine::Machine;
+use l4_told::{FinalState, replay_told, run_told};
 use l4_types::errors::NoMemory;
 use l4_types::step_ref::StepRef;
 use l4_types::steps::Step;
@@ -198,6 +199,72 @@ fn a_machine_runs(rt: HostRuntime) {
     assert!(rt; is_right(rt.alloc(), &machine, 1_000, &outcome));
     assert!(rt; outcome.turns == 8 || outcome.turns == 9);
     assert!(rt; outcome.waiting.is_empty());
+}
+
+// A run of a machine whose history is told.
+#[derive(Drop)]
+struct ToldRun {
+    history: Vec<Step>,
+    state: FinalState,
+}
+
+fn run_told_once<R: AllocGlobal + Threads + Sync>(
+    rt: &R,
+    machine: &Machine,
+) -> Result<ToldRun, RunFault> {
+    let mut history = Vec::new(rt.alloc());
+    let state = run_told(rt, rt.alloc(), machine, 1_000, &mut history)?;
+    Ok(ToldRun { history, state })
+}
+
+// A told run, by a second call if memory was refused.
+fn told_run<R: AllocGlobal + Threads + Sync + Print>(
+    rt: &R,
+    machine: &Machine,
+) -> Result<ToldRun, RunFault> {
+    call_begins(rt, "run_told");
+    let told = run_told_once(rt, machine);
+    call_ends(rt);
+    match told {
+        Err(RunFault::NoMemory) => run_told_once(rt, machine),
+        told => told,
+    }
+}
+
+fn replay_told_once(alloc: Global, machine: &Machine) -> Result<ToldRun, RunFault> {
+    let mut history = Vec::new(alloc);
+    let state = replay_told(alloc, machine, &[Entry::Turn(0); 20], &mut history)?;
+    Ok(ToldRun { history, state })
+}
+
+// A told replay, by a second call if memory was refused.
+fn told_replay<R: AllocGlobal + Print>(rt: &R, machine: &Machine) -> Result<ToldRun, RunFault> {
+    call_begins(rt, "replay_told");
+    let told = replay_told_once(rt.alloc(), machine);
+    call_ends(rt);
+    match told {
+        Err(RunFault::NoMemory) => replay_told_once(rt.alloc(), machine),
+        told => told,
+    }
+}
+
+// Whether a told run came to what an outcome has.
+fn came_to(told: &ToldRun, outcome: &Outcome) -> bool {
+    told.history.as_slice() == outcome.history.as_slice()
+        && told.state.threads.as_slice() == outcome.threads.as_slice()
+        && told.state.waiting.is_empty()
+        && told.state.ending == outcome.ending
+        && told.state.turns == outcome.turns
+}
+
+#[test]
+fn a_history_is_told(rt: HostRuntime) {
+    let machine = machine_of(rt.alloc(), PING).expect(&rt, "a machine");
+    let outcome = run_once(&rt, &machine).ok().expect(&rt, "an outcome");
+    let told = told_run(&rt, &machine).ok().expect(&rt, "a told run");
+    assert!(rt; came_to(&told, &outcome));
+    let told = told_replay(&rt, &machine).ok().expect(&rt, "a replay");
+    assert!(rt; came_to(&told, &outcome));
 }
 
 fn replay_once(alloc: Global, machine: &Machine) -> Result<Outcome, RunFault> {

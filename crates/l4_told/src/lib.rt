@@ -2,9 +2,10 @@
 //! what is returned is where the run ended.
 //!
 //! Contracts say that some history was told, and that with it the findings are those of a run or
-//! replay of `l4_machine`, with all laws. A machine of one processor keeps at most so many steps as
-//! fill some two MiB, and no log: what a run of it takes in memory does not grow with its turns. Of
-//! several processors the logs are kept, as their events are merged or told in their order.
+//! replay of `l4_machine`, with all laws. A machine of one processor keeps no log and at most some
+//! 131,000 steps, with the words of their messages; once it has so many, what a run of it takes in
+//! memory grows no further. Of several processors the logs are kept, as their events are merged or
+//! told in their order.
 //!
 //! ```rust
 //! let mut history = History::new(alloc);

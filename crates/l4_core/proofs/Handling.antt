@@ -1,5 +1,5 @@
 -- A letter does what was found that it asks for.
-use Rattle.std.proofs.Common.{◌≡◌, ℕ, Bool, true, false, cond, is_some, is_none, Option, Some, None, ◌||◌, List, [], ◌∷◌, zero, suc, refl, ap, sym, ◌∙◌, subst, arith}
+use Rattle.std.proofs.Common.{◌≡◌, ℕ, Bool, true, false, cond, is_some, is_none, Option, Some, None, ◌||◌, ◌↔◌, List, [], ◌∷◌, zero, suc, refl, ap, sym, ◌∙◌, subst, arith}
 use Rattle.std.specs.Prelude.{◌==◌, slice_index_or}
 use Rattle.std.specs.Option.{option_map}
 use Rattle.l4_model.specs.Words.{GlobalId, same_id}
@@ -19,16 +19,14 @@ use Rattle.l4_types.specs.declared.letters.Content.TheVariants.{Send, Done, With
 use Rattle.l4_types.specs.declared.letters.LetterHead.{LetterHead}
 use Rattle.l4_types.specs.Inner.LetterHeads.{content_with, letter_with, message_with}
 use Rattle.l4_types.specs.Inner.LetterView.{cause_of_withdrawal, refusal_of_send}
-use Rattle.l4_core_model.specs.Letters.{refusal_of}
+use Rattle.l4_core_model.specs.Letters.{Letter, refusal_of}
 use Rattle.l4_core.specs.declared.known.tasks.Task.{Task}
 use Rattle.l4_core.specs.declared.known.tasks.Task.TheVariants.{Arrive, End, NoteGone, Obey, FinishOrder}
 use Rattle.l4_core.specs.declared.known.tasks.Task.TheVariants as tasks
 use Rattle.l4_core.specs.Processor.{Processor, with_local}
-use Rattle.l4_core.specs.Inner.Tasks.{does_task, refusal_for, refused_if, task_of, IsArrival, IsCaller, IsSplit}
-use Rattle.l4_core.specs.EventBuffers.{EventBuffer, IsOpen}
-use Rattle.l4_core.specs.Inner.Turning.{Does, IsEvent, IsFree, IsNewSender, work}
+use Rattle.l4_core.specs.Inner.Tasks.{does_asked, does_task, refusal_for, refused_if, task_of, IsArrival, IsCaller, IsSplit}
+use Rattle.l4_core.specs.Inner.Turning.{IsFree, IsNewSender}
 use Rattle.l4_core_model.proofs.Changed.{get-changed}
-use Rattle.l4_core.proofs.Turning.{opened_work}
 use Rattle.l4_thread.specs.declared.changes.Change.TheVariants as change
 use Rattle.tcb_arena.specs.Inner.Blocks.{is_ready as is_ready_in}
 use Rattle.l4_core.specs.Inner.Changing.{forgets_order, IsFitting}
@@ -128,24 +126,25 @@ task_stamped m cpu l stamp words (Order caller target what) = refl
 task_stamped m cpu l stamp words (OrderDone caller) = refl
 task_stamped m cpu l stamp words (Retarget o) = refl
 
-handle_is : (m : Machine) (cpu : ℕ) (l : Local) (words : List ℕ) (head : LetterHead) → handle m cpu l (letter_with words head) ≡ option_map (λ t. does_task m cpu t (opened head.stamp l)) (task_of m cpu l words head.content)
+handle_is : (m : Machine) (cpu : ℕ) (l : Local) (words : List ℕ) (head : LetterHead) → handle m cpu l (letter_with words head) ≡ does_asked m cpu l head.stamp (task_of m cpu l words head.content)
 handle_is m cpu l words head =
     handled_is m cpu words head.content (opened head.stamp l) ∙ ap (option_map (λ t. does_task m cpu t (opened head.stamp l))) (task_stamped m cpu l (next_stamp head.stamp l) words head.content)
 
-pub lawful : (p : Processor) (words : List ℕ) (head : LetterHead) (task : Task) → Some task ≡ task_of p.machine p.cpu p.local words head.content →
-    handle p.machine p.cpu p.local (letter_with words head) ≡ Some (does_task p.machine p.cpu task (opened head.stamp p.local))
-lawful p words head task e = handle_is p.machine p.cpu p.local words head ∙ ap (option_map (λ t. does_task p.machine p.cpu t (opened head.stamp p.local))) (sym e)
+-- What a processor does with a letter is what was found that it asks for.
+pub asked : (p : Processor) (letter : Letter) (words : List ℕ) (head : LetterHead) (content : Content) (task : Option Task) → letter_with words head ≡ letter → head.content ≡ content →
+    task ≡ task_of p.machine p.cpu p.local words content → handle p.machine p.cpu p.local letter ≡ does_asked p.machine p.cpu p.local head.stamp task
+asked p letter words head content task whole is found =
+    ap (λ (l : Letter). handle p.machine p.cpu p.local l) (sym whole) ∙ handle_is p.machine p.cpu p.local words head
+    ∙ ap (does_asked p.machine p.cpu p.local head.stamp) (ap (task_of p.machine p.cpu p.local words) is ∙ sym found)
 
-pub handled_event : (p q r : Processor) (words : List ℕ) (head : LetterHead) (task : Task) (before after : EventBuffer) (stamp : ℕ) → Some task ≡ task_of p.machine p.cpu p.local words head.content →
-    q ≡ with_local p (record p.local { stamp = next_stamp head.stamp p.local }) → stamp ≡ next_stamp head.stamp p.local → IsOpen before → Does (does_task q.machine q.cpu task) q r before after →
-    IsEvent (handle p.machine p.cpu p.local (letter_with words head)) p r before after stamp
-handled_event p q r words head task before after stamp e is stamped untold d = record {
-  machine = d.machine ∙ ap (λ (x : Processor). x.machine) is;
-  cpu = d.cpu ∙ ap (λ (x : Processor). x.cpu) is;
-  kept = d.kept;
-  is = lawful p words head task e ∙ ap Some (sym (d.work ∙ ap (λ (x : Processor). does_task x.machine x.cpu task (work x.local before)) is ∙ ap (does_task p.machine p.cpu task) (opened_work _ before untold)));
-  stamped = stamped ∙ sym (d.stamp ∙ ap (λ (x : Processor). x.local.stamp) is);
-}
+-- It asks for nothing where it is not lawful, and else for something.
+pub asked_nothing : (E : Type 0) (event : Option Work) (f : Task → Work) (o : Option Task) → event ≡ option_map f o → E ↔ (o ≡ None) → E ↔ (event ≡ None)
+asked_nothing E event f None is e = ((λ x. is), (λ none. e.1 refl))
+asked_nothing E event f (Some task) is e = ((λ x. let none = e.0 x in cc), (λ none. cc))
+
+pub asked_something : (E F : Type 0) (event : Option Work) (f : Task → Work) (o : Option Task) → event ≡ option_map f o → E ↔ ((is_some o ≡ true) × F) → E ↔ ((is_some event ≡ true) × F)
+asked_something E F event f None is e = ((λ x. let some = (e.0 x).0 in cc), (λ both. let none = ap is_some is in let some = both.0 in cc))
+asked_something E F event f (Some task) is e = ((λ x. (ap is_some is, (e.0 x).1)), (λ both. e.1 (refl, both.1)))
 
 -- A send of another processor's thread, which stands in its block now, is in no list yet.
 pub taken_in : (p q : Processor) (r i k : ℕ) (to : GlobalId) (message : Message) (zero_timeout : Bool) → AreCore p → IsArrival p r i message → q ≡ with_local p (changes i (stands_in k (stand_in to message zero_timeout)) p.local) → IsNewSender q i

@@ -1,21 +1,16 @@
 -- What a turn opens with.
-use Rattle.std.proofs.Common.{◌≡◌, ℕ, false, Some, [], refl, ap, sym, ◌∙◌, subst}
+use Rattle.std.proofs.Common.{◌≡◌, ℕ, false, Some, ap, sym, ◌∙◌, subst}
 use Rattle.std.specs.Prelude.{slice_get}
 use Rattle.l4_core_model.specs.Plain as plain
-use Rattle.l4_core_model.specs.Local.{Local, relists}
+use Rattle.l4_core_model.specs.Local.{relists}
 use Rattle.tcb_arena.specs.Inner.Blocks.{is_ready as is_ready_in}
 use Rattle.l4_core.specs.declared.processor.Choice.{Choice}
 use Rattle.l4_core.specs.declared.processor.Choice.TheVariants.{ByDuty, ByDue, ByReady}
 use Rattle.l4_core.specs.Inner.Choosing.{IsPossible}
 use Rattle.l4_core.specs.Inner.Parts.{AreCore}
 use Rattle.l4_core.specs.Processor.{Processor, with_local}
-use Rattle.l4_core.specs.EventBuffers.{EventBuffer, IsOpen}
-use Rattle.l4_core.specs.Inner.Turning.{work, IsAtHand}
+use Rattle.l4_core.specs.Inner.Turning.{IsAtHand}
 use Rattle.l4_core.proofs.Dues.{ready_there}
-
--- An event that has told nothing yet.
-pub opened_work : (l : Local) (t : EventBuffer) → IsOpen t → work l t ≡ record { local = l; steps = []; letters = [] }
-opened_work l t untold = rw (untold.steps, untold.letters) refl
 
 -- The stamp is of no matter for what is to be done.
 pub possible_stamped : (p q : Processor) (choice : Choice) (stamp : ℕ) → IsPossible choice p → q ≡ with_local p (record p.local { stamp = stamp }) → IsPossible choice q

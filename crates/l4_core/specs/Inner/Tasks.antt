@@ -1,5 +1,6 @@
 -- What a letter asks of a processor, found before anything changes.
 use Rattle.std.specs.Prelude.{◌≡◌, ℕ, ◌<◌, ◌==◌, Bool, true, false, if◌then◌else◌, ◌||◌, Option, Some, is_some, is_none, List, length}
+use Rattle.std.specs.Option.{option_map}
 use Rattle.l4_model.specs.Words.{same_id}
 use Rattle.l4_model.specs.Machine.{Machine, is_declared}
 use Rattle.l4_model.specs.World.{Message, is_deleted}
@@ -8,6 +9,7 @@ use Rattle.l4_model.specs.Conditions.{◌>>=◌, ◌>>◌}
 use Rattle.l4_core_model.specs.Letters.{OrderDoneLetter}
 use Rattle.l4_core_model.specs.Local.{Local, declared, is_own, thread, changes, comes_to, after_decision, stand_in, stands_in, is_gone_now}
 use Rattle.l4_core_model.specs.Acts.{Work, ◌▷◌, does, posts, arrives, refuses, retargets, obeys, split_place}
+use Rattle.l4_core_model.specs.Turns.{opened}
 use Rattle.l4_core_model.specs.Mail.{own_place, foreign_place, is_ordering, waits_here}
 use Rattle.l4_types.specs.declared.letters.Refusal.{Refusal}
 use Rattle.l4_types.specs.declared.letters.Refusal.TheVariants.{TimedOut, Cancelled, Dropped}
@@ -82,6 +84,12 @@ does_task m cpu (Obey j i caller what) x = x ▷ obeys m cpu caller (order_kind_
     ▷ posts (declared m i).cpu (OrderDoneLetter caller)
 does_task m cpu (FinishOrder i) x = x ▷ does (comes_to i obeyed)
 does_task m cpu (Retarget j o) x = x ▷ retargets (owed_of o) j
+
+-- The event of a letter that asks for this. None if it is not lawful.
+abbrev pub does_asked : Machine → (cpu : ℕ) → Local → (letter_stamp : ℕ) → Option Task →
+    Option Work
+does_asked m cpu l letter_stamp =
+    option_map (λ task. does_task m cpu task (opened letter_stamp l))
 
 -- A thread of another processor.
 pub record IsForeign (p : Processor) (i : ℕ) : Type 0 where

@@ -116,8 +116,9 @@ impl ProcessorState<'_> {
         tcb.is_deleted() || tcb.is_ordering()
     }
 
-    // What a send that has arrived asks for. Its message has these words.
-    fn arrival<'a>(
+    /// What a send that has arrived asks for. Its message has these words.
+    #[inline(always)]
+    pub(crate) fn arrival<'a>(
         &self,
         name: &Name,
         to: GlobalId,
@@ -147,8 +148,9 @@ impl ProcessorState<'_> {
         })
     }
 
-    // What the decision of a send asks for.
-    fn end(&self, name: &Name, decision: Decision) -> Option<Task<'static>>
+    /// What the decision of a send asks for.
+    #[inline(always)]
+    pub(crate) fn end(&self, name: &Name, decision: Decision) -> Option<Task<'static>>
         ensures value { result ≡
             task_of self.now.machine self.now.cpu self.now.local [] (DoneContent name.now decision) }
         ensures possible { IfSome result (λ task. IsTask task self.now) }

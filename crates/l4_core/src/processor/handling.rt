@@ -1,13 +1,15 @@
 //! What a processor does with a letter from another one.
-ghost use Rattle.std.specs.Prelude.{◌≡◌, ◌<◌, ◌≤◌, ◌↔◌, ◌⊎◌, IfErr, IfOk, IsErrOf, IsSome, None};
+ghost use Rattle.std.specs.Prelude.{◌≡◌, ◌<◌, ◌≤◌, ◌↔◌, ◌⊎◌, IfErr, IfOk, IfSome, IsErrOf};
+ghost use Rattle.std.specs.Prelude.{IsSome, None, length};
 ghost use Rattle.std.specs.Prelude.{OnErr, false};
 ghost use Rattle.l4_model.specs.Effects.{obeyed};
 ghost use Rattle.l4_core_model.specs.Local.{comes_to, after_decision};
 ghost use Rattle.l4_core_model.specs.Mail.{handle};
 ghost use Rattle.l4_core_model.specs.Turns.{can_stamp};
+ghost use Rattle.l4_types.specs.Inner.LetterHeads.{letter_with, word_count};
 ghost use Rattle.l4_types.specs.Inner.LetterView.{decision_of};
-ghost use Rattle.l4_core.specs.Inner.Tasks.{does_task, IsArrival, IsCaller, IsObedience, IsSplit};
-ghost use Rattle.l4_core.specs.Inner.Tasks.{IsTask};
+ghost use Rattle.l4_core.specs.Inner.Tasks.{does_asked, does_task, IsArrival, IsCaller, IsObedience};
+ghost use Rattle.l4_core.specs.Inner.Tasks.{IsSplit, IsTask};
 ghost use Rattle.l4_core.specs.declared.known.tasks.Task.TheVariants.{Arrive, Obey};
 ghost use Rattle.l4_core.specs.Processor.{with_local};
 ghost use Rattle.l4_core.specs.EventBuffers.{IsOpen};
@@ -20,7 +22,7 @@ use l4_history::sink::Sink;
 use l4_thread::changes::Change;
 use l4_types::ids::GlobalId;
 use l4_types::letter_ref::LetterRef;
-use l4_types::letters::{Content, Decision};
+use l4_types::letters::{Content, Decision, LetterHead};
 use l4_types::message_ref::MessageRef;
 use l4_types::steps::{Name, OrderKind};
 
@@ -49,19 +51,90 @@ impl Core<'_> {
             (IsSome (handle self.old.machine self.old.cpu self.old.local letter.now) ×
             (can_stamp self.old.local letter.now.stamp ≡ false)) }
     {
+        // Most letters are sends and decisions. Of these it is known here which task they are, so none
+        // is written to memory to be matched again.
         let (head, words) = letter.parts();
-        let Some(task) = self.known.task(&head.content, words) else {
+        match &head.content {
+            Content::Send {
+                name,
+                receiver,
+                message,
+                zero_timeout,
+            } => {
+                let task = self
+                    .known
+                    .arrival(name, *receiver, message, words, *zero_timeout);
+                self.handle_task(head.stamp, task, buffer)
+            }
+            Content::Done { name, decision } => {
+                let task = self.known.end(name, *decision);
+                self.handle_task(head.stamp, task, buffer)
+            }
+            _ => self.handle_other(head, words, buffer),
+        }
+    }
+
+    // Handles a letter of this head, whose message has these words.
+    #[inline(never)]
+    fn handle_other<S: Sink>(
+        &mut self,
+        head: &LetterHead,
+        words: &[u64],
+        buffer: &mut EventBuffer<S>,
+    ) -> Result<u64, Fault>
+        requires open { IsOpen buffer.old }
+        requires count { length words.now ≡ word_count head.now.content }
+        ensures ok { IfOk result (λ stamp.
+            IsEvent
+            (handle self.old.machine self.old.cpu self.old.local
+            (letter_with words.now head.now)) self.old self.new buffer.old buffer.new stamp) }
+        ensures err { OnErr result ((self.new ≡ self.old) × (buffer.new ≡ buffer.old)) }
+        ensures faults { IfErr result (λ fault. (fault ≡ Fault.Mail) ⊎ (fault ≡ Fault.Stamp)) }
+        ensures mail { IsErrOf result Fault.Mail ↔
+            (handle self.old.machine self.old.cpu self.old.local
+            (letter_with words.now head.now) ≡ None) }
+        ensures stamp { IsErrOf result Fault.Stamp ↔
+            (IsSome (handle self.old.machine self.old.cpu self.old.local
+            (letter_with words.now head.now)) ×
+            (can_stamp self.old.local head.now.stamp ≡ false)) }
+    {
+        let asked = self.known.task(&head.content, words);
+        self.handle_task(head.stamp, asked, buffer)
+    }
+
+    // Handles a letter with this stamp that asks for this. None: it is not lawful here.
+    #[inline(always)]
+    fn handle_task<S: Sink>(
+        &mut self,
+        letter_stamp: u64,
+        task: Option<Task<'_>>,
+        buffer: &mut EventBuffer<S>,
+    ) -> Result<u64, Fault>
+        requires possible { IfSome task (λ task. IsTask task self.old) }
+        requires open { IsOpen buffer.old }
+        ensures ok { IfOk result (λ stamp.
+            IsEvent
+            (does_asked self.old.machine self.old.cpu self.old.local letter_stamp task.entry)
+            self.old self.new buffer.old buffer.new stamp) }
+        ensures err { OnErr result ((self.new ≡ self.old) × (buffer.new ≡ buffer.old)) }
+        ensures faults { IfErr result (λ fault. (fault ≡ Fault.Mail) ⊎ (fault ≡ Fault.Stamp)) }
+        ensures mail { IsErrOf result Fault.Mail ↔ (task.entry ≡ None) }
+        ensures stamp { IsErrOf result Fault.Stamp ↔
+            (IsSome task.entry × (can_stamp self.old.local letter_stamp ≡ false)) }
+    {
+        let Some(task) = task else {
             return Err(Fault::Mail);
         };
-        if !self.can_stamp(head.stamp) {
+        if !self.can_stamp(letter_stamp) {
             return Err(Fault::Stamp);
         }
-        let stamp = self.open(head.stamp);
+        let stamp = self.open(letter_stamp);
         self.do_task(task, buffer);
         Ok(stamp)
     }
 
     // Does what a letter asks for.
+    #[inline(always)]
     fn do_task<S: Sink>(&mut self, task: Task<'_>, buffer: &mut EventBuffer<S>)
         requires possible { IsTask task self.old }
         requires room { 3 ≤ buffer.old.room }
@@ -118,6 +191,7 @@ impl Core<'_> {
     }
 
     // Ends the send of a thread of this processor, which was decided at its receiver's processor.
+    #[inline(always)]
     fn end_split(&mut self, place: usize, decision: Decision)
         requires { IsSplit self.old place }
         ensures { self.new ≡ with_local self.old

@@ -111,6 +111,7 @@ impl Core<'_> {
 
     // Ends a send that is decided here. A sender of this processor goes on at once, another one by
     // a letter.
+    #[inline(always)]
     fn end_send<S: Sink>(&mut self, place: usize, decision: Decision, buffer: &mut EventBuffer<S>)
         requires sender { IsSender self.old place }
         requires slots { 0 < buffer.old.slots }

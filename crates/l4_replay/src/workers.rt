@@ -28,6 +28,7 @@ pub(crate) fn take_turn(worker: &mut Worker<'_>) -> bool
 
 /// Handles the first letter of this poster where it lies, as the event that has begun, and then
 /// drops it. Answers whether there was one.
+#[inline(always)]
 pub(crate) fn handle_first(inbox: &mut Inbox, worker: &mut Worker<'_>, from: u8) -> bool
     requires within { from < length (letters_in inbox.old) }
     requires open { IsOpen worker.old.log.buffer }

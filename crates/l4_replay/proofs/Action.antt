@@ -1,5 +1,5 @@
 -- What a station does is what happens in the core run.
-use Rattle.std.proofs.Common.{◌≡◌, ◌≢◌, ℕ, zero, suc, ◌+◌, ◌<◌, ◌≤◌, ◌^◌, Bool, true, false, cond, Some, None, List, [], ◌∷◌, ◌++◌, map, length, get_or, set, refl, ap, sym, ◌∙◌, subst, arith, inl, inr}
+use Rattle.std.proofs.Common.{◌≡◌, ◌≢◌, ℕ, zero, suc, ◌+◌, ◌<◌, ◌≤◌, ◌^◌, Bool, true, false, cond, Some, None, List, [], ◌∷◌, ◌++◌, map, length, get_or, set, refl, ap, ap₂, sym, ◌∙◌, subst, arith, inl, inr}
 use Rattle.std.specs.Prelude.{slice_get, ◌==◌, OnOk, Result, Ok, Err}
 use Rattle.std.specs.List.{range_with_len}
 use Rattle.std.specs.Option.{option_map}
@@ -72,10 +72,10 @@ some_poster g cpu from start (suc n) least within filled none = by (start == fro
         let lt : start < from = omega arith in
         ap (λ ls. cond (is_empty ls) (first_poster g cpu (range_with_len (start + 1) n)) (Some start)) (none start lt) ∙ more (omega arith)
 
-next_is_own : (m : Machine) (g : System) (ss : List Station) (cpu : ℕ) (s : Station) → IsSystem m g ss → slice_get ss cpu ≡ Some s → HasNoMail s → next_turn m g cpu ≡ Turns cpu
+pub next_is_own : (m : Machine) (g : System) (ss : List Station) (cpu : ℕ) (s : Station) → IsSystem m g ss → slice_get ss cpu ≡ Some s → HasNoMail s → next_turn m g cpu ≡ Turns cpu
 next_is_own m g ss cpu s i at none = ap (turn_of cpu) (no_poster g cpu 0 m.cpus (λ q. letters_here m g ss q cpu s i at ∙ none q))
 
-next_is_mail : (m : Machine) (g : System) (ss : List Station) (cpu from : ℕ) (s : Station) → IsSystem m g ss → slice_get ss cpu ≡ Some s → IsFirstPoster s from →
+pub next_is_mail : (m : Machine) (g : System) (ss : List Station) (cpu from : ℕ) (s : Station) → IsSystem m g ss → slice_get ss cpu ≡ Some s → IsFirstPoster s from →
     next_turn m g cpu ≡ Handles cpu from
 next_is_mail m g ss cpu from s i at p =
     let size = (i.each cpu s at).inbox in
@@ -129,6 +129,102 @@ pub record HasHappened (m : Machine) (g : System) (e : Action) (cpu : ℕ) (ss :
   pub done : HasDone work old new
   pub happens : Happens m g e cpu ss (station_of new) work
 
+-- What the processor of a station does happens in the core run.
+
+pub own_happens_at : (m : Machine) (g : System) (ss : List Station) (cpu : ℕ) (s new : Station) (x : Work) →
+    IsSystem m g ss → slice_get ss cpu ≡ Some s → turn s.core.machine s.core.cpu s.core.local ≡ Some x →
+    IsSame s new x.local → Happens m g (Turns cpu) cpu ss new x
+own_happens_at m g ss cpu s new x i at is same =
+    let it = i.each cpu s at in
+    let here = local_at m g ss cpu s i at in
+    let does : turn m cpu s.core.local ≡ Some x = rw (← it.machine, ← it.cpu_is) is in
+    record {
+      before = g;
+      stations = ss;
+      old = s;
+      is = rw (here, does) refl;
+      local = s.core.local;
+      event = Turned;
+      does = does;
+      system = i;
+      at = at;
+      same = same;
+      written = refl;
+    }
+
+pub letter_happens_at : (m : Machine) (g : System) (ss : List Station) (cpu from : ℕ) (s new : Station) (letter : Letter)
+    (x : Work) → IsSystem m g ss → slice_get ss cpu ≡ Some s → from < length s.inbox →
+    slice_get (letters_from from s) 0 ≡ Some letter →
+    handle s.core.machine s.core.cpu s.core.local letter ≡ Some x → IsSame (without_letter from s) new x.local →
+    Happens m g (Handles cpu from) cpu ss new x
+letter_happens_at m g ss cpu from s new letter x i at within is_first is same =
+    let it = i.each cpu s at in
+    let here = local_at m g ss cpu s i at in
+    let first = ap (λ ls. slice_get ls 0) (letters_here m g ss from cpu s i at) ∙ is_first in
+    let does : handle m cpu s.core.local letter ≡ Some x = rw (← it.machine, ← it.cpu_is) is in
+    record {
+      before = taken from cpu g;
+      stations = changed (without_letter from) ss cpu;
+      old = without_letter from s;
+      is = rw (here, first, does) refl;
+      local = s.core.local;
+      event = Handled from letter;
+      does = does;
+      system = taken_system m g ss from cpu s letter i at within is_first;
+      at = get-changed_same (without_letter from) ss cpu ∙ ap (option_map (without_letter from)) at;
+      same = same;
+      written = changed_twice (without_letter from) new ss cpu;
+    }
+
+pub tick_happens_at : (m : Machine) (g : System) (ss : List Station) (cpu clock : ℕ) (s new : Station) (x : Work) →
+    IsSystem m g ss → slice_get ss cpu ≡ Some s → advance s.core.machine s.core.cpu clock s.core.local ≡ Some x →
+    IsSame s new x.local → Happens m g (Ticks cpu clock) cpu ss new x
+tick_happens_at m g ss cpu clock s new x i at is same =
+    let it = i.each cpu s at in
+    let here = local_at m g ss cpu s i at in
+    let does : advance m cpu clock s.core.local ≡ Some x =
+    ap₂ (λ m c. advance m c clock s.core.local) (sym it.machine) (sym it.cpu_is) ∙ is in
+    record {
+      before = g;
+      stations = ss;
+      old = s;
+      is = rw (here, does) refl;
+      local = s.core.local;
+      event = Ticked clock;
+      does = does;
+      system = i;
+      at = at;
+      same = same;
+      written = refl;
+    }
+
+pub no_own_happens_at : (m : Machine) (g : System) (ss : List Station) (cpu : ℕ) (s : Station) → IsSystem m g ss →
+    slice_get ss cpu ≡ Some s → turn s.core.machine s.core.cpu s.core.local ≡ None → happens m g (Turns cpu) ≡ None
+no_own_happens_at m g ss cpu s i at is =
+    let it = i.each cpu s at in
+    let here = local_at m g ss cpu s i at in
+    let none : turn m cpu s.core.local ≡ None = rw (← it.machine, ← it.cpu_is) is in
+    rw (here, none) refl
+
+pub no_letter_happens_at : (m : Machine) (g : System) (ss : List Station) (cpu from : ℕ) (s : Station) →
+    IsSystem m g ss → slice_get ss cpu ≡ Some s → letters_from from s ≡ [] → happens m g (Handles cpu from) ≡ None
+no_letter_happens_at m g ss cpu from s i at empty =
+    let here = local_at m g ss cpu s i at in
+    let none : letters g.mail from cpu ≡ [] = letters_here m g ss from cpu s i at ∙ empty in
+    rw (here, none) refl
+
+pub no_tick_happens_at : (m : Machine) (g : System) (ss : List Station) (cpu clock : ℕ) (s : Station) →
+    IsSystem m g ss → slice_get ss cpu ≡ Some s → advance s.core.machine s.core.cpu clock s.core.local ≡ None →
+    happens m g (Ticks cpu clock) ≡ None
+no_tick_happens_at m g ss cpu clock s i at is =
+    let it = i.each cpu s at in
+    let here = local_at m g ss cpu s i at in
+    let none : advance m cpu clock s.core.local ≡ None =
+    ap₂ (λ m c. advance m c clock s.core.local) (sym it.machine) (sym it.cpu_is) ∙ is in
+    rw (here, none) refl
+
+-- A station of the program did it.
+
 same_by : (old new : program.Station) (inbox : List (List Letter)) (x : Work) → HasDone x old new → (station_of new).inbox ≡ inbox →
     IsSame (record { core = old.worker.core; inbox = inbox }) (station_of new) x.local
 same_by old new inbox x d rest = record {
@@ -141,55 +237,22 @@ same_by old new inbox x d rest = record {
 own_happens : (m : Machine) (g : System) (ss : List Station) (cpu : ℕ) (old new : program.Station) →
     IsSystem m g ss → slice_get ss cpu ≡ Some (station_of old) → IsOwnTurn old new →
     HasHappened m g (Turns cpu) cpu ss old new
-own_happens m g ss cpu old new i at t =
-    let s = station_of old in
-    let it = i.each cpu s at in
-    let here = local_at m g ss cpu s i at in
-    let does : turn m cpu old.worker.core.local ≡ Some t.work = rw (← it.machine, ← it.cpu_is) t.is in
-    record {
-      work = t.work;
-      done = t.done;
-      happens = record {
-        before = g;
-        stations = ss;
-        old = s;
-        is = rw (here, does) refl;
-        local = old.worker.core.local;
-        event = Turned;
-        does = does;
-        system = i;
-        at = at;
-        same = same_by old new s.inbox t.work t.done t.rest;
-        written = refl;
-      };
-    }
+own_happens m g ss cpu old new i at t = record {
+  work = t.work;
+  done = t.done;
+  happens = own_happens_at m g ss cpu (station_of old) (station_of new) t.work i at t.is
+      (same_by old new (station_of old).inbox t.work t.done t.rest);
+}
 
 letter_happens : (m : Machine) (g : System) (ss : List Station) (cpu from : ℕ) (old new : program.Station) →
     IsSystem m g ss → slice_get ss cpu ≡ Some (station_of old) → from < length (station_of old).inbox →
     IsHandling from old new → HasHappened m g (Handles cpu from) cpu ss old new
-letter_happens m g ss cpu from old new i at within t =
-    let s = station_of old in
-    let it = i.each cpu s at in
-    let here = local_at m g ss cpu s i at in
-    let first = ap (λ ls. slice_get ls 0) (letters_here m g ss from cpu s i at) ∙ t.first in
-    let does : handle m cpu old.worker.core.local t.letter ≡ Some t.work = rw (← it.machine, ← it.cpu_is) t.is in
-    record {
-      work = t.work;
-      done = t.done;
-      happens = record {
-        before = taken from cpu g;
-        stations = changed (without_letter from) ss cpu;
-        old = without_letter from s;
-        is = rw (here, first, does) refl;
-        local = old.worker.core.local;
-        event = Handled from t.letter;
-        does = does;
-        system = taken_system m g ss from cpu s t.letter i at within t.first;
-        at = get-changed_same (without_letter from) ss cpu ∙ ap (option_map (without_letter from)) at;
-        same = same_by old new (without_letter from s).inbox t.work t.done t.rest;
-        written = changed_twice (without_letter from) (station_of new) ss cpu;
-      };
-    }
+letter_happens m g ss cpu from old new i at within t = record {
+  work = t.work;
+  done = t.done;
+  happens = letter_happens_at m g ss cpu from (station_of old) (station_of new) t.letter t.work i at within t.first t.is
+      (same_by old new (without_letter from (station_of old)).inbox t.work t.done t.rest);
+}
 
 turn_happens : (m : Machine) (g : System) (ss : List Station) (cpu : ℕ) (old new : program.Station) →
     IsSystem m g ss → slice_get ss cpu ≡ Some (station_of old) → TakesTurn true old new →
@@ -201,63 +264,21 @@ turn_happens m g ss cpu old new i at (inr t) =
     subst (λ e. HasHappened m g e cpu ss old new) (sym (next_is_own m g ss cpu (station_of old) i at t.0))
     (own_happens m g ss cpu old new i at t.1)
 
-no_own_happens : (m : Machine) (g : System) (ss : List Station) (cpu : ℕ) (old new : program.Station) →
-    IsSystem m g ss → slice_get ss cpu ≡ Some (station_of old) → IsNoTurn old new → happens m g (Turns cpu) ≡ None
-no_own_happens m g ss cpu old new i at t =
-    let s = station_of old in
-    let it = i.each cpu s at in
-    let here = local_at m g ss cpu s i at in
-    let none : turn m cpu old.worker.core.local ≡ None = rw (← it.machine, ← it.cpu_is) t.none in
-    rw (here, none) refl
-
-no_letter_happens : (m : Machine) (g : System) (ss : List Station) (cpu from : ℕ) (old : program.Station) →
-    IsSystem m g ss → slice_get ss cpu ≡ Some (station_of old) → letters_from from (station_of old) ≡ [] →
-    happens m g (Handles cpu from) ≡ None
-no_letter_happens m g ss cpu from old i at empty =
-    let s = station_of old in
-    let here = local_at m g ss cpu s i at in
-    let none : letters g.mail from cpu ≡ [] = letters_here m g ss from cpu s i at ∙ empty in
-    rw (here, none) refl
-
 no_turn_happens : (m : Machine) (g : System) (ss : List Station) (cpu : ℕ) (old new : program.Station) →
     IsSystem m g ss → slice_get ss cpu ≡ Some (station_of old) → TakesTurn false old new →
     happens m g (next_turn m g cpu) ≡ None
 no_turn_happens m g ss cpu old new i at t =
-    ap (happens m g) (next_is_own m g ss cpu (station_of old) i at t.0) ∙ no_own_happens m g ss cpu old new i at t.1
+    ap (happens m g) (next_is_own m g ss cpu (station_of old) i at t.0)
+    ∙ no_own_happens_at m g ss cpu (station_of old) i at t.1.none
 
 tick_happens : (m : Machine) (g : System) (ss : List Station) (cpu clock : ℕ) (old new : program.Station) → IsSystem m g ss → slice_get ss cpu ≡ Some (station_of old) →
     IsTick clock old new → HasHappened m g (Ticks cpu clock) cpu ss old new
-tick_happens m g ss cpu clock old new i at t =
-    let s = station_of old in
-    let it = i.each cpu s at in
-    let here = local_at m g ss cpu s i at in
-    let does : advance m cpu clock old.worker.core.local ≡ Some t.work = ap (λ c. advance m c clock old.worker.core.local) (sym it.cpu_is) ∙ t.is in
-    record {
-      work = t.work;
-      done = t.done;
-      happens = record {
-        before = g;
-        stations = ss;
-        old = s;
-        is = rw (here, does) refl;
-        local = old.worker.core.local;
-        event = Ticked clock;
-        does = does;
-        system = i;
-        at = at;
-        same = same_by old new s.inbox t.work t.done t.rest;
-        written = refl;
-      };
-    }
-
-no_tick_happens : (m : Machine) (g : System) (ss : List Station) (cpu clock : ℕ) (old new : program.Station) → IsSystem m g ss → slice_get ss cpu ≡ Some (station_of old) →
-    IsNoTick clock old new → happens m g (Ticks cpu clock) ≡ None
-no_tick_happens m g ss cpu clock old new i at t =
-    let s = station_of old in
-    let it = i.each cpu s at in
-    let here = local_at m g ss cpu s i at in
-    let none : advance m cpu clock old.worker.core.local ≡ None = ap (λ c. advance m c clock old.worker.core.local) (sym it.cpu_is) ∙ t.none in
-    rw (here, none) refl
+tick_happens m g ss cpu clock old new i at t = record {
+  work = t.work;
+  done = t.done;
+  happens = tick_happens_at m g ss cpu clock (station_of old) (station_of new) t.work i at t.is
+      (same_by old new (station_of old).inbox t.work t.done t.rest);
+}
 
 -- What is chosen happens, or it can't.
 
@@ -281,11 +302,11 @@ pub not_chosen_happens : (m : Machine) (g : System) (ss : List Station) (cpu : �
 not_chosen_happens m g ss cpu choice.Turn old new i at t =
     record { none = no_turn_happens m g ss cpu old new i at t; same = t.1.same }
 not_chosen_happens m g ss cpu (choice.Letter from) old new i at t =
-    record { none = no_letter_happens m g ss cpu from old i at t.0; same = t.1 }
+    record { none = no_letter_happens_at m g ss cpu from (station_of old) i at t.0; same = t.1 }
 not_chosen_happens m g ss cpu choice.Core old new i at t =
-    record { none = no_own_happens m g ss cpu old new i at t; same = t.same }
+    record { none = no_own_happens_at m g ss cpu (station_of old) i at t.none; same = t.same }
 not_chosen_happens m g ss cpu (choice.Tick clock) old new i at t =
-    record { none = no_tick_happens m g ss cpu clock old new i at t; same = t.same }
+    record { none = no_tick_happens_at m g ss cpu clock (station_of old) i at t.none; same = t.same }
 
 -- A poster that is a processor has a place in each inbox.
 pub knows_poster : (m : Machine) (r : Run) (v : UnderWay) (cpu : ℕ) (s : Station) (c : Choice) → IsRun m r v →
@@ -295,7 +316,7 @@ knows_poster m r v cpu s c i at known =
 
 -- The letters go to other processors that there are
 
-then_is : (m : Machine) (r : Run) (e : Action) (h : Happened) → IsCoreRun m r → happens m r.system e ≡ Some h → IsCoreRun m (then_event r h)
+pub then_is : (m : Machine) (r : Run) (e : Action) (h : Happened) → IsCoreRun m r → happens m r.system e ≡ Some h → IsCoreRun m (then_event r h)
 then_is m r e h ran is =
     let next : core_run m r (e ∷ []) ≡ Some (then_event r h) = rw is refl in
     (ran.0 ++ e ∷ [], core_run-append m ran.0 (e ∷ []) (opening_run m) r (then_event r h) ran.1 next)

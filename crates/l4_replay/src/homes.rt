@@ -55,7 +55,7 @@ impl OwnerView {
     /// Hears these letters, which are under way to a processor: the threads that they answer are
     /// then as that processor will have them once it has handled the letters. Of two answers to one
     /// thread the last counts; in a core run there is one at most.
-    pub(crate) fn hear(&mut self, machine: &Machine, core: &Core<'_>, letters: Letters<'_>)
+    pub fn hear(&mut self, machine: &Machine, core: &Core<'_>, letters: Letters<'_>)
         requires machine { core.now.machine ≡ machine.now }
         requires places { HasPlaces machine.now self.old }
         ensures places { HasPlaces machine.now self.new }

@@ -18,7 +18,7 @@
 pub mod entries;
 mod fault;
 pub mod homes;
-mod inbox;
+pub mod inbox;
 mod laws;
 mod letter_queue;
 mod listener;

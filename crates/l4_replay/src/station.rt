@@ -37,8 +37,8 @@ pub(crate) struct Station<'m> {
 }
 
 impl<'m> Station<'m> {
-    ghost use Rattle.std.specs.Prelude.{◌≡◌, ◌<◌, ◌++◌, ◌∷◌, [], IfOk, IfSome, IsTrue, OnOk, ◌↔◌, drop};
-    ghost use Rattle.std.specs.Prelude.{length, replicate, slice_get, true};
+    ghost use Rattle.std.specs.Prelude.{◌≡◌, ◌<◌, ◌++◌, ◌∷◌, [], IfOk, IfSome, IsTrue, OnOk, ◌↔◌};
+    ghost use Rattle.std.specs.Prelude.{drop, length, replicate, slice_get, true};
     ghost use Rattle.std.specs.Option.{option_map};
     ghost use Rattle.l4_model.specs.World.{changed};
     ghost use Rattle.l4_core_model.specs.Local.{opening_local};
@@ -133,14 +133,15 @@ impl<'m> Station<'m> {
         Some(to)
     }
 
-    /// Passes this letter on to the inbox that it goes to. `from` is the number of this processor. If
-    /// memory is refused, nothing is changed.
+    /// Passes this letter on to the inbox that it goes to. `from` is the number of this processor.
+    /// If memory is refused, nothing is changed.
     pub(crate) fn pass_letter(&mut self, from: u8, to: &mut Inbox) -> Result<(), AllocError>
         requires { from < length (letters_in to.old) }
         ensures same { IsSameStation self.old self.new }
         ensures rest { OnOk result (letters_out self.new ≡ drop 1 (letters_out self.old)) }
         ensures come { OnOk result (IfSome (slice_get (letters_out self.old) 0) (λ p.
-            letters_in to.new ≡ changed (λ letters. letters ++ p.1 ∷ []) (letters_in to.old) from)) }
+            letters_in to.new ≡
+            changed (λ letters. letters ++ p.1 ∷ []) (letters_in to.old) from)) }
     {
         if let Some((_, letter)) = self.worker.first_letter() {
             to.put(from, &letter)?;

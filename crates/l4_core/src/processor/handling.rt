@@ -8,8 +8,8 @@ ghost use Rattle.l4_core_model.specs.Mail.{handle};
 ghost use Rattle.l4_core_model.specs.Turns.{can_stamp};
 ghost use Rattle.l4_types.specs.Inner.LetterHeads.{letter_with, word_count};
 ghost use Rattle.l4_types.specs.Inner.LetterView.{decision_of};
-ghost use Rattle.l4_core.specs.Inner.Tasks.{does_asked, does_task, IsArrival, IsCaller, IsObedience};
-ghost use Rattle.l4_core.specs.Inner.Tasks.{IsSplit, IsTask};
+ghost use Rattle.l4_core.specs.Inner.Tasks.{does_asked, does_task, IsArrival, IsCaller};
+ghost use Rattle.l4_core.specs.Inner.Tasks.{IsObedience, IsSplit, IsTask};
 ghost use Rattle.l4_core.specs.declared.known.tasks.Task.TheVariants.{Arrive, Obey};
 ghost use Rattle.l4_core.specs.Processor.{with_local};
 ghost use Rattle.l4_core.specs.EventBuffers.{IsOpen};
@@ -51,8 +51,8 @@ impl Core<'_> {
             (IsSome (handle self.old.machine self.old.cpu self.old.local letter.now) ×
             (can_stamp self.old.local letter.now.stamp ≡ false)) }
     {
-        // Most letters are sends and decisions. Of these it is known here which task they are, so none
-        // is written to memory to be matched again.
+        // Most letters are sends and decisions. Of these it is known here which task they are, so
+        // none is written to memory to be matched again.
         let (head, words) = letter.parts();
         match &head.content {
             Content::Send {

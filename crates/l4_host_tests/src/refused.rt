@@ -20,6 +20,7 @@ use l4_proc::gate::Open;
 use l4_proc::processor::Processor;
 use l4_proc::resting::rest;
 use l4_proc::stops::{ProcFault, Stop};
+use l4_replay::entries::entries_of;
 use l4_replay::{Entry, RunFault, Walk};
 use l4_samples::{ACROSS, ACROSS_TRACE, PING, call_begins, call_ends};
 use l4_script::machine::Machine;
@@ -33,6 +34,15 @@ use std::thread::Threads;
 
 const REPORT: &str =
     "thread 1.1 ended 0 nil nil 0 a\nthread 2.1 ended 0 1.1 1.1 74001 a\nending quiet\n";
+
+// A thread that deletes one of another processor.
+const DELETION: &str = "l4 1 64
+cpus 2
+thread 1.1 cpu 0 space 1
+delete 2.1
+thread 2.1 cpu 1 space 2
+ipc nil any never never
+";
 
 // The entries of a replay. A turn in which there is nothing to do does not count.
 const SCHEDULE: [u8; 11] = [1, 1, 0, 0, 0, 1, 0, 0, 1, 0, 1];
@@ -231,19 +241,27 @@ fn told_run<R: AllocGlobal + Threads + Sync + Print>(
     }
 }
 
-fn replay_told_once(alloc: Global, machine: &Machine) -> Result<ToldRun, RunFault> {
+fn replay_told_once(
+    alloc: Global,
+    machine: &Machine,
+    entries: &[Entry],
+) -> Result<ToldRun, RunFault> {
     let mut history = Vec::new(alloc);
-    let state = replay_told(alloc, machine, &[Entry::Turn(0); 20], &mut history)?;
+    let state = replay_told(alloc, machine, entries, &mut history)?;
     Ok(ToldRun { history, state })
 }
 
 // A told replay, by a second call if memory was refused.
-fn told_replay<R: AllocGlobal + Print>(rt: &R, machine: &Machine) -> Result<ToldRun, RunFault> {
+fn told_replay<R: AllocGlobal + Print>(
+    rt: &R,
+    machine: &Machine,
+    entries: &[Entry],
+) -> Result<ToldRun, RunFault> {
     call_begins(rt, "replay_told");
-    let told = replay_told_once(rt.alloc(), machine);
+    let told = replay_told_once(rt.alloc(), machine, entries);
     call_ends(rt);
     match told {
-        Err(RunFault::NoMemory) => replay_told_once(rt.alloc(), machine),
+        Err(RunFault::NoMemory) => replay_told_once(rt.alloc(), machine, entries),
         told => told,
     }
 }
@@ -263,7 +281,9 @@ fn a_history_is_told(rt: HostRuntime) {
     let outcome = run_once(&rt, &machine).ok().expect(&rt, "an outcome");
     let told = told_run(&rt, &machine).ok().expect(&rt, "a told run");
     assert!(rt; came_to(&told, &outcome));
-    let told = told_replay(&rt, &machine).ok().expect(&rt, "a replay");
+    let told = told_replay(&rt, &machine, &[Entry::Turn(0); 20])
+        .ok()
+        .expect(&rt, "a replay");
     assert!(rt; came_to(&told, &outcome));
 }
 
@@ -279,6 +299,24 @@ fn replayed<R: AllocGlobal + Print>(rt: &R, machine: &Machine) -> Result<Outcome
     match told {
         Err(RunFault::NoMemory) => replay_once(rt.alloc(), machine),
         told => told,
+    }
+}
+
+// Of the second machine a thread is deleted, so an audit finds the world of its replay.
+#[test]
+fn a_history_across_is_told(rt: HostRuntime) {
+    for text in [ACROSS, DELETION] {
+        let machine = machine_of(rt.alloc(), text).expect(&rt, "a machine");
+        let outcome = replay_once(rt.alloc(), &machine)
+            .ok()
+            .expect(&rt, "an outcome");
+        let entries = entries_of(rt.alloc(), &SCHEDULE)
+            .ok()
+            .expect(&rt, "entries");
+        let told = told_replay(&rt, &machine, entries.as_slice())
+            .ok()
+            .expect(&rt, "a replay");
+        assert!(rt; came_to(&told, &outcome));
     }
 }
 

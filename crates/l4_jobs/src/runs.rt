@@ -47,9 +47,8 @@ use std::alloc::Global;
 use std::thread::Threads;
 
 // Whether the history is told, and needed no more then: no chart is drawn of it, nothing is printed
-// behind it, and no step is told as an object. A report of several processors has no use for it,
-// and their steps stay in logs.
-fn is_told(printed: Printed, machine: &Machine) -> bool
+// behind it, and no step is told as an object.
+fn is_told(printed: Printed) -> bool
     ensures no_chart { result ≡ true → printed.chart ≡ None }
     ensures no_extras { result ≡ true → printed.extras ≡ no_extras }
     ensures in_lines { result ≡ true → printed.report ≡ false → printed.json ≡ false }
@@ -57,11 +56,17 @@ fn is_told(printed: Printed, machine: &Machine) -> bool
     if printed.chart.is_some() || printed.extras != NO_EXTRAS {
         return false;
     }
-    if printed.report {
-        machine.cpus() == 1
-    } else {
-        !printed.json
-    }
+    printed.report || !printed.json
+}
+
+// Whether the history of a run is told. The steps of several processors stay in logs, of which a
+// report has no use.
+fn is_told_of_run(printed: Printed, machine: &Machine) -> bool
+    ensures no_chart { result ≡ true → printed.chart ≡ None }
+    ensures no_extras { result ≡ true → printed.extras ≡ no_extras }
+    ensures in_lines { result ≡ true → printed.report ≡ false → printed.json ≡ false }
+{
+    is_told(printed) && (!printed.report || machine.cpus() == 1)
 }
 
 // The report of where a run ended.
@@ -311,7 +316,7 @@ pub(crate) fn run_done<'a, R: Threads + Sync>(
         (fault_of_turns run.now.turns ≡ Some fault)) }
 {
     let Some(name) = run.record_to else {
-        if is_told(run.printed, machine) {
+        if is_told_of_run(run.printed, machine) {
             let mut steps = PrintedSteps::new(alloc, !run.printed.report);
             let state = run_told(rt, alloc, machine, run.turns, &mut steps)?;
             return Ok(told_done(alloc, run.printed, &state, steps, expected, None)?);
@@ -367,7 +372,7 @@ pub(crate) fn replay_done<'a, L: Source>(
 {
     machine.facts();
     let entries = asked_entries(alloc, machine, replay.schedule, list)?;
-    if is_told(replay.printed, machine) {
+    if is_told(replay.printed) {
         let all = with_asked_rest(alloc, machine, entries, replay.then_rest)?;
         let mut steps = PrintedSteps::new(alloc, !replay.printed.report);
         let Ok(state) = replay_told(alloc, machine, all.as_slice(), &mut steps) else {

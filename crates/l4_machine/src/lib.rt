@@ -33,7 +33,7 @@ mod unmerged;
 pub use gathering::gather;
 pub use laws::law_one_outcome;
 pub use logs::Logs;
-pub use outcome::{CompactOutcome, Outcome};
+pub use outcome::{CompactOutcome, Outcome, audited_outcome};
 pub use run_history::RunHistory;
 pub use runs::{run, run_compact, run_recorded};
 pub use schedules::{replay, replay_compact};

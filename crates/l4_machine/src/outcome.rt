@@ -118,8 +118,11 @@ fn have_registers(machine: &Machine, threads: &OwnerView) -> bool
     machine.cpus() == 1 || threads.are_undeleted()
 }
 
-// The same outcome, with the reports that an audit of the history finds.
-fn audited_outcome<'m>(
+/// The outcome of a run with this history, ending and number of turns, with the undecided sends and
+/// the threads that an audit of the history finds.
+///
+/// `NoMemory`: memory was refused.
+pub fn audited_outcome<'m>(
     alloc: Global,
     machine: &Machine,
     history: History,

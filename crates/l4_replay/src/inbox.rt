@@ -58,6 +58,7 @@ impl Inbox {
     }
 
     /// Appends a letter from a processor. If memory is refused, nothing is changed.
+    #[inline(always)]
     pub fn put(&mut self, from: u8, letter: &LetterRef<'_>) -> Result<(), AllocError>
         requires { from < length (letters_in self.old) }
         ensures ok { OnOk result (letters_in self.new ≡

@@ -42,6 +42,7 @@ impl LetterQueue {
     }
 
     /// Appends a letter. If memory is refused, nothing is changed.
+    #[inline(always)]
     pub(crate) fn push(&mut self, letter: &LetterRef<'_>) -> Result<(), AllocError>
         ensures ok { OnOk result (self.new ≡ self.old ++ letter.now ∷ []) }
         ensures err { OnErr result (self.new ≡ self.old) }

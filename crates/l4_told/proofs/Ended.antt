@@ -1,14 +1,12 @@
 -- What is known where a processor that is alone has come to: its outcome, and what has to be kept from there on.
 use Rattle.std.proofs.Common.{◌≡◌, ◌↔◌, ℕ, ◌≤◌, true, false, Some, None, List, [], ◌∷◌, ◌++◌, map, length}
-use Rattle.std.proofs.Common.{refl, ap, ap₂, sym, ◌∙◌, subst, inl, arith}
-use Rattle.std.proofs.Common.{append-nil}
+use Rattle.std.proofs.Common.{refl, ap, ap₂, sym, ◌∙◌, subst, inl}
 use Rattle.std.specs.Prelude.{filter_map, slice_get}
 use Rattle.std.specs.Option.{option_map}
-use Rattle.l4_model.specs.Words.{Id}
 use Rattle.l4_model.specs.Machine.{Machine}
 use Rattle.l4_model.specs.Steps.{Step}
 use Rattle.l4_model.specs.World.{Name, Thread, World}
-use Rattle.l4_model.specs.History.{reached, waiting, view}
+use Rattle.l4_model.specs.History.{reached, waiting}
 use Rattle.l4_model.specs.Laws.{begins_of}
 use Rattle.l4_core_model.specs.Local.{Local}
 use Rattle.l4_core_model.specs.Runs.{Run, at_rest, told}
@@ -16,36 +14,32 @@ use Rattle.l4_core_model.specs.Turns.{is_busy}
 use Rattle.l4_refines.specs.Laws.{IsLawfulRun, home_thread}
 use Rattle.l4_types.specs.declared.reports.Ending.TheVariants.{Quiet}
 use Rattle.l4_types.specs.ReportView.{report_of_view}
-use Rattle.l4_replay.specs.Inner.Heard.{AreOfWorld, IsToldBy}
+use Rattle.l4_replay.specs.Inner.Heard.{IsToldBy}
 use Rattle.l4_replay.specs.Inner.Homes.{IsAtHome, sent_waiting}
 use Rattle.l4_replay.specs.declared.homes.OwnerView.{OwnerView}
 use Rattle.l4_machine.specs.Outcomes.{IsOutcomeOf}
 use Rattle.l4_machine.proofs.Cores.{all_wait_there}
 use Rattle.l4_machine.proofs.Outcomes.{known_at_home, sound}
 use Rattle.l4_told.specs.Told.{findings_with}
-use Rattle.l4_told.specs.Inner.Alone.{HasCome, IsKept, kept_steps}
+use Rattle.l4_told.specs.Inner.Alone.{HasCome}
 use Rattle.l4_told.specs.Inner.OfOne.{IsRunOfOne}
 use Rattle.l4_core.specs.Processor.{Processor}
-use Rattle.l4_told.specs.Inner.Kept.{begins}
+use Rattle.l4_told.specs.Inner.Kept.{begins, steps_in}
 use Rattle.l4_told.specs.declared.alone.Alone.{Alone}
 use Rattle.l4_told.specs.declared.final_state.FinalState.{FinalState}
-use Rattle.l4_told.proofs.Kept.{begun_once, keeps, kept_goes_on}
+use Rattle.l4_told.proofs.Telling.{begins_kept, once, waiting_kept}
 use Rattle.l4_told.proofs.OfOne.{handled, rested, rests}
 
 -- No send is begun twice in what is kept.
-pub once : (m : Machine) (r : Run) (before : List Step) (a : Alone) → IsLawfulRun m r → HasCome m r before a →
-    (s : Name) → begins_of s (kept_steps a) ≤ 1
-once m r before a law come s =
-    let kept : begins_of s (kept_steps a) ≡ begins_of s (come.kept ++ come.left) = ap (begins_of s) come.parts in
-    let all : begins_of s (told r.events) ≡ begins_of s (before ++ come.left) = ap (begins_of s) come.told_are in
-    let fewer = come.is_kept.once come.left s in
-    let one = (law.lawful.begun_then_ended s).begun_once in
-    omega (arith, kept, all, fewer, one)
+pub begun_once_here : (m : Machine) (r : Run) (before : List Step) (a : Alone) → IsLawfulRun m r →
+    HasCome m r before a → (s : Name) → begins_of s (steps_in a.kept) ≤ 1
+begun_once_here m r before a law come s =
+    once m (told r.events) before a.kept s come.telling (law.lawful.begun_then_ended s).begun_once
 
 pub outcome : (m : Machine) (r : Run) (before : List Step) (a : Alone) (home : OwnerView) (s : FinalState) →
     IsLawfulRun m r → HasCome m r before a → IsAtHome a.machine.now (a.core.local ∷ []) home →
     map report_of_view s.threads.items ≡ map report_of_view home.threads.items →
-    s.waiting.items ≡ filter_map (sent_waiting a.machine.now home.sends.items) (kept_steps a) → s.turns ≡ a.events →
+    s.waiting.items ≡ filter_map (sent_waiting a.machine.now home.sends.items) (steps_in a.kept) → s.turns ≡ a.events →
     (s.ending ≡ Quiet) ↔ ((is_busy a.core.machine a.core.cpu a.core.local ≡ false)
     × (option_map (λ e. e.0) (slice_get a.core.local.lists.armed 0) ≡ None)) →
     IsOutcomeOf m r (findings_with (told r.events) s)
@@ -91,37 +85,27 @@ outcome m r before a home s law come at threads waits turns quiet = record {
     wait_there : (w : World) → reached m (told r.events) ≡ Some w → s.waiting.items ≡ waiting m w (told r.events)
     wait_there w is =
         waits
-        ∙ ap (λ m. filter_map (sent_waiting m home.sends.items) (kept_steps a)) come.machine
-        ∙ all_wait_there m t home (kept_steps a) here
-        ∙ sym ((told_by w is).waiting (kept_steps a))
-        ∙ ap (waiting m w) come.parts
-        ∙ kept_goes_on m come.kept before come.left w come.is_kept.keeps (ap (reached m) (sym come.told_are) ∙ is)
-        ∙ ap (waiting m w) (sym come.told_are)
+        ∙ ap (λ m. filter_map (sent_waiting m home.sends.items) (steps_in a.kept)) come.machine
+        ∙ all_wait_there m t home (steps_in a.kept) here
+        ∙ sym ((told_by w is).waiting (steps_in a.kept))
+        ∙ waiting_kept m (told r.events) before a.kept w come.telling is
 
 -- Once the steps are told, what begins the undecided sends is kept.
 pub told_come : (m : Machine) (r : Run) (before : List Step) (old new : Alone) (s : FinalState)
     (come : HasCome m r before old) →
     IsOutcomeOf m r (findings_with (told r.events) s) → new.machine.now ≡ old.machine.now → new.core ≡ old.core →
-    new.events ≡ old.events → kept_steps new ≡ begins s.waiting.items → new.untold ≡ length (begins s.waiting.items) →
-    HasCome m r (before ++ come.left) new
-told_come m r before old new s come is machine core events steps untold =
+    new.events ≡ old.events → steps_in new.kept ≡ begins s.waiting.items →
+    new.kept.marks.untold ≡ length (begins s.waiting.items) → new.kept.marks.has_all ≡ false →
+    HasCome m r (before ++ come.telling.left) new
+told_come m r before old new s come is machine core events steps untold some =
     let w = is.is_true.possible.0 in
     let at = is.is_true.possible.1 in
-    let same : s.waiting.items ≡ waiting m w (told r.events) = is.is_true.waiting w at in
-    let kept = waiting m w (told r.events) in
     record {
       of_one = subst (IsRunOfOne m r) (sym (ap (λ (p : Processor). p.local) core)) come.of_one;
       machine = machine ∙ come.machine;
       core_machine = ap (λ (p : Processor). p.machine) core ∙ come.core_machine;
       number = ap (λ (p : Processor). p.cpu) core ∙ come.number;
       events = events ∙ come.events;
-      kept = begins kept;
-      left = [];
-      is_kept = subst (IsKept m (begins kept)) come.told_are (record {
-        keeps = keeps m (told r.events) w at;
-        once = λ more s. begun_once m (told r.events) more w s at;
-      });
-      parts = steps ∙ ap begins same ∙ sym (append-nil (begins kept));
-      untold = untold ∙ ap (λ sends. length (begins sends)) same;
-      told_are = come.told_are ∙ sym (append-nil (before ++ come.left));
+      telling = begins_kept m (told r.events) before old.kept new.kept s.waiting.items w come.telling at
+          (is.is_true.waiting w at) steps untold some;
     }

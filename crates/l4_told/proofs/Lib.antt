@@ -1,6 +1,9 @@
 pub mod Kept
+pub mod Telling
 pub mod OfOne
 pub mod Coming
 pub mod Ended
 pub mod Rounds
+pub mod Nodes
+pub mod Going
 pub mod Entries

@@ -1,5 +1,5 @@
 -- A run in rounds of one processor: its next event, and its end.
-use Rattle.std.proofs.Common.{◌≡◌, ◌⊎◌, ℕ, ◌+◌, ◌*◌, ◌<◌, ◌≤◌, ◌^◌, Bool, true, false, cond, Option, Some}
+use Rattle.std.proofs.Common.{◌≡◌, ℕ, ◌+◌, ◌*◌, ◌<◌, ◌≤◌, ◌^◌, Bool, true, false, cond, Option, Some}
 use Rattle.std.proofs.Common.{None, List, [], ◌∷◌, ◌++◌, length, refl, ap, ap₂, sym, ◌∙◌, subst, inl, inr}
 use Rattle.std.proofs.Common.{arith, lt-ltb}
 use Rattle.std.specs.Prelude.{is_some, nat_le, nat_lt, slice_get}
@@ -12,7 +12,7 @@ use Rattle.l4_model.proofs.Chains.{guard_then, some_is}
 use Rattle.l4_core_model.specs.Plain as plain
 use Rattle.l4_core_model.specs.Acts.{Work, ◌▷◌, does, tells}
 use Rattle.l4_core_model.specs.Local.{Local, own_places}
-use Rattle.l4_core_model.specs.Runs.{Run, Ticks, Turns, at_rest, opening_run, told}
+use Rattle.l4_core_model.specs.Runs.{Run, Ticks, Turns, opening_run, told}
 use Rattle.l4_core_model.specs.Schedules.{attempts, run}
 use Rattle.l4_core_model.specs.Turns.{ByDue, ByReady, advance, clock_is, first_duty, first_some, is_busy, opened, turn}
 use Rattle.l4_merge.specs.LocalTraces.{empty_past}

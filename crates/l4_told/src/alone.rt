@@ -1,51 +1,39 @@
 //! A processor that is alone in its machine.
-ghost use Rattle.std.specs.Prelude.{ℕ, ◌≡◌, ◌⊎◌, ◌<◌, ◌≤◌, ◌*◌, ◌↔◌, ◌++◌, ◌^◌, [], ◌∷◌, IfOk, IsTrue};
-ghost use Rattle.std.specs.Prelude.{List, None, OnOk, drop, false, is_some, length, map, slice_get, true};
+ghost use Rattle.std.specs.Prelude.{◌≡◌, ◌<◌, ◌≤◌, ◌*◌, ◌↔◌, ◌^◌, [], IfOk, IsTrue, List, None};
+ghost use Rattle.std.specs.Prelude.{OnOk, drop, false, is_some, length, slice_get, true};
 ghost use Rattle.std.specs.Option.{option_map};
 ghost use Rattle.l4_model.specs.Machine.{Machine as MachineOfModel};
 ghost use Rattle.l4_model.specs.Steps.{Step as ModelStep};
 ghost use Rattle.l4_model.specs.Words.{period_limit};
-ghost use Rattle.l4_core_model.specs.Runs.{Run, Ticks, Turns, at_rest, opening_run, told};
-ghost use Rattle.l4_core_model.specs.Schedules.{TickOf, attempts};
+ghost use Rattle.l4_core_model.specs.Runs.{Run, Ticks, Turns, opening_run, told};
+ghost use Rattle.l4_core_model.specs.Schedules.{attempts};
 ghost use Rattle.l4_core_model.specs.Turns.{advance, is_busy, turn};
-ghost use Rattle.l4_merge.specs.Rounds.{IsInRounds};
 ghost use Rattle.l4_types.specs.declared.reports.Ending.TheVariants.{Quiet};
 ghost use Rattle.l4_core.specs.EventBuffers.{IsOpen};
-ghost use Rattle.l4_replay.specs.Entries.{after_entry, entry_from, is_entry, most_turns};
+ghost use Rattle.l4_replay.specs.Entries.{most_turns};
 ghost use Rattle.l4_machine.specs.Outcomes.{IsOutcomeOf};
 ghost use Rattle.l4_told.specs.Told.{findings_with};
-ghost use Rattle.l4_told.specs.Inner.Kept.{begins};
 ghost use Rattle.l4_told.specs.Inner.Alone.{GoesOn, GoesOnInRounds, HasCome, HasEnded, HasRun};
-ghost use Rattle.l4_told.specs.Inner.Alone.{HasTold, HasToldAnd, IsEventOf, Rests, kept_steps};
+ghost use Rattle.l4_told.specs.Inner.Alone.{HasTold, IsEventOf, Rests};
+ghost use Rattle.l4_told.specs.Inner.Kept.{steps_in};
 
 use crate::final_state::FinalState;
-use l4_core::event_buffer::EventBuffer;
+use crate::kept_steps::KeptSteps;
 use l4_core::processor::Core;
-use l4_history::history::History;
 use l4_replay::homes::OwnerView;
 use l4_replay::waiting::Search;
-use l4_replay::{Entry, Listener, law_core_run};
+use l4_replay::{Listener, law_core_run};
 use l4_script::machine::Machine;
 use l4_types::errors::NoMemory;
-use l4_types::ids::ThreadId;
 use l4_types::reports::Ending;
-use l4_types::step_ref::StepRef;
-use l4_types::steps::Name;
 use std::alloc::Global;
 
-// So many steps are kept until they are told.
-const KEPT_STEPS: usize = 131_072;
-
-/// The only processor of a machine, with the steps that are kept until a listener hears them.
+/// The only processor of a machine in a run whose history is told.
 #[derive(Drop)]
 pub(crate) struct Alone<'m> {
     machine: &'m Machine,
     core: Core<'m>,
-    // The first of its steps begin the sends that were undecided when steps were told last. They
-    // are there for the search for those that are undecided later.
-    buffer: EventBuffer<History>,
-    // Where the steps begin that are to be told.
-    untold: usize,
+    kept: KeptSteps,
     events: u64,
 }
 
@@ -61,8 +49,7 @@ impl<'m> Alone<'m> {
         Ok(Alone {
             machine,
             core,
-            buffer: EventBuffer::new(History::new(alloc)),
-            untold: 0,
+            kept: KeptSteps::new(alloc),
             events: 0,
         })
     }
@@ -95,7 +82,7 @@ impl<'m> Alone<'m> {
     fn go_on(&mut self) -> bool
         requires run { HasRun self.old }
         requires few { self.old.events < most_turns }
-        requires open { IsOpen self.old.buffer }
+        requires open { IsOpen self.old.kept.buffer }
         requires clock { self.old.core.local.clock ≤ self.old.events * period_limit }
         ensures on { IsTrue result → GoesOnInRounds self.old self.new }
         ensures clock { IsTrue result →
@@ -111,61 +98,18 @@ impl<'m> Alone<'m> {
         }
     }
 
-    /// Does what an entry asks for, if it can be done.
-    pub(crate) fn take<L: Listener>(
-        &mut self,
-        alloc: Global,
-        entry: Entry,
-        listener: &mut L,
-    ) -> Result<(), NoMemory>
-        requires run { HasRun self.old }
-        requires few { self.old.events < 2 ^ 61 }
-        requires lawful { is_entry self.old.machine.now (entry_from entry) ≡ true }
-        ensures told { OnOk result (HasToldAnd (after_entry (entry_from entry))
-            (λ steps. L.hears listener.old steps listener.new) self.old self.new) }
-        ensures machine { self.new.machine.now ≡ self.old.machine.now }
-    {
-        self.make_room(alloc, listener)?;
-        self.attempt(entry);
-        Ok(())
-    }
-
-    // Does what an entry asks for as the event that has begun, if it can be done.
-    fn attempt(&mut self, entry: Entry)
-        requires run { HasRun self.old }
-        requires few { self.old.events < 2 ^ 61 }
-        requires open { IsOpen self.old.buffer }
-        requires lawful { is_entry self.old.machine.now (entry_from entry) ≡ true }
-        ensures goes { GoesOn (after_entry (entry_from entry)) self.old self.new }
-        ensures machine { self.new.machine.now ≡ self.old.machine.now }
-    {
-        match entry {
-            Entry::Turn(_) => {
-                self.turn();
-            }
-            Entry::Core(_) => {
-                self.turn();
-            }
-            Entry::Tick(_) => self.tick(),
-            Entry::TickTo { clock, .. } => {
-                self.advance(clock);
-            }
-            Entry::Letter { .. } => {}
-        }
-    }
-
     // Begins an event, with room for its steps.
     #[inline(always)]
     fn make_room<L: Listener>(&mut self, alloc: Global, listener: &mut L) -> Result<(), NoMemory>
         requires { HasRun self.old }
         ensures told { OnOk result (HasTold (λ steps. L.hears listener.old steps listener.new)
             self.old self.new) }
-        ensures open { OnOk result (IsOpen self.new.buffer) }
+        ensures open { OnOk result (IsOpen self.new.kept.buffer) }
         ensures events { self.new.events ≡ self.old.events }
         ensures core { self.new.core ≡ self.old.core }
         ensures machine { self.new.machine.now ≡ self.old.machine.now }
     {
-        if self.buffer.start() < KEPT_STEPS {
+        if !self.kept.are_many() {
             return self.begin();
         }
         self.tell(alloc, listener)?;
@@ -176,12 +120,12 @@ impl<'m> Alone<'m> {
     #[inline(always)]
     fn begin(&mut self) -> Result<(), NoMemory>
         ensures same { OnOk result (GoesOn (λ m r. r) self.old self.new) }
-        ensures open { OnOk result (IsOpen self.new.buffer) }
+        ensures open { OnOk result (IsOpen self.new.kept.buffer) }
         ensures events { self.new.events ≡ self.old.events }
         ensures core { self.new.core ≡ self.old.core }
         ensures machine { self.new.machine.now ≡ self.old.machine.now }
     {
-        self.buffer.begin()
+        self.kept.begin()
     }
 
     // Takes the turn of the processor. Returns whether there was anything to do.
@@ -189,7 +133,7 @@ impl<'m> Alone<'m> {
     fn turn(&mut self) -> bool
         requires run { HasRun self.old }
         requires few { self.old.events < 2 ^ 61 }
-        requires open { IsOpen self.old.buffer }
+        requires open { IsOpen self.old.kept.buffer }
         ensures goes { GoesOn (λ m r. attempts m r (Turns 0)) self.old self.new }
         ensures did { result ≡
             is_some (turn self.old.core.machine self.old.core.cpu self.old.core.local) }
@@ -198,7 +142,7 @@ impl<'m> Alone<'m> {
             (turn self.old.core.machine self.old.core.cpu self.old.core.local) self.old self.new }
         ensures machine { self.new.machine.now ≡ self.old.machine.now }
     {
-        match self.core.turn_into(&mut self.buffer) {
+        match self.core.turn_into(&mut self.kept.buffer) {
             Some(_) => {
                 self.events += 1;
                 true
@@ -207,24 +151,11 @@ impl<'m> Alone<'m> {
         }
     }
 
-    // The clock goes on to the least deadline, if it is above the clock.
-    fn tick(&mut self)
-        requires run { HasRun self.old }
-        requires few { self.old.events < 2 ^ 61 }
-        requires open { IsOpen self.old.buffer }
-        ensures goes { GoesOn (after_entry (TickOf 0)) self.old self.new }
-        ensures machine { self.new.machine.now ≡ self.old.machine.now }
-    {
-        if let Some(deadline) = self.core.least_deadline() {
-            self.advance(deadline);
-        }
-    }
-
     // The clock goes on to this value, in ticks, if it may. Returns whether it did.
     fn advance(&mut self, to: u64) -> bool
         requires run { HasRun self.old }
         requires few { self.old.events < 2 ^ 61 }
-        requires open { IsOpen self.old.buffer }
+        requires open { IsOpen self.old.kept.buffer }
         ensures goes { GoesOn (λ m r. attempts m r (Ticks 0 to)) self.old self.new }
         ensures did { result ≡
             is_some (advance self.old.core.machine self.old.core.cpu to self.old.core.local) }
@@ -233,7 +164,7 @@ impl<'m> Alone<'m> {
             self.old self.new }
         ensures machine { self.new.machine.now ≡ self.old.machine.now }
     {
-        match self.core.advance_into(to, &mut self.buffer) {
+        match self.core.advance_into(to, &mut self.kept.buffer) {
             Ok(_) => {
                 self.events += 1;
                 true
@@ -252,22 +183,19 @@ impl<'m> Alone<'m> {
         ensures core { self.new.core ≡ self.old.core }
         ensures machine { self.new.machine.now ≡ self.old.machine.now }
     {
-        self.tell_left(listener)?;
+        self.kept.tell(listener)?;
         let state = self.final_state(alloc)?;
-        let begun = begun_history(alloc, state.waiting.as_slice())?;
-        self.untold = begun.len();
-        self.buffer = EventBuffer::new(begun);
-        Ok(())
+        self.kept.forget(alloc, state.waiting.as_slice())
     }
 
     /// Tells the steps that are to be told.
     pub(crate) fn tell_left<L: Listener>(&self, listener: &mut L) -> Result<(), NoMemory>
-        requires { self.now.untold ≤ length (kept_steps self.now) }
+        requires { self.now.kept.marks.untold ≤ length (steps_in self.now.kept) }
         ensures { OnOk result
-            (L.hears listener.old (drop self.now.untold (kept_steps self.now)) listener.new) }
+            (L.hears listener.old (drop self.now.kept.marks.untold (steps_in self.now.kept))
+            listener.new) }
     {
-        let history = self.buffer.sink();
-        listener.hear(history.steps_between(self.untold, history.len()))
+        self.kept.tell(listener)
     }
 
     /// Where it has come to.
@@ -281,7 +209,7 @@ impl<'m> Alone<'m> {
         let cores = [&self.core];
         let at_home = OwnerView::new(alloc, self.machine, &cores)?;
         let search = Search::new(self.machine, &at_home);
-        let waiting = search.of_history(alloc, self.buffer.sink())?;
+        let waiting = search.of_history(alloc, self.kept.history())?;
         Ok(FinalState {
             waiting,
             ending: self.ending(),
@@ -302,16 +230,4 @@ impl<'m> Alone<'m> {
             Ending::Spent
         }
     }
-}
-
-// The steps that begin these sends.
-fn begun_history(alloc: Global, sends: &[(Name, ThreadId)]) -> Result<History, NoMemory>
-    ensures { IfOk result (λ history. history.steps ≡ begins sends.now) }
-{
-    let mut history = History::new(alloc);
-    for (name, _) in sends {
-        history.reserve()?;
-        history.push(StepRef::Begin(*name));
-    }
-    Ok(history)
 }

@@ -2,10 +2,11 @@
 //! what is returned is where the run ended.
 //!
 //! Contracts say that some history was told, and that with it the findings are those of a run or
-//! replay of `l4_machine`, with all laws. A machine of one processor keeps no log and at most some
-//! 131,000 steps, with the words of their messages; once it has so many, what a run of it takes in
-//! memory grows no further. Of several processors the logs are kept, as their events are merged or
-//! told in their order.
+//! replay of `l4_machine`, with all laws. A machine of one processor, and each replay, keeps no log
+//! and at most some 131,000 steps, with the words of their messages; once it has so many, what it
+//! takes in memory grows no further. Two keep more: a run of several processors keeps their logs,
+//! as their events are merged at the end, and a replay of several, once a thread is deleted, keeps
+//! all steps.
 //!
 //! ```rust
 //! let mut history = History::new(alloc);
@@ -16,6 +17,9 @@
 
 mod alone;
 mod final_state;
+mod kept_steps;
+mod node;
+mod processors;
 mod told;
 
 pub use final_state::{FinalState, parts_of};

@@ -1,7 +1,8 @@
 //! Runs and replays whose history is told.
-ghost use Rattle.std.specs.Prelude.{◌≡◌, ◌⊎◌, ◌↔◌, ◌<◌, ◌≤◌, IfErr, IfOk, IsErrOf, List, None, OnOk};
-ghost use Rattle.std.specs.Prelude.{Some, length, map};
+ghost use Rattle.std.specs.Prelude.{◌≡◌, ◌⊎◌, ◌↔◌, ◌<◌, ◌≤◌, IfErr, IfOk, IfSome, IsErrOf, List};
+ghost use Rattle.std.specs.Prelude.{None, OnOk, Some, length, map};
 ghost use Rattle.l4_model.specs.Steps.{Step as ModelStep};
+ghost use Rattle.l4_core_model.specs.Runs.{told};
 ghost use Rattle.l4_core_model.specs.Schedules.{replay_entries};
 ghost use Rattle.l4_replay.specs.Entries.{entries_fault, entry_from, first_stranger, most_events};
 ghost use Rattle.l4_replay.specs.Entries.{most_turns, turns_fault};
@@ -10,6 +11,7 @@ ghost use Rattle.l4_told.specs.Told.{findings_with};
 
 use crate::alone::Alone;
 use crate::final_state::{FinalState, parts_of};
+use crate::processors::Processors;
 use l4_machine::{replay_compact, run_compact};
 use l4_proc::gate::Open;
 use l4_replay::{Entry, Listener, MOST_EVENTS, MOST_TURNS, RunFault};
@@ -85,39 +87,40 @@ pub fn replay_told<L: Listener>(
     if entries.len() > MOST_EVENTS {
         return Err(RunFault::Turns);
     }
-    if machine.cpus() == 1 {
-        return replay_alone(alloc, machine, entries, listener);
+    match told_replay(alloc, machine, entries, listener)? {
+        Some(state) => Ok(state),
+        None => Ok(parts_of(replay_compact(alloc, machine, entries)?).1),
     }
-    let outcome = replay_compact(alloc, machine, entries)?;
-    let (history, state) = parts_of(outcome);
-    history.tell(alloc, listener)?;
-    Ok(state)
 }
 
-fn replay_alone<L: Listener>(
+// Tells a listener the history of a replay, and returns where it ended. None where that is not
+// known from the processors alone.
+fn told_replay<L: Listener>(
     alloc: Global,
     machine: &Machine,
     entries: &[Entry],
     listener: &mut L,
-) -> Result<FinalState, RunFault>
-    requires one { machine.now.cpus ≡ 1 }
-    requires few { length entries.now ≤ most_events }
-    ensures ok { IfOk result (λ state. (history : List ModelStep) ×
+) -> Result<Option<FinalState>, RunFault>
+    requires { length entries.now ≤ most_events }
+    ensures told { OnOk result (L.hears listener.old
+        (told (replay_entries machine.now (map entry_from entries.now)).events) listener.new) }
+    ensures ok { IfOk result (λ state. IfSome state (λ s.
         IsOutcomeOf machine.now (replay_entries machine.now (map entry_from entries.now))
-        (findings_with history state) × L.hears listener.old history listener.new) }
+        (findings_with
+        (told (replay_entries machine.now (map entry_from entries.now)).events) s))) }
     ensures lawful { OnOk result
         (first_stranger machine.now 1 (map entry_from entries.now) ≡ None) }
     ensures err { IfErr result (λ fault. (fault ≡ RunFault.NoMemory) ⊎
         (entries_fault machine.now (map entry_from entries.now) ≡ Some fault)) }
     ensures turns { IsErrOf result RunFault.Turns → ⊥ }
 {
-    let mut alone = Alone::new(alloc, machine)?;
+    let mut processors = Processors::new(alloc, machine)?;
     for (place, entry) in entries.iter().enumerate() {
         if !entry.is_of(machine) {
             return Err(RunFault::Schedule(place + 1));
         }
-        alone.take(alloc, *entry, listener)?;
+        processors.take(alloc, *entry, listener)?;
     }
-    alone.tell_left(listener)?;
-    Ok(alone.final_state(alloc)?)
+    processors.tell_left(listener)?;
+    Ok(processors.into_final_state(alloc)?)
 }

@@ -33,6 +33,7 @@ impl Core<'_> {
     ///
     /// `Mail`: the letter is not lawful here. `Stamp`: else, where the next stamp would reach 2^62.
     /// Nothing is changed then. Condition: `buffer` has begun an event that has no step yet.
+    #[inline(always)]
     pub fn handle_into<S: Sink>(
         &mut self,
         letter: &LetterRef<'_>,

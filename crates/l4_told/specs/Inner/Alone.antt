@@ -1,26 +1,14 @@
 -- A processor that is alone in its machine, and the core run that it has come to.
-use Rattle.std.specs.Prelude.{◌≡◌, ◌⊎◌, ◌+◌, ◌<◌, ◌≤◌, ℕ, true, Option, Some, List, ◌∷◌, [], ◌++◌, length}
+use Rattle.std.specs.Prelude.{◌≡◌, ◌⊎◌, ◌+◌, ◌<◌, ◌≤◌, ℕ, true, Option, Some, List, ◌++◌, length}
 use Rattle.l4_model.specs.Machine.{Machine}
 use Rattle.l4_model.specs.Steps.{Step}
-use Rattle.l4_model.specs.World.{Name}
-use Rattle.l4_model.specs.Laws.{begins_of}
 use Rattle.l4_core_model.specs.Acts.{Work}
 use Rattle.l4_core_model.specs.Runs.{Run, at_rest, told}
 use Rattle.l4_merge.specs.Rounds.{IsInRounds}
 use Rattle.l4_core.specs.Inner.Turning.{work}
-use Rattle.l4_told.specs.Inner.Kept.{Keeps}
+use Rattle.l4_told.specs.Inner.Kept.{IsToldTo}
 use Rattle.l4_told.specs.Inner.OfOne.{IsRunOfOne}
 use Rattle.l4_told.specs.declared.alone.Alone.{Alone}
-
--- The steps that are kept.
-abbrev pub kept_steps : Alone → List Step
-kept_steps a = a.buffer.before ++ a.buffer.steps
-
--- What is kept of the steps that were told: what begins their undecided sends. No send is begun
--- there more often.
-pub record IsKept (m : Machine) (kept told : List Step) : Type 0 where
-  pub keeps : Keeps m kept told
-  pub once : (more : List Step) (s : Name) → begins_of s (kept ++ more) ≤ begins_of s (told ++ more)
 
 -- The processor is where this core run ends. The steps `before` were told, those left are kept.
 pub record HasCome (m : Machine) (r : Run) (before : List Step) (a : Alone) : Type 0 where
@@ -29,12 +17,7 @@ pub record HasCome (m : Machine) (r : Run) (before : List Step) (a : Alone) : Ty
   pub core_machine : a.core.machine ≡ m
   pub number : a.core.cpu ≡ 0
   pub events : a.events ≡ length r.events
-  pub kept : List Step
-  pub left : List Step
-  pub is_kept : IsKept m kept before
-  pub parts : kept_steps a ≡ kept ++ left
-  pub untold : a.untold ≡ length kept
-  pub told_are : told r.events ≡ before ++ left
+  pub telling : IsToldTo m (told r.events) before a.kept
 
 -- It is where some core run ends.
 abbrev pub HasRun : Alone → Type 0
@@ -50,15 +33,9 @@ abbrev pub HasTold : (List Step → Type 0) → (old new : Alone) → Type 0
 HasTold hears old new = (m : Machine) (r : Run) (before : List Step) → HasCome m r before old →
     (more : List Step) × HasCome m r (before ++ more) new × hears more
 
--- The same, and the run went on.
-abbrev pub HasToldAnd : (Machine → Run → Run) → (List Step → Type 0) → (old new : Alone) → Type 0
-HasToldAnd next hears old new = (m : Machine) (r : Run) (before : List Step) →
-    HasCome m r before old →
-    (more : List Step) × HasCome m (next m r) (before ++ more) new × hears more
-
 -- This event was the next one.
 pub record IsEventOf (event : Option Work) (old new : Alone) : Type 0 where
-  pub is : event ≡ Some (work new.core.local new.buffer)
+  pub is : event ≡ Some (work new.core.local new.kept.buffer)
   pub events : new.events ≡ old.events + 1
 
 -- A run in rounds that has turns left went on by one event.

@@ -10,8 +10,8 @@ use Rattle.l4_jobs.proofs.Running.{asked_run_done, is_record}
 use Rattle.l4_jobs.proofs.Telling.{told_anew}
 use Rattle.l4_jobs.proofs.runs.run_done.Goals as goal
 
-pub returns-then-is_told-clause-ok : goal.returns-then-is_told-clause-ok
-returns-then-is_told-clause-ok g c =
+pub returns-then-is_told_of_run-clause-ok : goal.returns-then-is_told_of_run-clause-ok
+returns-then-is_told_of_run-clause-ok g c =
     let m = c.args.machine.now in
     let run = c.args.run.now in
     let found = c.in_ok-state.ensures in

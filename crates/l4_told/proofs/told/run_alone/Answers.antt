@@ -2,7 +2,7 @@ use Rattle.std.proofs.Common.{List, subst, sym}
 use Rattle.std.proofs.lemmas.Result.{IfOk-weaker}
 use Rattle.l4_model.specs.Steps.{Step}
 use Rattle.l4_core_model.specs.Runs.{told}
-use Rattle.l4_told.proofs.Coming.{left_is}
+use Rattle.l4_told.proofs.Telling.{left_is}
 use Rattle.l4_told.proofs.Rounds.{found}
 use Rattle.l4_told.proofs.told.run_alone.Goals as goal
 
@@ -21,10 +21,11 @@ returns g c =
       told ended.run.events,
       found m c.args.turns _ c.run.new.self _ ended is,
       subst (λ (steps : List Step). g.L.Listener.hears c.args.listener.now steps c.tell_left.new.listener)
-          (sym ended.come.told_are)
+          (sym ended.come.telling.told_are)
           (g.met.L.Listener.heard_both c.args.listener.now c.run.new.listener
-          c.tell_left.new.listener ended.before ended.come.left ended.heard
+          c.tell_left.new.listener ended.before ended.come.telling.left ended.heard
           (subst (λ (steps : List Step). g.L.Listener.hears c.run.new.listener steps c.tell_left.new.listener)
-          (left_is m ended.run ended.before c.run.new.self ended.come) c.in_ok-tell_left.ensures)),
+          (left_is m (told ended.run.events) ended.before c.run.new.self.kept ended.come.telling)
+          c.in_ok-tell_left.ensures)),
     ))
     (c.final_state.ensures m ended.run ended.before ended.come)

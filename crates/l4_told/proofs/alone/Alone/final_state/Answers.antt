@@ -5,16 +5,16 @@ use Rattle.l4_model.specs.Machine.{Machine}
 use Rattle.l4_model.specs.Steps.{Step}
 use Rattle.l4_replay.specs.Inner.Homes.{sent_waiting}
 use Rattle.l4_replay.specs.declared.homes.OwnerView.{OwnerView}
-use Rattle.l4_told.specs.Inner.Alone.{kept_steps}
-use Rattle.l4_told.proofs.Ended.{once, outcome}
+use Rattle.l4_told.specs.Inner.Kept.{steps_in}
+use Rattle.l4_told.proofs.Ended.{begun_once_here, outcome}
 use Rattle.l4_told.proofs.alone.Alone.final_state.Goals as goal
 
 pub of_history-requires-clause-once : goal.of_history-requires-clause-once
 of_history-requires-clause-once c = λ s.
     let has = c.requires in
     let come = has.3 in
-    subst (λ (steps : List Step). begins_of s steps ≤ 1) (sym c.sink.ensures)
-    (once has.0 has.1 has.2 c.args.self.now
+    subst (λ (steps : List Step). begins_of s steps ≤ 1) (sym c.history.ensures)
+    (begun_once_here has.0 has.1 has.2 c.args.self.now
     (c.law_core_run.ensures.lawful has.0 has.1 come.of_one.lawful come.of_one.core_run) come s)
 
 pub returns : goal.returns
@@ -31,7 +31,7 @@ returns c = λ m r before come.
     law come c.in_ok-at_home.ensures refl
     (c.in_ok-waiting.ensures
     ∙ ap (λ (steps : List Step). filter_map (sent_waiting c.new-search.result.machine.now
-    c.new-search.result.at_home.now.sends.items) steps) c.sink.ensures
-    ∙ ap₂ (λ (m : Machine) (a : OwnerView). filter_map (sent_waiting m a.sends.items) (kept_steps c.args.self.now))
+    c.new-search.result.at_home.now.sends.items) steps) c.history.ensures
+    ∙ ap₂ (λ (m : Machine) (a : OwnerView). filter_map (sent_waiting m a.sends.items) (steps_in c.args.self.now.kept))
     c.new-search.ensures.machine c.new-search.ensures.threads)
     refl c.ending.ensures

@@ -1,8 +1,8 @@
-use Rattle.std.proofs.Common.{◌≡◌, ◌+◌, ◌<◌, None, Some, refl, sym, subst, ap, ◌∙◌, true, false}
+use Rattle.std.proofs.Common.{◌≡◌, ◌+◌, ◌<◌, None, Some, sym, subst, ◌∙◌, true, false}
 use Rattle.std.specs.Prelude.{is_some}
 use Rattle.l4_core_model.specs.Turns.{advance, turn}
 use Rattle.l4_model.specs.Words.{period_limit}
-use Rattle.l4_told.specs.Inner.Alone.{GoesOn, GoesOnInRounds}
+use Rattle.l4_told.specs.Inner.Alone.{GoesOnInRounds}
 use Rattle.l4_told.specs.declared.alone.Alone.{Alone}
 use Rattle.l4_told.proofs.Rounds.{can_advance, clock_turned, least_of, none_done, rests_here, ticked_on, turned_on}
 use Rattle.l4_told.proofs.alone.Alone.go_on.Goals as goal

@@ -1,9 +1,9 @@
 use Rattle.l4_replay.proofs.Replays.{on_ok}
-use Rattle.l4_told.proofs.Coming.{told_and, told_nothing}
+use Rattle.l4_told.proofs.Coming.{told_nothing, told_then}
 use Rattle.l4_told.proofs.alone.Alone.make_room.Goals as goal
 
-pub returns-then-start-lt-KEPT_STEPS-clause-told : goal.returns-then-start-lt-KEPT_STEPS-clause-told
-returns-then-start-lt-KEPT_STEPS-clause-told g c =
+pub returns-then-not-are_many-clause-told : goal.returns-then-not-are_many-clause-told
+returns-then-not-are_many-clause-told g c =
     on_ok c.begin.result _ _
     (λ goes. told_nothing (λ steps. g.L.Listener.hears c.args.listener.now steps c.args.listener.now)
     c.args.self.now c.begin.new.self
@@ -13,7 +13,6 @@ returns-then-start-lt-KEPT_STEPS-clause-told g c =
 pub returns-clause-told : goal.returns-clause-told
 returns-clause-told g c =
     on_ok c.begin-2.result _ _
-    (λ goes. told_and (λ steps. g.L.Listener.hears c.args.listener.now steps c.tell.new.listener) (λ m r. r)
-    c.args.self.now c.tell.new.self
-    c.begin-2.new.self c.in_ok-tell.ensures.told goes)
+    (λ goes. told_then (λ steps. g.L.Listener.hears c.args.listener.now steps c.tell.new.listener)
+    c.args.self.now c.tell.new.self c.begin-2.new.self c.in_ok-tell.ensures.told goes)
     c.begin-2.ensures.same

@@ -1,8 +1,7 @@
-use Rattle.std.proofs.Common.{◌≡◌, ℕ, ◌++◌, List, arith, subst, sym}
-use Rattle.l4_model.specs.Steps.{Step}
+use Rattle.std.proofs.Common.{◌≡◌, ◌++◌, arith, subst, sym}
 use Rattle.l4_told.specs.Inner.Alone.{HasEnded}
 use Rattle.l4_told.specs.declared.alone.Alone.{Alone}
-use Rattle.l4_told.proofs.Rounds.{IsRunning, at_its_end, running_next, running_start, used_up}
+use Rattle.l4_told.proofs.Rounds.{IsRunning, at_its_end, running_next, used_up}
 use Rattle.l4_told.proofs.alone.Alone.run.Goals as goal
 
 pub go_on-requires-clause-run : goal.go_on-requires-clause-run

@@ -1,6 +1,5 @@
-use Rattle.std.proofs.Common.{refl, subst}
-use Rattle.l4_core.specs.Inner.Turning.{IsTurn}
-use Rattle.l4_told.proofs.Coming.{next_stamp_fits, turned_come, unturned_come}
+use Rattle.std.proofs.Common.{refl}
+use Rattle.l4_told.proofs.Coming.{next_stamp_fits, turned_come}
 use Rattle.l4_told.proofs.alone.Alone.turn.Goals as goal
 
 pub turn_into-requires-clause-stamp : goal.turn_into-requires-clause-stamp

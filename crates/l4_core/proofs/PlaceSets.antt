@@ -150,6 +150,12 @@ marks_emptied words filled row word long small marks none = re-marked words fill
     elsewhere : (other : ℕ) → other < 64 → (other ≡ row → ⊥) → (bit_at (bit_and filled (18446744073709551615 - 1 * 2 ^ row % 18446744073709551616)) other == 1) ≡ (bit_at filled other == 1)
     elsewhere other lt e = bits_without filled row other (omega (arith, small)) lt ∙ ap (λ b. (bit_at filled other == 1) && not b) (ne_eqb other row e) ∙ true_keeps _
 
+-- A set with no mark has no place.
+pub unmarked_has : (words : List ℕ) (filled place : ℕ) → MarksFilled filled words → filled ≡ 0 → place < 1024 → false ≡ has words place
+unmarked_has words filled place marks none small =
+    let bare : is_filled (get_or words (place / 64) 0) ≡ false = sym (marks (place / 64) (omega (arith, small))) ∙ zero_word filled (place / 64) none in
+    sym (zero_word (get_or words (place / 64) 0) (place % 64) (unfilled (get_or words (place / 64) 0) bare))
+
 -- The least place
 
 -- The lowest mark shows a word that has a place.

@@ -290,6 +290,7 @@ impl<'m> ProcessorState<'m> {
     }
 
     /// The place of the receiver of a split send. None if the send is not split.
+    #[inline(always)]
     pub(crate) fn split_place(&self, sender: usize) -> Option<usize>
         requires { sender < length self.now.machine.threads }
         ensures value { result ≡ split_place self.now.machine self.now.cpu self.now.local sender }

@@ -74,11 +74,14 @@ impl Places {
         }
     }
 
-    /// Whether a place is in.
+    /// Whether a place is in. Most sets that are asked are empty, which takes no look at a word.
     pub fn contains(&self, place: usize) -> bool
         requires { place < most_threads }
         ensures { result ≡ has self.now place }
     {
+        if self.filled == 0 {
+            return false;
+        }
         self.words[place / WIDTH] >> (place % WIDTH) & 1 == 1
     }
 

@@ -45,13 +45,18 @@ impl PostedWords {
         self.count = 0;
     }
 
-    /// Appends words. Most letters have none.
+    /// Appends words. Most letters have none, or one.
     #[inline(always)]
     pub(crate) fn append(&mut self, words: &[u64])
         requires { length self.old + length words.now ≤ 126 }
         ensures { self.new ≡ self.old ++ words.now }
     {
         if words.is_empty() {
+            return;
+        }
+        if let [word] = words {
+            self.row[self.count] = *word;
+            self.count += 1;
             return;
         }
         let end = self.count + words.len();

@@ -2,13 +2,13 @@
 use Rattle.std.proofs.Common.{◌≡◌, ℕ, ◌+◌, ◌*◌, ◌/◌, ◌%◌, ◌<◌, ◌≤◌, true, false, Option, None, Some, List, [], ◌∷◌, ◌++◌, length, get_or, take, drop, refl, ap, sym, subst, ◌∙◌, arith, length-append}
 use Rattle.std.specs.Prelude.{IsSome, is_some}
 use Rattle.std.specs.Option.{option_map}
-use Rattle.std.proofs.lemmas.List.{length-map, take-append-drop, take_more}
+use Rattle.std.proofs.lemmas.List.{take-append-drop, take_more}
 use Rattle.std.proofs.lemmas.Nat.{div-mul-add, mod-mul-add, mul-add-lt}
 use Rattle.std.proofs.Math.Nat.{mul_comm}
 use Rattle.l4_model.specs.Machine.{Machine}
 use Rattle.l4_model.specs.Conditions.{◌>>=◌}
 use Rattle.l4_model.proofs.Chains.{some_is}
-use Rattle.l4_core_model.specs.Runs.{Event, IsMachine, System, Run, opening_run, opening_system}
+use Rattle.l4_core_model.specs.Runs.{IsMachine, System, Run, opening_run, opening_system}
 use Rattle.l4_core_model.specs.Schedules.{Entry}
 use Rattle.l4_replay.specs.Entries.{after_entry as after_entry_of_run}
 use Rattle.l4_replay.specs.UnderWay.{UnderWay, GoesOn, HasRun, IsRun}
@@ -125,11 +125,8 @@ walked_on m s w v e cpus walked some count goes near =
 -- The next one of a list of choices
 
 -- as many events as there were choices
-pub order_length : (m : Machine) (s : List ℕ) (w : UnderWay) → IsWalked m s w →
-    length w.order ≡ length s
-order_length m s w walked =
-    ap length walked.is.events.order
-    ∙ length-map walked.run.events (λ (e : Event). e.cpu) ∙ walked.events
+pub events_count : (m : Machine) (s : List ℕ) (w : UnderWay) → IsWalked m s w → w.events ≡ length s
+events_count m s w walked = walked.is.events ∙ walked.events
 
 up_to : (m : Machine) (s : List ℕ) (i : ℕ) → AreChoices m s → AreChoices m (take i s)
 up_to m s i some =

@@ -1,5 +1,5 @@
 //! Core runs that choices lead to.
-ghost use Rattle.std.specs.Prelude.{◌≡◌, ◌<◌, ◌*◌, ◌+◌, ◌/◌, ◌%◌, ◌++◌, ◌∷◌, ◌^◌, [], IfOk, OnOk};
+ghost use Rattle.std.specs.Prelude.{◌≡◌, ◌<◌, ◌*◌, ◌+◌, ◌/◌, ◌%◌, ◌^◌, IfOk, OnOk};
 ghost use Rattle.std.specs.Prelude.{length};
 ghost use Rattle.l4_model.specs.Machine.{Machine as MachineOfModel};
 ghost use Rattle.l4_core_model.specs.Runs.{Run};
@@ -39,7 +39,7 @@ pub(crate) fn walk_to<'m>(
 /// `NoMemory`: memory was refused.
 pub(crate) fn make(walk: &mut Walk<'_>, cpus: u8, number: u32) -> Result<(), NoMemory>
     requires run { HasRun walk.old }
-    requires few { length walk.old.order < 2 ^ 61 }
+    requires few { walk.old.events < 2 ^ 61 }
     requires cpus { cpus ≡ walk.old.machine.cpus }
     requires most { cpus < 17 }
     requires number { number < cpus * (cpus + 2) }

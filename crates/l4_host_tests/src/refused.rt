@@ -326,7 +326,7 @@ fn goes_on(walk: &mut Walk<'_>, machine: &Machine, number: u8) -> Result<(), NoM
     ensures { OnOk result ((r : Run) × IsRun machine.now r walk.new) }
 {
     let entry = Entry::of_number(number);
-    if !entry.is_of(machine) || walk.events() >= SCHEDULE.len() {
+    if !entry.is_of(machine) || walk.events() >= SCHEDULE.len() as u64 {
         return Ok(());
     }
     walk.take(entry)

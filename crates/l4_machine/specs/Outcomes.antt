@@ -16,9 +16,8 @@ use Rattle.l4_types.specs.declared.reports.Ending.TheVariants.{Quiet}
 use Rattle.l4_types.specs.StepView.{step_of}
 use Rattle.l4_types.specs.ReportView.{report_of_view}
 use Rattle.l4_machine.specs.Gathers.{merged_steps}
-use Rattle.l4_replay.specs.Ordered.{told_steps}
 use Rattle.l4_machine.specs.declared.run_history.RunHistory.{RunHistory}
-use Rattle.l4_machine.specs.declared.run_history.RunHistory.TheVariants.{Steps, Logs, Ordered}
+use Rattle.l4_machine.specs.declared.run_history.RunHistory.TheVariants.{Steps, Logs}
 use Rattle.l4_machine.specs.declared.outcome.CompactOutcome.{CompactOutcome}
 use Rattle.l4_machine.specs.declared.outcome.Outcome.{Outcome}
 
@@ -39,11 +38,10 @@ findings_of o = record {
   turns = o.turns;
 }
 
--- The steps of a history: those that it has, or those of all logs, merged or in the order told.
+-- The steps of a history: those that it has, or those of all logs, merged.
 abbrev pub steps_of : RunHistory → List Step
 steps_of (Steps history) = history.steps
 steps_of (Logs logs) = merged_steps logs.machine.now logs.processors.items
-steps_of (Ordered logs) = told_steps logs
 
 abbrev pub compact_findings_of : CompactOutcome → Findings
 compact_findings_of o = record {

@@ -1,11 +1,10 @@
 //! The outcome of a run.
-ghost use Rattle.std.specs.Prelude.{ℕ, ◌≡◌, ◌↔◌, IfOk, IsTrue, length, map, true};
+ghost use Rattle.std.specs.Prelude.{ℕ, ◌≡◌, ◌↔◌, IfOk, IsTrue, length, true};
 ghost use Rattle.l4_model.specs.History.{IsHistory};
 ghost use Rattle.l4_model.specs.World.{Thread};
 ghost use Rattle.l4_core_model.specs.Runs.{Run, at_rest, told};
-ghost use Rattle.l4_types.specs.ReportView.{report_of_view};
 ghost use Rattle.l4_types.specs.declared.reports.Ending.TheVariants.{Quiet};
-ghost use Rattle.l4_replay.specs.Inner.Heard.{AreOfWorld, HaveRegisters};
+ghost use Rattle.l4_replay.specs.Inner.Heard.{AreOfWorld};
 ghost use Rattle.l4_replay.specs.Inner.Homes.{AreThreads};
 ghost use Rattle.l4_machine.specs.Outcomes.{IsOutcomeOf, IsSound, compact_findings_of, findings_of};
 ghost use Rattle.l4_machine.specs.Outcomes.{steps_of};
@@ -97,7 +96,7 @@ pub(crate) fn outcome_of<'m>(
         IsOutcomeOf machine.now r (compact_findings_of o)) }
 {
     law_begun_then_ended();
-    if are_known && have_registers(machine, &threads) {
+    if are_known && threads.have_registers(machine) {
         let waiting = history.waiting(alloc, &Search::new(machine, &threads))?;
         return Ok(CompactOutcome {
             history,
@@ -108,14 +107,6 @@ pub(crate) fn outcome_of<'m>(
         });
     }
     audited_outcome(alloc, machine, history.into_history(alloc)?, ending, turns)
-}
-
-// Whether the registers of these threads are those of the world where one was deleted.
-fn have_registers(machine: &Machine, threads: &OwnerView) -> bool
-    ensures { IsTrue result →
-        HaveRegisters machine.now (map report_of_view threads.now.threads.items) }
-{
-    machine.cpus() == 1 || threads.are_undeleted()
 }
 
 /// The outcome of a run with this history, ending and number of turns, with the undecided sends and

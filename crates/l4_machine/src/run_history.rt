@@ -5,8 +5,8 @@ ghost use Rattle.l4_replay.specs.Inner.Waiting.{sought, AreBegunOnce, IsSearch};
 
 use crate::logs::Logs;
 use l4_history::history::History;
+use l4_replay::Listener;
 use l4_replay::waiting::Search;
-use l4_replay::{Listener, OrderedLogs};
 use l4_types::errors::NoMemory;
 use l4_types::ids::ThreadId;
 use l4_types::steps::Name;
@@ -19,8 +19,6 @@ pub enum RunHistory<'m> {
     Steps(History),
     /// The logs of several processors, which are merged.
     Logs(Logs<'m>),
-    /// The logs of a replay, with the order of their events.
-    Ordered(OrderedLogs<'m>),
 }
 
 impl RunHistory<'_> {
@@ -33,7 +31,6 @@ impl RunHistory<'_> {
         match self {
             RunHistory::Steps(history) => listener.hear(history.steps()),
             RunHistory::Logs(logs) => logs.tell(alloc, listener),
-            RunHistory::Ordered(logs) => logs.tell(alloc, listener),
         }
     }
 
@@ -45,7 +42,6 @@ impl RunHistory<'_> {
         match self {
             RunHistory::Steps(history) => Ok(history),
             RunHistory::Logs(logs) => logs.to_history(alloc),
-            RunHistory::Ordered(logs) => logs.to_history(alloc),
         }
     }
 
@@ -63,7 +59,6 @@ impl RunHistory<'_> {
         match self {
             RunHistory::Steps(history) => search.of_history(alloc, history),
             RunHistory::Logs(logs) => logs.waiting(alloc, search),
-            RunHistory::Ordered(logs) => logs.waiting(alloc, search),
         }
     }
 }

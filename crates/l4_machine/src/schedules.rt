@@ -9,8 +9,7 @@ ghost use Rattle.l4_machine.specs.Outcomes.{compact_findings_of, findings_of};
 use crate::outcome::{CompactOutcome, Outcome, outcome_of};
 use crate::run_history::RunHistory;
 use l4_replay::entries::entries_of;
-use l4_replay::scheduler::Scheduler;
-use l4_replay::schedules::take_all;
+use l4_replay::schedules::{EndedReplay, ended_replay};
 use l4_replay::{Entry, MOST_ENTRIES, MOST_EVENTS, RunFault, law_core_run};
 use l4_script::machine::Machine;
 use std::alloc::Global;
@@ -28,20 +27,19 @@ fn outcome_of_entries<'m>(
         (entries_fault machine.now (map entry_from entries.now) ≡ Some fault)) }
 {
     law_core_run();
-    let mut run = Scheduler::new(alloc, machine)?;
-    take_all(&mut run, machine, entries)?;
-    let turns = run.events();
-    let ending = run.ending();
-    let threads = run.in_world(alloc)?;
-    let logs = run.into_logs();
+    let EndedReplay {
+        processors,
+        history,
+    } = ended_replay(alloc, machine, entries)?;
+    let threads = processors.in_world(alloc)?;
     Ok(outcome_of(
         alloc,
         machine,
-        RunHistory::Ordered(logs),
+        RunHistory::Steps(history),
         threads,
         true,
-        ending,
-        turns as u64,
+        processors.ending(),
+        processors.events(),
     )?)
 }
 

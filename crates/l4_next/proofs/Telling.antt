@@ -157,6 +157,17 @@ as_goes_on m g e = by (entry_event m g e)
     by (Some a) = here (happens m g a)
 
 -- Where the list is lawful and has room for an entry more, there is something to tell.
+none_mapped : {A B : Type 0} (f : A → B) (o : Option A) → option_map f o ≡ None → o ≡ None
+none_mapped f None none = refl
+none_mapped f (Some x) none = cc
+
+pub no_stranger : (m : Machine) (es : List Entry) → length es < most_events → entries_fault m es ≡ None →
+    first_stranger m 1 es ≡ None
+no_stranger m es few lawful =
+    none_mapped Schedule (first_stranger m 1 es)
+    (sym (ap (λ b. cond b (Some Turns) (option_map Schedule (first_stranger m 1 es)))
+    (le-ltb most_events (length es) (omega (arith, few)))) ∙ lawful)
+
 pub none_faulty : (m : Machine) (es : List Entry) → length es < most_events → entries_fault m es ≡ None →
     nexts_fault m es ≡ None
 none_faulty m es few lawful =

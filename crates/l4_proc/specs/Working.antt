@@ -130,10 +130,6 @@ pub record IsUnready (old new : Processor) : Type 0 where
   pub hand : new.worker.hand ≡ old.worker.hand
   pub log : IsSameLog old.worker.log new.worker.log ⊎ HasBegun old.worker.log new.worker.log
 
--- The same worker, with this letter of a poster in hand.
-abbrev pub with_in_hand : (from : ℕ) → Letter → Worker → Worker
-with_in_hand from letter w = record w { hand = Some (from, letter) }
-
 -- The letter in hand was handled, or the core's turn taken.
 pub record HasDone (old new : Worker) (stamp : ℕ) : Type 0 where
   pub event : IsEvent (work_of old.core.machine old.core.cpu old.core.local

@@ -10,7 +10,6 @@ use l4_core::event_buffer::EventBuffer;
 use l4_history::history::History;
 use l4_history::steps::Steps;
 use l4_types::errors::NoMemory;
-use l4_types::letter_ref::LetterRef;
 use l4_types::letters::Letter;
 use std::alloc::Global;
 
@@ -183,21 +182,6 @@ impl Log {
         ensures { (result ≡ false) ↔ (self.now.buffer.letters ≡ []) }
     {
         self.buffer.has_letters()
-    }
-
-    // The first letter that is left of the current event, with the processor that it goes to.
-    pub(crate) fn first_letter(&self) -> Option<(u8, LetterRef<'_>)>
-        ensures { result ≡ slice_get self.now.buffer.letters 0 }
-    {
-        self.buffer.first_letter()
-    }
-
-    // Takes out the first letter that is left of the current event, if there is one.
-    pub(crate) fn drop_letter(&mut self)
-        ensures letters { self.new.buffer.letters ≡ drop 1 self.old.buffer.letters }
-        ensures same { HasLetters self.old self.new }
-    {
-        self.buffer.drop_letter();
     }
 
     // Takes out the first letter that is left of the current event, with a copy of its words.

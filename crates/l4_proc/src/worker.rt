@@ -12,7 +12,6 @@ use crate::stops::{ProcFault, Stop};
 use l4_core::event_buffer::EventBuffer;
 use l4_core::processor::{Core, Fault};
 use l4_history::history::History;
-use l4_types::errors::NoMemory;
 use l4_types::letter_ref::LetterRef;
 use l4_types::letters::Letter;
 use l4_types::steps::CLOCKS;
@@ -105,8 +104,7 @@ fn turn(core: &mut Core<'_>, buffer: &mut EventBuffer<History>) -> Result<u64, S
 
 impl<'m> Worker<'m> {
     ghost use Rattle.std.specs.Prelude.{ℕ, ◌≡◌, ◌↔◌, ◌<◌, [], false, true, IfErr};
-    ghost use Rattle.std.specs.Prelude.{IfOk, IsErrOf, IsSome, None, OnErr, OnOk, Some, drop, is_some};
-    ghost use Rattle.std.specs.Prelude.{slice_get};
+    ghost use Rattle.std.specs.Prelude.{IfOk, IsErrOf, IsSome, None, OnErr, OnOk, is_some};
     ghost use Rattle.l4_core_model.specs.Runs.{IsMachine};
     ghost use Rattle.l4_core_model.specs.Turns.{advance, can_stamp};
     ghost use Rattle.l4_core.specs.EventBuffers.{IsOpen};
@@ -114,9 +112,8 @@ impl<'m> Worker<'m> {
     ghost use Rattle.l4_merge.specs.Transitions.{action_of};
     ghost use Rattle.l4_proc.specs.Choices.{action_in};
     ghost use Rattle.l4_proc.specs.Inner.Events.{event_in_hand, IsRefused};
-    ghost use Rattle.l4_proc.specs.Logs.{all_steps, HasBegun, HasLetters, IsSameLog};
+    ghost use Rattle.l4_proc.specs.Logs.{all_steps};
     ghost use Rattle.l4_proc.specs.Working.{HasDone, HasTakenTurn, HasTickedTo, IsSameWorker};
-    ghost use Rattle.l4_proc.specs.Working.{with_in_hand};
 
     /// A processor that has done nothing, without a port. It takes no memory.
     pub fn new(alloc: Global, core: Core<'m>) -> Worker<'m>
@@ -158,17 +155,6 @@ impl<'m> Worker<'m> {
         self.hand.is_some()
     }
 
-    /// Makes room for an event, and begins it.
-    pub fn begin(&mut self) -> Result<(), NoMemory>
-        ensures core { self.new.core ≡ self.old.core }
-        ensures hand { self.new.hand ≡ self.old.hand }
-        ensures stop { self.new.stop ≡ self.old.stop }
-        ensures ok { OnOk result (HasBegun self.old.log self.new.log) }
-        ensures err { OnErr result (IsSameLog self.old.log self.new.log) }
-    {
-        self.log.begin()
-    }
-
     /// Takes a turn as the event that has begun: handles the letter in hand, else takes the core's
     /// turn. If the turn is not taken, core and letter stay.
     pub fn take_turn(&mut self) -> Result<(), Stop>
@@ -183,22 +169,6 @@ impl<'m> Worker<'m> {
         let choice = self.next_choice();
         let stamp = self.go_on()?;
         self.log.end_turn(stamp, choice);
-        Ok(())
-    }
-
-    /// Takes a turn as the event that has begun: handles this letter, which processor `from` posted.
-    /// It is left where it lies. If it is not handled, nothing is changed.
-    pub fn handle(&mut self, from: u8, letter: &LetterRef<'_>) -> Result<(), Stop>
-        requires open { IsOpen self.old.log.buffer }
-        requires room { 0 < self.old.log.ends.room }
-        requires empty { self.old.hand ≡ None }
-        ensures ok { OnOk result (HasTakenTurn (with_in_hand from letter.now self.old) self.new) }
-        ensures err { OnErr result (IsSameWorker self.old self.new) }
-        ensures why { IfErr result (λ stop.
-            IsRefused self.old.core (Some (from, letter.now)) stop) }
-    {
-        let stamp = handle(&mut self.core, letter, &mut self.log.buffer)?;
-        self.log.end_turn(stamp, letter_number(from));
         Ok(())
     }
 
@@ -231,25 +201,6 @@ impl<'m> Worker<'m> {
             }
             None => turn(&mut self.core, &mut self.log.buffer),
         }
-    }
-
-    /// The first letter that is left of those that the last event posted, with the processor that it
-    /// goes to.
-    pub fn first_letter(&self) -> Option<(u8, LetterRef<'_>)>
-        ensures { result ≡ slice_get self.now.log.buffer.letters 0 }
-    {
-        self.log.first_letter()
-    }
-
-    /// Takes out the first letter that is left of those that the last event posted, if there is one.
-    pub fn drop_letter(&mut self)
-        ensures core { self.new.core ≡ self.old.core }
-        ensures hand { self.new.hand ≡ self.old.hand }
-        ensures stop { self.new.stop ≡ self.old.stop }
-        ensures letters { self.new.log.buffer.letters ≡ drop 1 self.old.log.buffer.letters }
-        ensures log { HasLetters self.old.log self.new.log }
-    {
-        self.log.drop_letter();
     }
 
     /// Advances the clock to this value, in ticks: one event more, which posts and takes no letter.

@@ -12,8 +12,7 @@ use Rattle.l4_core_model.specs.Local.{Local, declared, thread}
 use Rattle.l4_core_model.specs.Runs.{System}
 use Rattle.l4_core.specs.Processor.{Processor as Core}
 use Rattle.l4_refines.specs.Laws.{home_report, home_thread, thread_of}
-use Rattle.l4_replay.specs.declared.station.Station as program
-use Rattle.l4_replay.specs.Stations.{Station, station_of}
+use Rattle.l4_replay.specs.Stations.{Station}
 use Rattle.l4_replay.specs.UnderWay.{IsSystem}
 use Rattle.l4_replay.specs.declared.homes.LastSend.{LastSend}
 use Rattle.l4_replay.specs.Inner.Homes.{last_send, locals_of, AreAllOf}
@@ -52,7 +51,3 @@ pub send_there : (m : Machine) (cores : List Core) (i : ℕ) (c : Core) (send : 
     slice_get cores (declared m i).cpu ≡ Some c →
     send ≡ last_send (thread c.local i) → send ≡ last_send (home_thread m (locals_of cores) i)
 send_there m cores i c send at is = is ∙ ap last_send (sym (home_there m cores i c at))
-
-pub cores_mapped : (ss : List program.Station) → map (λ (s : program.Station). s.worker.core) ss ≡ map (λ (s : Station). s.core) (map station_of ss)
-cores_mapped [] = refl
-cores_mapped (s ∷ ss) = ap (λ (cores : List Core). s.worker.core ∷ cores) (cores_mapped ss)

@@ -1,11 +1,11 @@
 -- What the last steps or events begin is all that is sought, where it is as much as there is.
-use Rattle.std.proofs.Common.{◌≡◌, ℕ, zero, suc, ◌+◌, ◌-◌, ◌<◌, ◌≤◌, Bool, true, false, cond, Option, Some, None, List, [], ◌∷◌, ◌++◌, set, refl, drop, take, length, length-append, append_assoc, reverse, ap, ap₂, sym, ◌∙◌, subst, inl, inr, ◌⊎◌, arith}
+use Rattle.std.proofs.Common.{◌≡◌, ℕ, zero, suc, ◌+◌, ◌-◌, ◌<◌, ◌≤◌, Bool, true, false, cond, Option, Some, None, List, [], ◌∷◌, ◌++◌, set, refl, drop, take, length, length-append, ap, ap₂, sym, ◌∙◌, subst, inl, inr, ◌⊎◌, arith}
 use Rattle.std.specs.Prelude.{IfSome, filter_map, get_or, is_some, slice_get, ◌==◌}
 use Rattle.std.specs.Option.{option_to_list}
 use Rattle.std.specs.List.{cons_option}
 use Rattle.std.proofs.lemmas.Bool.{eqb-true}
 use Rattle.std.proofs.lemmas.Bool.Decides.{nat_tests}
-use Rattle.std.proofs.lemmas.List.{drop_more, reverse-append, take_more, take-append-drop}
+use Rattle.std.proofs.lemmas.List.{drop_more, take_more, take-append-drop}
 use Rattle.std.proofs.lemmas.Option.{slice_get_cases}
 use Rattle.std.proofs.lemmas.List.Elements.{filter_map-append}
 use Rattle.std.proofs.lemmas.List.Sums.{sum_by-cons}
@@ -22,7 +22,7 @@ use Rattle.l4_core_model.specs.Runs.{Event, told}
 use Rattle.l4_replay.specs.Inner.Homes.{sent_to, sent_waiting}
 use Rattle.l4_replay.specs.Inner.Waiting.{count_sought, count_undecided, AreBegunOnce}
 use Rattle.l4_replay.specs.declared.homes.LastSend.{LastSend}
-use Rattle.l4_replay.proofs.Sought.{one_less as one_less_left, more_found}
+use Rattle.l4_replay.proofs.Sought.{more_found}
 
 -- No more steps are sought than sends are undecided, where no send is begun twice.
 
@@ -245,28 +245,3 @@ one_more sends i d within =
     let parts = ap (λ (ss : List LastSend). length (filter_map to ss)) (take_more sends i d within) ∙ ap length (filter_map-append to (take i sends) (get_or sends i d ∷ []))
     ∙ length-append (filter_map to (take i sends)) (filter_map to (get_or sends i d ∷ [])) in
     omega (arith, parts, last)
-
--- Where all that is sought is found from some event on, none of it comes before.
-
-told-append : (xs ys : List Event) → told (xs ++ ys) ≡ told xs ++ told ys
-told-append [] ys = refl
-told-append (x ∷ xs) ys = ap (λ (h : List Step). x.steps ++ h) (told-append xs ys) ∙ sym (append_assoc x.steps (told xs) (told ys))
-
-pub found_behind : {A : Type 0} (f : Step → Option A) (es : List Event) (i most : ℕ) → length (filter_map f (told es)) ≤ most → most ≤ count_sought f (drop i es) →
-    filter_map f (told (drop i es)) ≡ filter_map f (told es)
-found_behind {A} f es i most few enough =
-    let whole = take-append-drop i es in
-    let parts = ap (count_sought f) (sym whole) ∙ count-append f (take i es) (drop i es) in
-    let silent = none (filter_map f (told (take i es))) (omega (arith, parts, few, enough)) in
-    ap (λ (xs : List A). xs ++ filter_map f (told (drop i es))) (sym silent) ∙ sym (filter_map-append f (told (take i es)) (told (drop i es)))
-    ∙ ap (filter_map f) (sym (told-append (take i es) (drop i es)) ∙ ap told whole)
-
--- The event before those that were looked at.
-pub event_from_back : {A : Type 0} (f : Step → Option A) (es : List Event) (left : ℕ) (e : Event) (found : List A) → 0 < left → slice_get es (left - 1) ≡ Some e →
-    found ≡ reverse (filter_map f (told (drop left es))) → found ++ reverse (filter_map f e.steps) ≡ reverse (filter_map f (told (drop (left - 1) es)))
-event_from_back {A} f es left e found some here so_far =
-    let back : left - 1 + 1 ≡ left = omega (arith, some) in
-    let next : drop (left - 1) es ≡ e ∷ drop left es = one_less_left es (left - 1) e here ∙ ap (λ (n : ℕ). e ∷ drop n es) back in
-    ap (λ (xs : List A). xs ++ reverse (filter_map f e.steps)) so_far
-    ∙ sym (ap (λ (es : List Event). reverse (filter_map f (told es))) next ∙ ap reverse (filter_map-append f e.steps (told (drop left es)))
-    ∙ reverse-append (filter_map f e.steps) (filter_map f (told (drop left es))))

@@ -6,13 +6,11 @@ pub mod Inboxes
 pub mod Opening
 pub mod Posting
 mod LetterQueues
+pub mod Nodes
+pub mod Going
 pub mod Replays
 pub mod Stamps
-pub mod Stations
 pub mod Systems
-pub mod Delivered
-pub mod Told
-pub mod InOrder
 pub mod Sought
 pub mod Enough
 pub mod Walks

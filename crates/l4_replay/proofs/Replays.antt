@@ -1,5 +1,5 @@
 -- A schedule, entry by entry.
-use Rattle.std.proofs.Common.{◌≡◌, ℕ, zero, suc, ◌+◌, ◌<◌, ◌≤◌, true, false, Option, Some, None, List, [], ◌∷◌, length, drop, map, refl, ap, sym, ◌∙◌, subst, arith, add-one, length-append}
+use Rattle.std.proofs.Common.{◌≡◌, ◌++◌, ℕ, zero, suc, ◌+◌, ◌<◌, ◌≤◌, true, false, Option, Some, None, List, [], ◌∷◌, length, drop, map, refl, ap, sym, ◌∙◌, arith, add-one, length-append}
 use Rattle.std.specs.Prelude.{if◌then◌else◌, nat_lt, slice_get, slice_index_or, OnOk, Result, Ok, Err}
 use Rattle.std.specs.Option.{option_map}
 use Rattle.std.proofs.Math.Seq.{drop-length}
@@ -7,18 +7,15 @@ use Rattle.std.proofs.lemmas.Bool.Decides.{nat_tests}
 use Rattle.std.proofs.lemmas.List.{length-map}
 use Rattle.l4_model.specs.Machine.{Machine}
 use Rattle.l4_model.specs.Conditions.{◌>>=◌}
-use Rattle.l4_core_model.specs.Runs.{Event, Action, Happened, happens, Run, opening_run}
+use Rattle.l4_model.specs.Steps.{Step}
+use Rattle.l4_core_model.specs.Runs.{Action, Happened, happens, Run, opening_run, told}
+use Rattle.l4_core.specs.EventBuffers.{EventBuffer}
 use Rattle.l4_core_model.specs.Schedules.{attempts, numbered, or_stays, replay, Entry, entry_event, replays, replay_entries}
 use Rattle.l4_replay.specs.declared.entries.Entry as code
 use Rattle.l4_replay.specs.declared.fault.RunFault.TheVariants.{Turns, Schedule}
-use Rattle.l4_replay.specs.declared.station.Choice.{Choice}
-use Rattle.l4_replay.specs.Entries.{after_entry, entries_fault, entry_from, is_entry, first_stranger, most_events, processor_of}
+use Rattle.l4_replay.specs.Inner.Processors.{HasTold}
+use Rattle.l4_replay.specs.Entries.{after_entry, entries_fault, entry_from, is_entry, first_stranger, most_events}
 use Rattle.l4_replay.specs.UnderWay.{UnderWay, IsRun, GoesOn}
-use Rattle.l4_replay.specs.Stations.{action}
-
--- The order has as many as there are events.
-pub as_many : (m : Machine) (r : Run) (u : UnderWay) → IsRun m r u → length u.order ≡ length r.events
-as_many m r u i = ap length i.events.order ∙ length-map r.events (λ (e : Event). e.cpu)
 
 -- What is tried adds one event at most.
 one_more : (m : Machine) (r : Run) (e : Action) → length (attempts m r e).events ≤ length r.events + 1
@@ -28,18 +25,22 @@ one_more m r e = by (happens m r.system e)
     by None = omega arith
     by (Some h) = let longer = length-append r.events (h.event ∷ []) in omega arith
 
-pub record IsReplaying (m : Machine) (schedule : List Entry) (first : Run) (u : UnderWay) (place : ℕ) : Type 0 where
+-- Behind some entries of a schedule: the core run of these, and the steps that it tells.
+pub record IsReplaying (m : Machine) (schedule : List Entry) (u : UnderWay) (steps : List Step) (place : ℕ) : Type 0 where
   pub run : Run
   pub is : IsRun m run u
-  pub goes_on : replays m first schedule ≡ replays m run (drop place schedule)
+  pub goes_on : replay_entries m schedule ≡ replays m run (drop place schedule)
   pub count : length run.events ≤ place
+  pub told_are : told run.events ≡ steps
 
-pub replaying_start : (m : Machine) (schedule : List Entry) (first : Run) (u : UnderWay) → IsRun m first u → length u.order ≡ 0 → IsReplaying m schedule first u 0
-replaying_start m schedule first u i fresh = record {
-  run = first;
+pub replaying_start : (m : Machine) (schedule : List Entry) (u : UnderWay) (steps : List Step) →
+    IsRun m (opening_run m) u → steps ≡ [] → IsReplaying m schedule u steps 0
+replaying_start m schedule u steps i none = record {
+  run = opening_run m;
   is = i;
   goes_on = refl;
-  count = let same = as_many m first u i in omega arith;
+  count = omega arith;
+  told_are = sym none;
 }
 
 rest_at : (schedule : List Entry) (place : ℕ) (entry : Entry) → slice_get schedule place ≡ Some entry → drop place schedule ≡ entry ∷ drop (suc place) schedule
@@ -58,21 +59,29 @@ entry_at [] place other within = absurd (omega (arith, within))
 entry_at (first ∷ others) zero other within = refl
 entry_at (first ∷ others) (suc place) other within = entry_at others place other (omega (arith, within))
 
-entry_count : (m : Machine) (r : Run) (o : Option Action) → length (or_stays r (o >>= happens m r.system)).events ≤ length r.events + 1
+pub entry_count : (m : Machine) (r : Run) (o : Option Action) → length (or_stays r (o >>= happens m r.system)).events ≤ length r.events + 1
 entry_count m r None = omega arith
 entry_count m r (Some e) = one_more m r e
 
-pub replaying_next : (m : Machine) (schedule : List Entry) (first : Run) (u v : UnderWay) (place : ℕ) (entry : Entry) → slice_get schedule place ≡ Some entry →
-    IsReplaying m schedule first u place → GoesOn (after_entry entry) u v → IsReplaying m schedule first v (place + 1)
-replaying_next m schedule first u v place entry is i goes = record {
+pub replaying_next : (m : Machine) (schedule : List Entry) (u v : UnderWay) (steps all : List Step) (place : ℕ)
+    (entry : Entry) (first after : EventBuffer) → slice_get schedule place ≡ Some entry →
+    IsReplaying m schedule u steps place → steps ≡ first.before ++ first.steps → GoesOn (after_entry entry) u v →
+    HasTold (after_entry entry) u first after → all ≡ after.before ++ after.steps →
+    IsReplaying m schedule v all (place + 1)
+replaying_next m schedule u v steps all place entry first after at i same goes told_more are = record {
   run = after_entry entry m i.run;
   is = goes m i.run i.is;
-  goes_on = i.goes_on ∙ ap (replays m i.run) (rest_is schedule place entry is);
+  goes_on = i.goes_on ∙ ap (replays m i.run) (rest_is schedule place entry at);
   count = let before = i.count in let more = entry_count m i.run (entry_event m i.run.system entry) in omega arith;
+  told_are = told_more.more m i.run i.is
+      ∙ ap (λ xs. xs ++ after.steps) (i.told_are ∙ same ∙ sym told_more.kept)
+      ∙ sym are;
 }
 
-pub replaying_end : (m : Machine) (schedule : List Entry) (first : Run) (u : UnderWay) → IsReplaying m schedule first u (length schedule) → IsRun m (replays m first schedule) u
-replaying_end m schedule first u i = subst (λ r. IsRun m r u) (sym (i.goes_on ∙ ap (replays m i.run) (drop-length schedule))) i.is
+pub replaying_end : (m : Machine) (schedule : List Entry) (u : UnderWay) (steps : List Step) (place : ℕ)
+    (i : IsReplaying m schedule u steps place) → place ≡ length schedule → i.run ≡ replay_entries m schedule
+replaying_end m schedule u steps place i all =
+    sym (i.goes_on ∙ ap (λ n. replays m i.run (drop n schedule)) all ∙ ap (replays m i.run) (drop-length schedule))
 
 -- The entries so far are lawful, and so is the one at hand.
 pub lawful-next : (m : Machine) (schedule : List Entry) (place : ℕ) (entry : Entry) → slice_get schedule place ≡ Some entry → is_entry m entry ≡ true →
@@ -96,27 +105,11 @@ stranger_here m entries place other few within strange so_far =
     ∙ ap (λ b. if b then first_stranger m (place + 1 + 1) (drop (place + 1) all) else Some (place + 1)) strange in
     ap (λ b. if b then Some Turns else option_map Schedule (first_stranger m 1 all)) test ∙ ap (option_map Schedule) here
 
--- What an entry asks for.
+-- What holds where nothing was refused
 
--- In each run that has come to where its processors are, it asks for this.
-abbrev pub Asks : UnderWay → Entry → Option Choice → Type 0
-Asks u entry c =
-    (m : Machine) (r : Run) → IsRun m r u →
-    entry_event m r.system entry ≡ option_map (action m r.system (processor_of entry)) c
-
-pub entry_tried : (entry : Entry) (cpu : ℕ) (c : Choice) (u v : UnderWay) → cpu ≡ processor_of entry →
-    Asks u entry (Some c) → GoesOn (λ m r. attempts m r (action m r.system cpu c)) u v →
-    GoesOn (after_entry entry) u v
-entry_tried entry cpu c u v same asks goes = λ m r is.
-    subst (λ q. IsRun m q v)
-    (ap (λ n. attempts m r (action m r.system n c)) same
-    ∙ sym (ap (λ (o : Option Action). or_stays r (o >>= happens m r.system)) (asks m r is)))
-    (goes m r is)
-
-pub entry_untried : (entry : Entry) (u : UnderWay) → Asks u entry None → GoesOn (after_entry entry) u u
-entry_untried entry u asks = λ m r is.
-    subst (λ q. IsRun m q u)
-    (sym (ap (λ (o : Option Action). or_stays r (o >>= happens m r.system)) (asks m r is))) is
+pub on_both : {T E : Type 0} {A B C : Type 0} (r : Result T E) → OnOk r A → OnOk r B → (A → B → C) → OnOk r C
+on_both (Ok x) a b f = f a b
+on_both (Err e) a b f = tt
 
 pub on_ok : {A E : Type 0} (r : Result A E) (P Q : Type 0) → (P → Q) → OnOk r P → OnOk r Q
 on_ok (Ok x) P Q f h = f h

@@ -1,31 +1,19 @@
 -- A core run under way in the program, and the core run of the definitions that it is.
-use Rattle.std.specs.Prelude.{◌≡◌, ◌≢◌, ℕ, ◌==◌, ◌<◌, Option, Some, None, List, [], ◌∷◌, ◌++◌, filter, map, length, slice_get, slice_index_or}
+use Rattle.std.specs.Prelude.{◌≡◌, ◌≢◌, ℕ, ◌<◌, Option, Some, None, List, [], ◌∷◌, map, length, slice_get}
 use Rattle.std.specs.List.{AllByRecursion}
 use Rattle.l4_model.specs.Machine.{Machine}
 use Rattle.l4_model.specs.World.{changed}
 use Rattle.l4_core_model.specs.Letters.{Letter}
-use Rattle.l4_core_model.specs.Runs.{Event, System, letters, Run, IsMachine}
+use Rattle.l4_core_model.specs.Runs.{System, letters, Run, IsMachine}
 use Rattle.l4_core_model.specs.Laws.{IsCoreRun}
 use Rattle.l4_core.specs.Processor.{Processor}
-use Rattle.l4_replay.specs.declared.scheduler.Scheduler.{Scheduler}
-use Rattle.l4_replay.specs.declared.station.Station as program
-use Rattle.l4_replay.specs.Stations.{Station, events_at, letters_from, letters_out, station_of, with_letter, deadline_of, IsResting}
+use Rattle.l4_replay.specs.Stations.{Station, letters_from, with_letter, IsResting}
 
--- The processors with the letters that have come to them, the log of each, and the processor of
--- each event in the order told.
+-- The processors with the letters that have come to them, and how many events there were.
 pub record UnderWay : Type 0 where
   pub machine : Machine
   pub stations : List Station
-  pub logs : List (List Event)
-  pub order : List ℕ
-
-abbrev pub under_way : Scheduler → UnderWay
-under_way r = record {
-  machine = r.machine.now;
-  stations = map station_of r.stations.items;
-  logs = map events_at r.stations.items;
-  order = r.order.items;
-}
+  pub events : ℕ
 
 -- One processor's letters have come to the others, each with the processor that it goes to.
 abbrev pub with_letters : (from : ℕ) → List (ℕ × Letter) → List Station → List Station
@@ -45,36 +33,6 @@ CanPost from ps ss = AllByRecursion (λ p. (p.0 < length ss) × (p.0 ≢ from)) 
 abbrev pub letters_at : (from : ℕ) → Option Station → List Letter
 letters_at from None = []
 letters_at from (Some s) = letters_from from s
-
--- The letters that the last event of a processor posted, and that are still to be taken.
-abbrev pub letters_of : List program.Station → (cpu : ℕ) → List (ℕ × Letter)
-letters_of ss cpu = slice_index_or (map letters_out ss) cpu []
-
--- One more of the letters of a processor's last event has come to the processor that it goes to, and
--- nothing else has changed.
-pub record HasDeliveredOne (from : ℕ) (old new : List program.Station) : Type 0 where
-  pub come : with_letters from (letters_of new from) (map station_of new) ≡
-      with_letters from (letters_of old from) (map station_of old)
-  pub can : CanPost from (letters_of new from) (map station_of new)
-  pub events : map events_at new ≡ map events_at old
-  pub fewer : length (letters_of new from) < length (letters_of old from)
-
--- The letters of a processor's last event have come to the others, and nothing else has changed.
-pub record HasDelivered (from : ℕ) (old new : List program.Station) : Type 0 where
-  pub stations : map station_of new ≡ with_letters from (letters_of old from) (map station_of old)
-  pub events : map events_at new ≡ map events_at old
-
--- The event of a processor has ended: it is the last in the order told, and what it posted has come
--- to the others.
-pub record HasEndedEvent (cpu : ℕ) (old new : Scheduler) : Type 0 where
-  pub machine : new.machine.now ≡ old.machine.now
-  pub order : new.order.items ≡ old.order.items ++ cpu ∷ []
-  pub delivered : HasDelivered cpu old.stations.items new.stations.items
-
--- The least deadline of a processor.
-abbrev pub deadline_at : Option Station → Option ℕ
-deadline_at None = None
-deadline_at (Some s) = deadline_of s
 
 -- Each processor is at rest, with no letter.
 abbrev pub AreResting : List Station → Type 0
@@ -100,21 +58,13 @@ pub record IsProcessorOf (m : Machine) (g : System) (cpu : ℕ) (p : Processor) 
   pub cpu_is : p.cpu ≡ cpu
   pub local : slice_get g.locals cpu ≡ Some p.local
 
--- Each event stands in the log of its processor, in order, and `cpus` are the processors of the
--- events.
-pub record AreLogsOf (events : List Event) (cpus : List ℕ) (logs : List (List Event)) : Type 0 where
-  pub order : cpus ≡ map (λ e. e.cpu) events
-  pub within : AllByRecursion (λ e. e.cpu < length logs) events
-  pub each : (cpu : ℕ) (log : List Event) → slice_get logs cpu ≡ Some log →
-      log ≡ filter (λ e. e.cpu == cpu) events
-
 -- What is under way is this core run of the machine.
 pub record IsRun (m : Machine) (r : Run) (u : UnderWay) : Type 0 where
   pub machine : u.machine ≡ m
   pub lawful : IsMachine m
   pub core_run : IsCoreRun m r
   pub system : IsSystem m r.system u.stations
-  pub events : AreLogsOf r.events u.order u.logs
+  pub events : u.events ≡ length r.events
 
 -- What is under way is some core run.
 abbrev pub HasRun : UnderWay → Type 0

@@ -11,7 +11,7 @@ ghost use Rattle.l4_types.specs.ReportView.{report_of_view};
 ghost use Rattle.l4_refines.specs.Laws.{IsUndeleted, home_reports};
 ghost use Rattle.l4_replay.specs.Inner.Homes.{locals_of, sent_at_home, AreAllOf, IsAtHome};
 ghost use Rattle.l4_replay.specs.Inner.Heard.{hears, hears_all, with_thread, HasPlaces};
-ghost use Rattle.l4_replay.specs.Inner.Heard.{Hears};
+ghost use Rattle.l4_replay.specs.Inner.Heard.{HaveRegisters, Hears};
 
 use crate::letter_queue::Letters;
 use l4_core::processor::Core;
@@ -124,12 +124,13 @@ impl OwnerView {
         };
     }
 
-    /// Whether none of the threads is deleted.
-    pub fn are_undeleted(&self) -> bool
+    /// Whether the registers of these threads are those of the world: on several processors those
+    /// of a deleted thread may be others.
+    pub fn have_registers(&self, machine: &Machine) -> bool
         ensures { IsTrue result →
-            AllByRecursion IsUndeleted (map report_of_view self.now.threads.items) }
+            HaveRegisters machine.now (map report_of_view self.now.threads.items) }
     {
-        are_undeleted(self.threads.as_slice())
+        machine.cpus() == 1 || are_undeleted(self.threads.as_slice())
     }
 }
 

@@ -8,11 +8,10 @@ use l4_script::machine::Machine;
 use l4_types::errors::NoMemory;
 use l4_types::letter_ref::LetterRef;
 use std::alloc::{AllocError, Global};
-use std::mem;
 
 /// For each processor of a machine the letters that came from it and were not taken yet.
 #[derive(Drop)]
-pub struct Inbox {
+pub(crate) struct Inbox {
     queues: Vec<LetterQueue>,
     // Bit p is set where there are letters from processor p: a turn need not look at each queue.
     posters: u64,
@@ -28,7 +27,7 @@ impl Inbox {
     ghost use Rattle.l4_replay.specs.Inner.Posters.{AreEmpty, PostsFirst};
 
     /// An empty inbox of a processor of this machine.
-    pub fn new(alloc: Global, machine: &Machine) -> Result<Inbox, NoMemory>
+    pub(crate) fn new(alloc: Global, machine: &Machine) -> Result<Inbox, NoMemory>
         ensures { IfOk result (λ inbox. letters_in inbox ≡ replicate machine.now.cpus []) }
     {
         Ok(Inbox {
@@ -38,7 +37,7 @@ impl Inbox {
     }
 
     /// The first of the letters that came from this processor.
-    pub fn first(&self, from: u8) -> Option<LetterRef<'_>>
+    pub(crate) fn first(&self, from: u8) -> Option<LetterRef<'_>>
         requires { from < length (letters_in self.now) }
         ensures { result ≡ slice_get (slice_index_or (letters_in self.now) from []) 0 }
     {
@@ -46,7 +45,7 @@ impl Inbox {
     }
 
     /// Drops the first of the letters that came from this processor.
-    pub fn drop_first(&mut self, from: u8)
+    pub(crate) fn drop_first(&mut self, from: u8)
         requires { from < length (letters_in self.old) }
         ensures { letters_in self.new ≡ changed (drop 1) (letters_in self.old) from }
     {
@@ -59,7 +58,7 @@ impl Inbox {
 
     /// Appends a letter from a processor. If memory is refused, nothing is changed.
     #[inline(always)]
-    pub fn put(&mut self, from: u8, letter: &LetterRef<'_>) -> Result<(), AllocError>
+    pub(crate) fn put(&mut self, from: u8, letter: &LetterRef<'_>) -> Result<(), AllocError>
         requires { from < length (letters_in self.old) }
         ensures ok { OnOk result (letters_in self.new ≡
             changed (λ letters. letters ++ letter.now ∷ []) (letters_in self.old) from) }
@@ -70,19 +69,8 @@ impl Inbox {
         Ok(())
     }
 
-    /// Takes all of it out, and leaves an inbox that no letter can come to.
-    pub fn take(&mut self) -> Inbox
-        ensures { result ≡ self.old }
-    {
-        let nothing = Inbox {
-            queues: Vec::new(*self.queues.allocator()),
-            posters: 0,
-        };
-        mem::replace(self, nothing)
-    }
-
     /// The letters that came from a processor and were not taken yet.
-    pub fn letters(&self, from: u8) -> Letters<'_>
+    pub(crate) fn letters(&self, from: u8) -> Letters<'_>
         requires { from < length (letters_in self.now) }
         ensures { result ≡ slice_index_or (letters_in self.now) from [] }
     {
@@ -90,14 +78,14 @@ impl Inbox {
     }
 
     /// Whether each letter that has come was taken.
-    pub fn is_empty(&self) -> bool
+    pub(crate) fn is_empty(&self) -> bool
         ensures { IsTrue result ↔ AreEmpty (letters_in self.now) }
     {
         self.first_poster().is_none()
     }
 
     /// The lowest processor that letters have come from.
-    pub fn first_poster(&self) -> Option<u8>
+    pub(crate) fn first_poster(&self) -> Option<u8>
         ensures { PostsFirst (letters_in self.now) result }
     {
         if self.posters == 0 {

@@ -121,13 +121,17 @@ impl LetterQueue {
     }
 }
 
-// Appends the words of a message. Most letters have none.
+// Appends the words of a message. Most letters have none, or one.
 #[inline(always)]
 fn append(words: &mut Vec<u64>, more: &[u64]) -> Result<(), AllocError>
     ensures ok { OnOk result (words.new.items ≡ words.old.items ++ more.now) }
     ensures err { OnErr result (words.new.items ≡ words.old.items) }
 {
     if more.is_empty() {
+        return Ok(());
+    }
+    if let [word] = more {
+        words.push(*word)?;
         return Ok(());
     }
     words.extend_from_slice(more)

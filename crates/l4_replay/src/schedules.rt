@@ -1,21 +1,18 @@
-//! What the entries of a schedule ask for, done in a core run under way.
-ghost use Rattle.std.specs.Prelude.{◌≡◌, ◌<◌, ◌≤◌, ◌⊎◌, ◌^◌, IfErr, IfSome, OnOk, None, Some};
-ghost use Rattle.std.specs.Prelude.{length, map, true};
-ghost use Rattle.std.specs.Option.{option_map};
-ghost use Rattle.l4_model.specs.Machine.{Machine as MachineOfModel};
-ghost use Rattle.l4_core_model.specs.Runs.{Run};
-ghost use Rattle.l4_core_model.specs.Schedules.{entry_event, replays};
-ghost use Rattle.l4_replay.specs.Entries.{after_entry, entries_fault, entry_from, first_stranger};
-ghost use Rattle.l4_replay.specs.Entries.{is_entry, most_events, processor_of};
-ghost use Rattle.l4_replay.specs.Stations.{action, KnowsPoster};
-ghost use Rattle.l4_replay.specs.UnderWay.{under_way, GoesOn, HasRun, IsRun};
+//! What the entries of a schedule ask for, done one by one.
+ghost use Rattle.std.specs.Prelude.{◌≡◌, ◌≤◌, ◌⊎◌, IfErr, IfOk, OnOk, None, Some, length, map};
+ghost use Rattle.l4_core_model.specs.Runs.{told};
+ghost use Rattle.l4_core_model.specs.Schedules.{replay_entries};
+ghost use Rattle.l4_replay.specs.Entries.{entries_fault, entry_from, first_stranger, most_events};
+ghost use Rattle.l4_replay.specs.Inner.Processors.{under_way};
+ghost use Rattle.l4_replay.specs.UnderWay.{IsRun};
 
 use crate::entries::Entry;
 use crate::fault::RunFault;
-use crate::scheduler::Scheduler;
-use crate::station::Choice;
+use crate::processors::Processors;
+use l4_core::event_buffer::EventBuffer;
+use l4_history::history::History;
 use l4_script::machine::Machine;
-use l4_types::errors::NoMemory;
+use std::alloc::Global;
 
 /// A run has at most this many turns.
 pub const MOST_TURNS: u64 = 1_000_000;
@@ -26,61 +23,46 @@ pub const MOST_ENTRIES: usize = 1_000_000;
 /// A list of entries has at most as many as the longest run has events.
 pub const MOST_EVENTS: usize = 1_000_015;
 
-// What an entry asks its processor for. None if it asks for a tick and no deadline is armed.
-fn choice_of(run: &Scheduler<'_>, entry: Entry) -> Option<Choice>
-    requires run { HasRun (under_way run.now) }
-    requires lawful { is_entry run.now.machine.now (entry_from entry) ≡ true }
-    ensures asks { (m : MachineOfModel) (r : Run) → IsRun m r (under_way run.now) →
-        entry_event m r.system (entry_from entry) ≡
-        option_map (action m r.system (processor_of (entry_from entry))) result }
-    ensures poster { IfSome result (KnowsPoster run.now.machine.now.cpus) }
-{
-    match entry {
-        Entry::Turn(_) => Some(Choice::Turn),
-        Entry::Tick(cpu) => Some(Choice::Tick(run.least_deadline(cpu)?)),
-        Entry::Letter { from, .. } => Some(Choice::Letter(from)),
-        Entry::Core(_) => Some(Choice::Core),
-        Entry::TickTo { clock, .. } => Some(Choice::Tick(clock)),
-    }
+/// A replay behind its last entry.
+#[derive(Drop)]
+pub struct EndedReplay<'m> {
+    /// The processors where the replay has ended.
+    pub processors: Processors<'m>,
+    /// The steps of all events, in the order of the entries.
+    pub history: History,
 }
 
-/// Does what an entry asks for, if it can be done.
-pub(crate) fn take(run: &mut Scheduler<'_>, entry: &Entry) -> Result<(), NoMemory>
-    requires run { HasRun (under_way run.old) }
-    requires few { length (under_way run.old).order < 2 ^ 61 }
-    requires processor { is_entry run.old.machine.now (entry_from entry.now) ≡ true }
-    ensures { OnOk result (GoesOn (after_entry (entry_from entry.now)) (under_way run.old)
-        (under_way run.new)) }
-{
-    match choice_of(run, *entry) {
-        Some(choice) => run.attempt(entry.processor(), choice),
-        None => Ok(()),
-    }
-}
-
-/// Does what the entries of a schedule ask for, one by one, if it can be done.
-pub fn take_all(
-    run: &mut Scheduler<'_>,
-    machine: &Machine,
+/// Does what the entries of a schedule ask for, one by one, if it can be done, on a machine where
+/// nothing has happened.
+///
+/// `Schedule`: this entry, counted from 1, is the first that is none of the machine. `NoMemory`:
+/// memory was refused.
+pub fn ended_replay<'m>(
+    alloc: Global,
+    machine: &'m Machine,
     entries: &[Entry],
-) -> Result<(), RunFault>
-    requires run { HasRun (under_way run.old) }
-    requires machine { run.old.machine.now ≡ machine.now }
-    requires fresh { length (under_way run.old).order ≡ 0 }
-    requires few { length entries.now ≤ most_events }
-    ensures ok { OnOk result
-        (GoesOn (λ m r. replays m r (map entry_from entries.now)) (under_way run.old)
-        (under_way run.new)) }
+) -> Result<EndedReplay<'m>, RunFault>
+    requires { length entries.now ≤ most_events }
+    ensures run { IfOk result (λ ended.
+        IsRun machine.now (replay_entries machine.now (map entry_from entries.now))
+        (under_way ended.processors)) }
+    ensures history { IfOk result (λ ended. ended.history.steps ≡
+        told (replay_entries machine.now (map entry_from entries.now)).events) }
     ensures lawful { OnOk result
         (first_stranger machine.now 1 (map entry_from entries.now) ≡ None) }
     ensures err { IfErr result (λ fault. (fault ≡ RunFault.NoMemory) ⊎
         (entries_fault machine.now (map entry_from entries.now) ≡ Some fault)) }
 {
+    let mut processors = Processors::new(alloc, machine)?;
+    let mut buffer = EventBuffer::new(History::new(alloc));
     for (place, entry) in entries.iter().enumerate() {
         if !entry.is_of(machine) {
             return Err(RunFault::Schedule(place + 1));
         }
-        take(run, entry)?;
+        processors.go_on(*entry, &mut buffer)?;
     }
-    Ok(())
+    Ok(EndedReplay {
+        processors,
+        history: buffer.into_sink(),
+    })
 }

@@ -1,6 +1,6 @@
 //! The sends of a run that are undecided.
 ghost use Rattle.std.specs.Prelude.{◌≡◌, ◌<◌, ◌≤◌, ◌+◌, ◌++◌, [], IfOk, IfSome, OnOk, drop, false};
-ghost use Rattle.std.specs.Prelude.{filter_map, length, reverse, slice_get, take};
+ghost use Rattle.std.specs.Prelude.{filter_map, length, slice_get, take};
 ghost use Rattle.std.specs.List.{AllByRecursion};
 ghost use Rattle.l4_replay.specs.Inner.Homes.{sent_to, IsNotBelow};
 ghost use Rattle.l4_replay.specs.Inner.Waiting.{count_undecided, sought, AreBegunOnce, IsSearch};
@@ -122,30 +122,6 @@ impl<'a> Search<'a> {
             filter_map (sought self.now) (drop start (take end history.now.steps))) }
     {
         for place in start..end {
-            if let Some(send) = self.send_at(history, place) {
-                sends.push(send)?;
-            }
-        }
-        Ok(())
-    }
-
-    /// Appends the undecided sends that the steps from `start` to `end` begin, from the last to the
-    /// first.
-    pub(crate) fn push_from_back(
-        &self,
-        history: &History,
-        start: usize,
-        end: usize,
-        sends: &mut Vec<(Name, ThreadId)>,
-    ) -> Result<(), NoMemory>
-        requires search { IsSearch self.now }
-        requires within { end ≤ length history.now.steps }
-        ensures { OnOk result (sends.new.items ≡ sends.old.items ++
-            reverse (filter_map (sought self.now) (drop start (take end history.now.steps)))) }
-    {
-        let mut place = end;
-        while place > start {
-            place -= 1;
             if let Some(send) = self.send_at(history, place) {
                 sends.push(send)?;
             }

@@ -1,5 +1,5 @@
 //! A core run under way, entry by entry.
-ghost use Rattle.std.specs.Prelude.{◌≡◌, ◌<◌, ◌^◌, IfOk, OnOk, length, map, true};
+ghost use Rattle.std.specs.Prelude.{◌≡◌, ◌<◌, ◌^◌, IfOk, OnOk, true};
 ghost use Rattle.l4_model.specs.Machine.{Machine as MachineOfModel};
 ghost use Rattle.l4_core_model.specs.Runs.{Run, at_rest, letters, opening_run};
 ghost use Rattle.l4_replay.specs.Entries.{after_entry, entry_from, is_entry};
@@ -7,9 +7,10 @@ ghost use Rattle.l4_replay.specs.UnderWay.{GoesOn, HasRun, IsProcessorOf, IsRun}
 
 use crate::entries::Entry;
 use crate::letter_queue::Letters;
-use crate::scheduler::Scheduler;
-use crate::schedules::take;
+use crate::processors::Processors;
+use l4_core::event_buffer::EventBuffer;
 use l4_core::processor::Core;
+use l4_history::history::History;
 use l4_script::machine::Machine;
 use l4_types::errors::NoMemory;
 use std::alloc::Global;
@@ -19,15 +20,17 @@ use std::marker::Model;
 /// processors with the letters that have come to them, and say which core run that is (`IsRun`).
 #[derive(Drop)]
 pub struct Walk<'m> {
-    scheduler: Scheduler<'m>,
+    processors: Processors<'m>,
+    buffer: EventBuffer<History>,
 }
 
 impl<'m> Model for Walk<'m> {
-    ghost use Rattle.l4_replay.specs.UnderWay.{under_way, UnderWay};
+    ghost use Rattle.l4_replay.specs.Inner.Processors.{under_way};
+    ghost use Rattle.l4_replay.specs.UnderWay.{UnderWay};
 
     ghost Value = { UnderWay };
 
-    ghost view = { λ w. under_way w.scheduler };
+    ghost view = { λ w. under_way w.processors };
 }
 
 impl<'m> Walk<'m> {
@@ -38,15 +41,16 @@ impl<'m> Walk<'m> {
         ensures { IfOk result (λ w. IsRun machine.now (opening_run machine.now) w) }
     {
         Ok(Walk {
-            scheduler: Scheduler::new(alloc, machine)?,
+            processors: Processors::new(alloc, machine)?,
+            buffer: EventBuffer::new(History::new(alloc)),
         })
     }
 
     /// How many events there were.
-    pub fn events(&self) -> usize
-        ensures { result ≡ length self.now.order }
+    pub fn events(&self) -> u64
+        ensures { result ≡ self.now.events }
     {
-        self.scheduler.events()
+        self.processors.events()
     }
 
     /// Does what an entry of the machine asks for, if it can be done.
@@ -54,11 +58,11 @@ impl<'m> Walk<'m> {
     /// `NoMemory`: memory was refused, and what is under way is no core run any more.
     pub fn take(&mut self, entry: Entry) -> Result<(), NoMemory>
         requires run { HasRun self.old }
-        requires few { length self.old.order < 2 ^ 61 }
+        requires few { self.old.events < 2 ^ 61 }
         requires lawful { is_entry self.old.machine (entry_from entry) ≡ true }
         ensures { OnOk result (GoesOn (after_entry (entry_from entry)) self.old self.new) }
     {
-        take(&mut self.scheduler, &entry)
+        self.processors.go_on(entry, &mut self.buffer)
     }
 
     /// A processor, by its number.
@@ -68,7 +72,7 @@ impl<'m> Walk<'m> {
         ensures { (m : MachineOfModel) (r : Run) → IsRun m r self.now →
             IsProcessorOf m r.system cpu result.now }
     {
-        self.scheduler.station(cpu).core()
+        &self.processors.node(cpu).core
     }
 
     /// The letters that have come to a processor from another one and are not handled yet, in the
@@ -80,7 +84,7 @@ impl<'m> Walk<'m> {
         ensures { (m : MachineOfModel) (r : Run) → IsRun m r self.now →
             result ≡ letters r.system.mail from cpu }
     {
-        self.scheduler.station(cpu).letters(from)
+        self.processors.node(cpu).inbox.letters(from)
     }
 
     /// Whether nothing is to be done, armed or under way.
@@ -89,6 +93,6 @@ impl<'m> Walk<'m> {
         ensures { (m : MachineOfModel) (r : Run) → IsRun m r self.now →
             result ≡ at_rest m r.system }
     {
-        self.scheduler.is_at_rest()
+        self.processors.are_at_rest()
     }
 }

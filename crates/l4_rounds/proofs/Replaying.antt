@@ -15,7 +15,6 @@ use Rattle.l4_core.specs.Processor.{Processor}
 use Rattle.l4_replay.specs.declared.entries.Entry as code
 use Rattle.l4_replay.specs.Entries.{after_entry, entry_from, is_entry}
 use Rattle.l4_replay.specs.UnderWay.{UnderWay, GoesOn, HasRun, IsProcessorOf, IsRun}
-use Rattle.l4_replay.proofs.Replays.{as_many}
 use Rattle.l4_replay.proofs.Endings.{deadline_assoc}
 use Rattle.l4_rounds.specs.ThenRest.{GoOn, in_rounds}
 use Rattle.l4_rounds.specs.Inner.Replays.{entries_of, run_of, HasGoneOn, IsReplay, IsReplayOf}
@@ -28,11 +27,11 @@ module _ (m : Machine) (es : List Entry) (w : UnderWay) (is : IsReplayOf m es w)
   has_run = (m, (replay_entries m es, is.run))
 
   -- As many events as the processors count.
-  pub order_is : length w.order ≡ turns_of (replay_entries m es)
-  order_is = as_many m (replay_entries m es) w is.run
+  pub events_are : w.events ≡ turns_of (replay_entries m es)
+  events_are = is.run.events
 
-  pub order_few : length w.order ≤ length es
-  order_few = let few = events_few m es in let same = order_is in omega (arith, few, same)
+  pub events_fit : w.events ≤ length es
+  events_fit = let few = events_few m es in let same = events_are in omega (arith, few, same)
 
   -- What an entry makes of it.
   pub after : (v : UnderWay) (e : Entry) → GoesOn (after_entry e) w v →
@@ -56,16 +55,16 @@ module _ (m : Machine) (es : List Entry) (w : UnderWay) (is : IsReplayOf m es w)
   }
 
 -- How many events there were after an entry.
-pub order_after : (m : Machine) (es : List Entry) (w v : UnderWay) (e : Entry) → IsReplayOf m es w →
-    GoesOn (after_entry e) w v → length v.order ≡ turns_of (after_entry e m (replay_entries m es))
-order_after m es w v e is goes =
-    as_many m (after_entry e m (replay_entries m es)) v (after m es w is v e goes)
+pub events_after : (m : Machine) (es : List Entry) (w v : UnderWay) (e : Entry) → IsReplayOf m es w →
+    GoesOn (after_entry e) w v → v.events ≡ turns_of (after_entry e m (replay_entries m es))
+events_after m es w v e is goes =
+    (after m es w is v e goes).events
 
 -- In the program
 
-pub few_order : (r : Replay) → IsReplay r → length r.walk.order ≤ length r.entries.items
-few_order r is =
-    let few = order_few r.machine.now (entries_of r) r.walk is in
+pub few_events : (r : Replay) → IsReplay r → r.walk.events ≤ length r.entries.items
+few_events r is =
+    let few = events_fit r.machine.now (entries_of r) r.walk is in
     let size = length-map r.entries.items entry_from in
     omega (arith, few, size)
 
@@ -81,24 +80,24 @@ listed_in r v items e is goes lawful same =
 -- It had an event.
 pub event_in : (r : Replay) (v : UnderWay) (items : List code.Entry) (e : code.Entry) → IsReplay r →
     GoesOn (after_entry (entry_from e)) r.walk v → items ≡ r.entries.items ++ e ∷ [] →
-    length r.walk.order < length v.order →
+    r.walk.events < v.events →
     GoOn (after_entry (entry_from e)) r.machine.now (entries_of r) (map entry_from items)
 event_in r v items e is goes same more =
-    let before = order_is r.machine.now (entries_of r) r.walk is in
-    let after = order_after r.machine.now (entries_of r) r.walk v (entry_from e) is goes in
+    let before = events_are r.machine.now (entries_of r) r.walk is in
+    let after = events_after r.machine.now (entries_of r) r.walk v (entry_from e) is goes in
     subst (GoOn (after_entry (entry_from e)) r.machine.now (entries_of r))
     (sym (ap (map entry_from) same ∙ map_push entry_from r.entries.items e))
     (one_on r.machine.now (entries_of r) (entry_from e) (omega (arith, before, after, more)))
 
 -- It had none.
 pub none_in : (r : Replay) (v : UnderWay) (e : code.Entry) → IsReplay r →
-    GoesOn (after_entry (entry_from e)) r.walk v → length v.order ≤ length r.walk.order →
+    GoesOn (after_entry (entry_from e)) r.walk v → v.events ≤ r.walk.events →
     HasGoneOn (after_entry (entry_from e)) r (record { machine = r.machine; walk = v; entries = r.entries })
 none_in r v e is goes few =
     let m = r.machine.now in
     let es : List Entry = entries_of r in
-    let before = order_is m es r.walk is in
-    let after = order_after m es r.walk v (entry_from e) is goes in
+    let before = events_are m es r.walk is in
+    let after = events_after m es r.walk v (entry_from e) is goes in
     let least : turns_of (after_entry (entry_from e) m (replay_entries m es)) ≤ turns_of (replay_entries m es)
     = omega (arith, before, after, few) in
     record {
@@ -236,12 +235,12 @@ next_here a b c on next =
     ∙ sym (run_then next_round b c next)
 
 pub going_on : (a b c : Replay) (turns left : ℕ) → IsGoing a turns (suc left) b →
-    HasGoneOn next_round b c → length b.walk.order < length c.walk.order →
-    length c.walk.order < most_of a turns → IsGoing a turns left c
+    HasGoneOn next_round b c → b.walk.events < c.walk.events →
+    c.walk.events < most_of a turns → IsGoing a turns left c
 going_on a b c turns left is next more under =
     let same = next_here a b c is.on next in
-    let before = order_is b.machine.now (entries_of b) b.walk is.on.replay in
-    let after = order_is c.machine.now (entries_of c) c.walk next.replay in
+    let before = events_are b.machine.now (entries_of b) b.walk is.on.replay in
+    let after = events_are c.machine.now (entries_of c) c.walk next.replay in
     let count = ap turns_of same in
     let on = round_on a b c is.on next in
     record {
@@ -255,7 +254,7 @@ going_on a b c turns left is next more under =
 
 pub going_ended : (a b c : Replay) (turns left : ℕ) → IsGoing a turns (suc left) b →
     HasGoneOn next_round b c →
-    (length c.walk.order ≤ length b.walk.order) ⊎ (most_of a turns ≤ length c.walk.order) →
+    (c.walk.events ≤ b.walk.events) ⊎ (most_of a turns ≤ c.walk.events) →
     HasGoneOn (in_rounds turns) a c
 going_ended a b c turns left is next over =
     gone_as (λ m r. run_of c) (in_rounds turns) a c (round_on a b c is.on next)
@@ -264,14 +263,14 @@ going_ended a b c turns left is next over =
     same : next_round a.machine.now (run_of b) ≡ run_of c
     same = next_here a b c is.on next
 
-    after : length c.walk.order ≡ turns_of (run_of c)
-    after = order_is c.machine.now (entries_of c) c.walk next.replay
+    after : c.walk.events ≡ turns_of (run_of c)
+    after = events_are c.machine.now (entries_of c) c.walk next.replay
 
-    by : (length c.walk.order ≤ length b.walk.order) ⊎ (most_of a turns ≤ length c.walk.order) →
+    by : (c.walk.events ≤ b.walk.events) ⊎ (most_of a turns ≤ c.walk.events) →
         rounds a.machine.now (most_of a turns) (suc left) (run_of b)
         ≡ next_round a.machine.now (run_of b)
     by (inl still) =
-        let before = order_is b.machine.now (entries_of b) b.walk is.on.replay in
+        let before = events_are b.machine.now (entries_of b) b.walk is.on.replay in
         let count = ap turns_of same in
         let last = after in
         ends_still a.machine.now (most_of a turns) left (run_of b)

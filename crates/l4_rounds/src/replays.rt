@@ -65,13 +65,13 @@ impl<'m> Replay<'m> {
         requires few { length self.old.entries.items + turns ≤ most_turns }
         ensures { OnOk result (HasGoneOn (in_rounds turns) self.old self.new) }
     {
-        let most = self.walk.events() as u64 + turns;
+        let most = self.walk.events() + turns;
         for done in 0..turns {
             let _ = done;
             let before = self.walk.events();
             self.go_round()?;
             let after = self.walk.events();
-            if after <= before || after as u64 >= most {
+            if after <= before || after >= most {
                 return Ok(());
             }
         }

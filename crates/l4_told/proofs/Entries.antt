@@ -1,33 +1,19 @@
 -- A replay that is told, entry by entry.
-use Rattle.std.proofs.Common.{◌≡◌, ℕ, ◌+◌, ◌≤◌, Option, Some, None, List, [], ◌∷◌, ◌++◌, drop, length, refl}
-use Rattle.std.proofs.Common.{ap, sym, ◌∙◌, arith, length-append}
+use Rattle.std.proofs.Common.{◌≡◌, ℕ, ◌+◌, ◌≤◌, Some, List, [], ◌++◌, drop, length, refl}
+use Rattle.std.proofs.Common.{ap, sym, ◌∙◌, arith}
 use Rattle.std.specs.Prelude.{slice_get}
 use Rattle.std.proofs.Math.Seq.{drop-length}
-use Rattle.l4_model.specs.Conditions.{◌>>=◌}
 use Rattle.l4_model.specs.Machine.{Machine}
 use Rattle.l4_model.specs.Steps.{Step}
-use Rattle.l4_core_model.specs.Runs.{Action, Happened, Run, happens, opening_run}
-use Rattle.l4_core_model.specs.Schedules.{Entry, attempts, entry_event, or_stays, replay_entries, replays}
+use Rattle.l4_core_model.specs.Runs.{Run, opening_run}
+use Rattle.l4_core_model.specs.Schedules.{Entry, entry_event, replay_entries, replays}
 use Rattle.l4_replay.specs.Entries.{after_entry}
-use Rattle.l4_replay.proofs.Replays.{rest_is}
-use Rattle.l4_told.specs.Inner.Processors.{HasCome, HasToldAnd}
-use Rattle.l4_told.specs.declared.processors.Processors.{Processors}
-
--- What is tried adds one event at most.
-one_more : (m : Machine) (r : Run) (e : Action) → length (attempts m r e).events ≤ length r.events + 1
-one_more m r e = by (happens m r.system e)
-  where
-    by : (o : Option Happened) → length (or_stays r o).events ≤ length r.events + 1
-    by None = omega arith
-    by (Some h) = let longer = length-append r.events (h.event ∷ []) in omega arith
-
-entry_count : (m : Machine) (r : Run) (o : Option Action) →
-    length (or_stays r (o >>= happens m r.system)).events ≤ length r.events + 1
-entry_count m r None = omega arith
-entry_count m r (Some e) = one_more m r e
+use Rattle.l4_replay.proofs.Replays.{entry_count, rest_is}
+use Rattle.l4_told.specs.Inner.Replays.{HasCome, HasToldAnd}
+use Rattle.l4_told.specs.declared.replay.Replay.{Replay}
 
 pub record IsReplaying (m : Machine) (schedule : List Entry) (place : ℕ) (hears : List Step →
-    Type 0) (p : Processors) : Type 0 where
+    Type 0) (p : Replay) : Type 0 where
   pub run : Run
   pub before : List Step
   pub come : HasCome m run before p
@@ -35,7 +21,7 @@ pub record IsReplaying (m : Machine) (schedule : List Entry) (place : ℕ) (hear
   pub count : length run.events ≤ place
   pub heard : hears before
 
-pub replaying_start : (m : Machine) (schedule : List Entry) (hears : List Step → Type 0) (p : Processors) →
+pub replaying_start : (m : Machine) (schedule : List Entry) (hears : List Step → Type 0) (p : Replay) →
     HasCome m (opening_run m) [] p → hears [] → IsReplaying m schedule 0 hears p
 replaying_start m schedule hears p come none = record {
   run = opening_run m;
@@ -47,7 +33,7 @@ replaying_start m schedule hears p come none = record {
 }
 
 pub replaying_next : (m : Machine) (schedule : List Entry) (place : ℕ) (entry : Entry)
-    (first second both : List Step → Type 0) (old new : Processors) →
+    (first second both : List Step → Type 0) (old new : Replay) →
     slice_get schedule place ≡ Some entry → IsReplaying m schedule place first old →
     HasToldAnd (after_entry entry) second old new →
     ((xs ys : List Step) → first xs → second ys → both (xs ++ ys)) → IsReplaying m schedule (place + 1) both new
@@ -66,7 +52,7 @@ replaying_next m schedule place entry first second both old new at is told joine
 
 -- Behind the last entry the run is that of the replay.
 pub replaying_end : (m : Machine) (schedule : List Entry) (place : ℕ) (hears : List Step →
-    Type 0) (p : Processors) (is : IsReplaying m schedule place hears p) →
+    Type 0) (p : Replay) (is : IsReplaying m schedule place hears p) →
     place ≡ length schedule → is.run ≡ replay_entries m schedule
 replaying_end m schedule place hears p is all =
     sym (is.goes_on ∙ ap (λ n. replays m is.run (drop n schedule)) all ∙ ap (replays m is.run) (drop-length schedule))

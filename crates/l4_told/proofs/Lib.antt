@@ -4,6 +4,5 @@ pub mod OfOne
 pub mod Coming
 pub mod Ended
 pub mod Rounds
-pub mod Nodes
 pub mod Going
 pub mod Entries

@@ -1,5 +1,4 @@
 pub mod Alone
 pub mod Kept
-pub mod Nodes
 pub mod OfOne
-pub mod Processors
+pub mod Replays

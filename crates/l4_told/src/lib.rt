@@ -18,8 +18,7 @@
 mod alone;
 mod final_state;
 mod kept_steps;
-mod node;
-mod processors;
+mod replay;
 mod told;
 
 pub use final_state::{FinalState, parts_of};

@@ -11,7 +11,7 @@ ghost use Rattle.l4_told.specs.Told.{findings_with};
 
 use crate::alone::Alone;
 use crate::final_state::{FinalState, parts_of};
-use crate::processors::Processors;
+use crate::replay::Replay;
 use l4_machine::{replay_compact, run_compact};
 use l4_proc::gate::Open;
 use l4_replay::{Entry, Listener, MOST_EVENTS, MOST_TURNS, RunFault};
@@ -114,13 +114,13 @@ fn told_replay<L: Listener>(
         (entries_fault machine.now (map entry_from entries.now) ≡ Some fault)) }
     ensures turns { IsErrOf result RunFault.Turns → ⊥ }
 {
-    let mut processors = Processors::new(alloc, machine)?;
+    let mut replay = Replay::new(alloc, machine)?;
     for (place, entry) in entries.iter().enumerate() {
         if !entry.is_of(machine) {
             return Err(RunFault::Schedule(place + 1));
         }
-        processors.take(alloc, *entry, listener)?;
+        replay.take(alloc, *entry, listener)?;
     }
-    processors.tell_left(listener)?;
-    Ok(processors.into_final_state(alloc)?)
+    replay.tell_left(listener)?;
+    Ok(replay.into_final_state(alloc)?)
 }

@@ -1,6 +1,6 @@
 //! Walks of placed threads, one after the other.
 ghost use Rattle.std.specs.Prelude.{◌≡◌, ◌<◌, ◌≤◌, ◌*◌, ◌+◌, ◌/◌, ◌%◌, ◌^◌, IfOk, OnOk, Some, None};
-ghost use Rattle.std.specs.Prelude.{if◌then◌else◌, length};
+ghost use Rattle.std.specs.Prelude.{if◌then◌else◌};
 ghost use Rattle.l4_explore.specs.Tries.{deepest};
 ghost use Rattle.l4_core_model.specs.Runs.{Run, at_rest};
 ghost use Rattle.l4_replay.specs.Entries.{after_entry};
@@ -106,7 +106,7 @@ fn choices_of(alloc: Global, walk: &Walk<'_>, cpus: u8) -> Result<Vec<u32>, NoMe
 // Makes a choice. The least deadline of its processor is not farther ahead than the longest period.
 fn make(walk: &mut Walk<'_>, cpus: u8, number: u32) -> Result<(), NoMemory>
     requires run { HasRun walk.old }
-    requires few { length walk.old.order < 2 ^ 61 }
+    requires few { walk.old.events < 2 ^ 61 }
     requires cpus { cpus ≡ walk.old.machine.cpus }
     requires most { cpus < 17 }
     requires number { number < cpus * (cpus + 2) }

@@ -3,7 +3,7 @@ use Rattle.std.specs.Prelude.{slice_get, Some, None, Option, drop, find}
 use Rattle.std.specs.Option.{option_map}
 use Rattle.std.proofs.Common.{◌≡◌, ℕ, ◌+◌, Bool, true, false, List, [], ◌∷◌, map, get_or, refl, sym, ◌∙◌, ap, zero, suc, add-one}
 use Rattle.std.proofs.lemmas.Bool.{cond-true, cond-false}
-use Rattle.l4_model.specs.Words.{Id}
+use Rattle.l4_model.specs.Words.{Id, NilThread, AnyThread, AnyLocalThread, LocalThread, GlobalThread, is_same}
 use Rattle.l4_model.specs.Rules.{takes}
 use Rattle.l4_core_model.specs.Plain.{Waiting, Plain, first_taken, list_of}
 use Rattle.tcb_arena.specs.declared.Sender.{Sender}
@@ -34,6 +34,14 @@ pub found-here : (spec : Id) (f : List Sender) (xs : List ℕ) (k x : ℕ) → s
 found-here spec f xs k x e t =
     ap (λ ys. find (accepts spec) (map (waiting_at f) ys)) (drop_at xs k x e)
     ∙ cond-true (accepts spec (waiting_at f x)) (Some (waiting_at f x)) (found_from spec f xs (suc k)) t
+
+-- Anythread takes the first one.
+pub found-any : (spec : Id) (f : List Sender) (xs : List ℕ) (x : ℕ) → is_same spec AnyThread ≡ true → slice_get xs 0 ≡ Some x → found_from spec f xs 0 ≡ Some (waiting_at f x)
+found-any AnyThread f xs x e here = found-here AnyThread f xs 0 x here refl
+found-any NilThread f xs x e here = absurd (cc)
+found-any AnyLocalThread f xs x e here = absurd (cc)
+found-any (LocalThread word) f xs x e here = absurd (cc)
+found-any (GlobalThread t) f xs x e here = absurd (cc)
 
 pub found-later : (spec : Id) (f : List Sender) (xs : List ℕ) (k x : ℕ) → slice_get xs k ≡ Some x → accepts spec (waiting_at f x) ≡ false → found_from spec f xs k ≡ found_from spec f xs (k + 1)
 found-later spec f xs k x e t =

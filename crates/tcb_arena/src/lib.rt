@@ -24,6 +24,7 @@
 #![tactic(auto)]
 
 ghost use Rattle.std.specs.Prelude.{◌≡◌, ◌<◌, false, length, map, slice_get, All, IfOk, IfSome};
+ghost use Rattle.l4_model.specs.Words.{AnyThread, is_same};
 ghost use Rattle.l4_core_model.specs.Plain.{list_of, is_queued, queued, unqueued, first_taken};
 ghost use Rattle.l4_core_model.specs.Plain.{made_ready, dropped, popped, armed, disarmed};
 ghost use Rattle.l4_core_model.specs.Plain.{due_block};
@@ -165,7 +166,7 @@ impl Arena {
     }
 
     /// The block of the first send at a receiver that a receive phase with this specifier takes
-    /// (manual: Ipc, `FromSpecifier`). Inlined, since usually no send waits.
+    /// (manual: Ipc, `FromSpecifier`). Inlined, since usually no send waits, or all are taken.
     #[inline(always)]
     pub fn first_accepted(&self, receiver: usize, spec: &ThreadId) -> Option<usize>
         requires { receiver < length self.now.waiting }
@@ -173,6 +174,7 @@ impl Arena {
     {
         match self.waiting.first(receiver) {
             None => None,
+            Some(block) if is_any(*spec) => Some(block),
             Some(_) => self.first_accepted_among(receiver, spec),
         }
     }
@@ -350,4 +352,12 @@ fn unused_senders(alloc: Global, blocks: usize) -> Result<Vec<Sender>, NoMemory>
         })?;
     }
     Ok(senders)
+}
+
+// Whether a thread id is anythread.
+#[inline(always)]
+fn is_any(id: ThreadId) -> bool
+    ensures { result ≡ is_same id AnyThread }
+{
+    id == ThreadId::ANY
 }

@@ -17,6 +17,7 @@ use l4_types::steps::OrderKind;
 
 impl World<'_> {
     /// The thread whose receive phase may time out.
+    #[inline(always)]
     pub(crate) fn may_receive_timeout(&self, id: GlobalId) -> Result<Found<'_>, Reason>
         ensures thread { IfOk result (λ t. found self.now.machine self.now.world id ≡ Some t) }
         ensures reason { result_err result ≡

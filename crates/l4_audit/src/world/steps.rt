@@ -67,6 +67,7 @@ impl World<'_> {
     }
 
     /// The thread that may begin a receive phase without a send phase.
+    #[inline(always)]
     pub(crate) fn may_wait(&self, id: GlobalId) -> Result<Found<'_>, Reason>
         ensures thread { IfOk result (λ t. found self.now.machine self.now.world id ≡ Some t) }
         ensures reason { result_err result ≡ reason self.now.machine self.now.world (Wait id) }

@@ -106,7 +106,22 @@ impl ProcessorState<'_> {
 
     /// Whether the send of a thread has timeout zero and may be refused by this receiver, as far as
     /// is known here (manual: Ipc, send timeout).
+    #[inline(always)]
     pub(crate) fn zero_refusable(&self, receiver: usize, sender: usize) -> bool
+        requires receiver { receiver < length self.now.machine.threads }
+        requires sender { sender < length self.now.machine.threads }
+        ensures { result ≡ zero_refusable self.now.machine
+            (held self.now.machine self.now.local receiver) (thread self.now.local sender).send }
+    {
+        if !self.is_zero(sender) {
+            return false;
+        }
+        self.is_refusable(receiver, sender)
+    }
+
+    // The same. Few sends have timeout zero, so it is a call.
+    #[inline(never)]
+    fn is_refusable(&self, receiver: usize, sender: usize) -> bool
         requires receiver { receiver < length self.now.machine.threads }
         requires sender { sender < length self.now.machine.threads }
         ensures { result ≡ zero_refusable self.now.machine

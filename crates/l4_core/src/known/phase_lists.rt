@@ -30,6 +30,7 @@ fn deadline(period: Period, clock: u64) -> Option<u64>
 impl ProcessorState<'_> {
     // Puts a thread of this processor into the lists of its phase. Before the call the thread does
     // not stand in the ready list.
+    #[inline(always)]
     pub(crate) fn enter_lists(&mut self, place: usize)
         requires own { IsOwnOf self.old place }
         requires unready { is_ready_in self.old.local.lists place ≡ false }

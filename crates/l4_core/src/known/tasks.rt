@@ -68,6 +68,7 @@ fn refusal_for(cause: Cause) -> Refusal
 
 impl ProcessorState<'_> {
     // The place of a declared thread of this processor.
+    #[inline(always)]
     fn own_place(&self, id: GlobalId) -> Option<usize>
         ensures value { result ≡ own_place self.now.machine self.now.cpu id }
         ensures own { IfSome result (λ place. IsOwnOf self.now place) }
@@ -82,6 +83,7 @@ impl ProcessorState<'_> {
 
     // The place of a foreign thread.
     #[tactic(auto, using(crate::proofs::Arriving::placed_id))]
+    #[inline(always)]
     fn foreign_place(&self, id: GlobalId) -> Option<usize>
         ensures value { result ≡ foreign_place self.now.machine self.now.cpu id }
         ensures foreign { IfSome result (λ place. IsForeign self.now place) }

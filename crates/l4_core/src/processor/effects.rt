@@ -74,8 +74,23 @@ impl Core<'_> {
         }
     }
 
-    /// Gives a thread the message that another one sends, with this tag.
+    /// Gives a thread the message that another one sends, with this tag. A call: the turn has no
+    /// room for it.
+    #[inline(never)]
     pub(super) fn receive_from(&mut self, place: usize, sender: usize, tag: MsgTag)
+        requires receiver { IsReceiver self.old place }
+        requires sender { sender < length self.old.machine.threads }
+        requires apart { place ≢ sender }
+        ensures { self.new ≡ with_local self.old (comes_to place
+            (receives (outgoing (declared self.old.machine sender).id
+            (thread self.old.local sender)) (word_of_tag tag)) self.old.local) }
+    {
+        self.take_message(place, sender, tag);
+    }
+
+    /// As `receive_from`, in one piece with what asks for it.
+    #[inline(always)]
+    pub(super) fn take_message(&mut self, place: usize, sender: usize, tag: MsgTag)
         requires receiver { IsReceiver self.old place }
         requires sender { sender < length self.old.machine.threads }
         requires apart { place ≢ sender }

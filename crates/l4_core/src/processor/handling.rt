@@ -169,6 +169,7 @@ impl Core<'_> {
     }
 
     // Takes in a send of a foreign thread, which has arrived for its receiver.
+    #[inline(always)]
     fn take_in<S: Sink>(
         &mut self,
         receiver: usize,

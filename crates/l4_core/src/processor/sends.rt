@@ -105,7 +105,7 @@ impl Core<'_> {
         };
         let tag = delivery.tag();
         buffer.emit(StepRef::Deliver(delivery));
-        self.receive_from(receiver, sender, tag);
+        self.take_message(receiver, sender, tag);
         self.end_send(sender, Decision::Delivered, buffer);
     }
 

@@ -42,7 +42,9 @@ use l4_types::tags::MsgTag;
 use l4_types::times::Period;
 
 impl Tcb {
-    /// Applies a change. `now` is the clock of its processor, in ticks.
+    /// Applies a change. `now` is the clock of its processor, in ticks. Inlined, since each caller
+    /// knows which change it is.
+    #[inline(always)]
     pub fn change(&mut self, change: &Change, now: u64)
         requires room { may_advance change.now ≡ true → self.old.thread.context.place + 1 < 2 ^ 64 }
         ensures { self.new ≡ record self.old { thread = change_of change.now now self.old.thread } }
@@ -194,13 +196,25 @@ impl Tcb {
     pub fn decide(&mut self)
         ensures { self.new ≡ record self.old { thread = decided self.old.thread } }
     {
-        self.send = None;
+        self.forget_send();
         self.cancel_send = false;
         self.cancel_receive = false;
     }
 
+    // Forgets its send. A send that was taken at once was never kept, and then nothing is written.
+    #[inline(always)]
+    fn forget_send(&mut self)
+        ensures { self.new ≡ record self.old { thread = record self.old.thread { send = None } } }
+    {
+        if self.send.is_some() {
+            self.send = None;
+        }
+    }
+
     /// Ends its send. `now` is the clock of its processor, in ticks. After a delivery the receive
-    /// phase of the same Ipc begins at once. A deleted thread keeps its registers.
+    /// phase of the same Ipc begins at once. A deleted thread keeps its registers. Inlined, since
+    /// most callers know the decision.
+    #[inline(always)]
     pub fn end_send(&mut self, decision: Decision, now: u64)
         ensures { self.new ≡ record self.old {
           thread = after_decision (decision_of decision) now self.old.thread;
@@ -224,6 +238,7 @@ impl Tcb {
     }
 
     // Ends its send, which was delivered.
+    #[inline(always)]
     fn end_delivered(&mut self, now: u64)
         ensures { self.new ≡ record self.old {
           thread = was_delivered self.old.thread.send now self.old.thread;
@@ -239,14 +254,16 @@ impl Tcb {
         }
     }
 
-    // Begins the receive phase of the same Ipc after a delivery, or ends the Ipc.
+    // Begins the receive phase of the same Ipc after a delivery, or ends the Ipc. Inlined, so that
+    // no receive phase lies in memory on its way here.
+    #[inline(always)]
     fn go_on(&mut self, receive: Option<Receive>, now: u64)
         ensures { self.new ≡ record self.old { thread = goes_on receive now self.old.thread } }
     {
         match receive {
             Some(receive) => {
                 self.phase = Phase::Receiving(receive, now);
-                self.send = None;
+                self.forget_send();
                 self.cancel_send = false;
             }
             None => {

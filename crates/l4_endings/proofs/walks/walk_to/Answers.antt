@@ -4,7 +4,7 @@ use Rattle.l4_model.specs.Machine.{Machine}
 use Rattle.l4_core_model.specs.Runs.{opening_run}
 use Rattle.l4_replay.specs.UnderWay.{IsRun}
 use Rattle.l4_endings.specs.Inner.Walked.{IsWalked}
-use Rattle.l4_endings.proofs.Walking.{has_run, number_at, order_length, walked_more, walked_start}
+use Rattle.l4_endings.proofs.Walking.{has_run, number_at, events_count, walked_more, walked_start}
 use Rattle.l4_endings.proofs.walks.walk_to.Goals as goal
 
 pub loop-number-init : goal.loop-number-init
@@ -26,7 +26,7 @@ make-requires-clause-few c =
       arith,
       c.requires.few,
       inside,
-      order_length c.args.aims.now (take c.loop-number.number-index c.args.numbers.now)
+      events_count c.args.aims.now (take c.loop-number.number-index c.args.numbers.now)
           c.loop-number.walk c.loop-number.invariant,
       length-take-le c.loop-number.number-index c.args.numbers.now (omega (arith, inside)),
     )

@@ -9,6 +9,3 @@ of_history-requires-clause-once c = subst (λ (history : RunHistory). AreBegunOn
 
 pub waiting-requires-clause-once : goal.waiting-requires-clause-once
 waiting-requires-clause-once c = subst (λ (history : RunHistory). AreBegunOnce (steps_of history)) c.in-Logs.is c.requires.once
-
-pub waiting-requires-in-Ordered-clause-once : goal.waiting-requires-in-Ordered-clause-once
-waiting-requires-in-Ordered-clause-once c = subst (λ (history : RunHistory). AreBegunOnce (steps_of history)) c.in-Ordered.is c.requires.once

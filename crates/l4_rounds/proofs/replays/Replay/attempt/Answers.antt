@@ -1,10 +1,10 @@
 use Rattle.std.proofs.Common.{refl, arith}
-use Rattle.l4_rounds.proofs.Replaying.{event_in, few_order, listed_in, none_in}
+use Rattle.l4_rounds.proofs.Replaying.{event_in, few_events, listed_in, none_in}
 use Rattle.l4_rounds.proofs.replays.Replay.attempt.Goals as goal
 
 pub take-requires-clause-few : goal.take-requires-clause-few
 take-requires-clause-few c =
-    let few = few_order c.args.self.now c.requires.replay in omega (arith, few, c.requires.few)
+    let few = few_events c.args.self.now c.requires.replay in omega (arith, few, c.requires.few)
 
 pub returns-in_ok-push : goal.returns-in_ok-push
 returns-in_ok-push c =

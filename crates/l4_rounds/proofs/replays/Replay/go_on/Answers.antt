@@ -1,11 +1,11 @@
 use Rattle.std.proofs.Common.{◌≡◌, suc, ◌+◌, ◌-◌, inl, inr, subst, arith}
-use Rattle.l4_rounds.proofs.Replaying.{few_order, going_ended, going_on, IsGoing}
+use Rattle.l4_rounds.proofs.Replaying.{few_events, going_ended, going_on, IsGoing}
 use Rattle.l4_rounds.proofs.replays.Replay.go_on.Goals.{then-after-before-via-then-after-before, then-after-before-via-else-after-before+then-after-most}
 use Rattle.l4_rounds.proofs.replays.Replay.go_on.Goals as goal
 
 pub overflow_add-most : goal.overflow_add-most
 overflow_add-most c =
-    let few = few_order c.args.self.now c.requires.replay in
+    let few = few_events c.args.self.now c.requires.replay in
     omega (arith, few, c.requires.few, c.events.ensures)
 
 pub returns-then-after-before : goal.returns-then-after-before

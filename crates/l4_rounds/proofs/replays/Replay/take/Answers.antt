@@ -1,10 +1,10 @@
 use Rattle.std.proofs.Common.{arith}
-use Rattle.l4_rounds.proofs.Replaying.{few_order, listed_in}
+use Rattle.l4_rounds.proofs.Replaying.{few_events, listed_in}
 use Rattle.l4_rounds.proofs.replays.Replay.take.Goals as goal
 
 pub take-requires-clause-few : goal.take-requires-clause-few
 take-requires-clause-few c =
-    let few = few_order c.args.self.now c.requires.replay in omega (arith, few, c.requires.few)
+    let few = few_events c.args.self.now c.requires.replay in omega (arith, few, c.requires.few)
 
 pub returns-clause-replay : goal.returns-clause-replay
 returns-clause-replay c =

@@ -1,7 +1,7 @@
 use Rattle.std.proofs.Common.{◌∙◌, List, ap, length, refl, subst}
 use Rattle.l4_model.specs.Steps.{Step}
 use Rattle.l4_core_model.specs.Runs.{told}
-use Rattle.l4_replay.proofs.Delivered.{on_ok}
+use Rattle.l4_replay.proofs.Replays.{on_both}
 use Rattle.l4_told.specs.Inner.Kept.{begins}
 use Rattle.l4_told.proofs.Ended.{told_come}
 use Rattle.l4_told.proofs.Telling.{both, left_is, untold_within}
@@ -14,7 +14,7 @@ tell-requires g c =
 
 pub returns-clause-told : goal.returns-clause-told
 returns-clause-told g c =
-    on_ok c.forget.result c.forget.ensures.steps (both _ _ c.forget.result c.forget.ensures.untold c.forget.ensures.all)
+    on_both c.forget.result c.forget.ensures.steps (both _ _ c.forget.result c.forget.ensures.untold c.forget.ensures.all)
     (λ steps marks m r before come. (
       come.telling.left,
       told_come m r before c.args.self.now (record c.args.self.now { kept = c.forget.new.self })

@@ -4,7 +4,7 @@
 
 LIBRARY is what threads.c makes. Each text of examples/ and a machine of 16 busy processors is run with no thread, with little address space, and with one
 thread refused: the first, then the second, until a run ends in which none was refused. RUNS is how many runs of each text there are at most, SECONDS
-how long one may take. The space is 12 MiB, in which no thread can be started, as its stack alone takes 8; the run is short then, since a trace is made
+how long one may take. The space is 10 MiB, in which no thread can be started, as its stack alone takes 8; the run is short then, since a trace is made
 whole before it is written.
 """
 
@@ -23,7 +23,7 @@ import texts  # noqa: E402
 
 EXAMPLES = TOP / "examples"
 ENDS = (0, 3)
-LITTLE_SPACE = 12 << 20
+LITTLE_SPACE = 10 << 20
 TURNS, FEW_TURNS = 20_000, 500
 
 

@@ -14,7 +14,6 @@ use Rattle.l4_futures.specs.Endings.{length_of}
 use Rattle.l4_futures.specs.Inner.Asked.{TellsNoneApart}
 use Rattle.l4_futures.specs.Inner.Search.{state_after}
 use Rattle.l4_futures.specs.Traces.{trace_along}
-use Rattle.l4_futures.proofs.Kept.{state_led}
 use Rattle.l4_futures.proofs.Led.{is_led}
 use Rattle.l4_forever.specs.Inner.Graph.{IsWorldAt}
 use Rattle.l4_all_endings.specs.Tried.{LeadsToWorld}
@@ -77,11 +76,6 @@ first_here m found condition place w are at holds none = record {
           where
             ap-length : place ≡ other → length (seen_at found place).schedule ≤ length (seen_at found other).schedule
             ap-length same = subst (λ k. length (seen_at found place).schedule ≤ length (seen_at found k).schedule) same (omega arith)
-
-pub some_world : (m : Machine) (found : List Seen) (place : ℕ) (entries : List ℕ) → AreFound (state_after m) found → place < length found → entries ≡ (seen_at found place).schedule → IsSome (world_after m entries)
-some_world m found place entries are inside is =
-    let on = state_led m (seen_at found place).schedule (seen_at found place).state (are.reached place inside) in
-    subst IsSome (sym (ap (world_after m) is ∙ on.1)) refl
 
 -- A history that meets it
 

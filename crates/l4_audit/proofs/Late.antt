@@ -3,13 +3,13 @@ use Rattle.std.proofs.Common.{◌≡◌, Bool, true, false, Option, Some, None, 
 use Rattle.std.specs.Prelude.{◌&&◌, not, is_some, is_none, IfOk}
 use Rattle.l4_model.specs.Words.{GlobalId}
 use Rattle.l4_model.specs.Machine.{Machine}
-use Rattle.l4_model.specs.World.{Name, Receive, World, change, must_wait, receive_now, unqueued}
-use Rattle.l4_model.specs.Effects.{fails, refused}
-use Rattle.l4_model.specs.Conditions.{Found, Pending, found, undecided, first_accepted}
+use Rattle.l4_model.specs.World.{Name, World, change, must_wait, unqueued}
+use Rattle.l4_model.specs.Effects.{refused}
+use Rattle.l4_model.specs.Conditions.{Pending, undecided}
 use Rattle.l4_model.specs.Steps.{Step, ReceiveTimeout, SendTimeout, next, without_send}
 use Rattle.l4_model.proofs.Chains.{some_is}
 use Rattle.l4_worlds.specs.Late.{may_time_out, next_late}
-use Rattle.l4_worlds.proofs.Taken.{late_send_timeout, late_receive_timeout}
+use Rattle.l4_worlds.proofs.Taken.{late_send_timeout}
 use Rattle.l4_types.specs.declared.step_ref.DeliveryRef.{DeliveryRef}
 use Rattle.l4_types.specs.declared.steps.Step as steps
 use Rattle.l4_types.specs.declared.steps.Step.TheVariants as types
@@ -41,13 +41,6 @@ send_lands a b s p is goes e =
     let k = late_send_timeout a.machine a.world v s h in
     e ∙ ap (with_world a) (ap (λ (x : Pending). without_send a.world x (refused 2)) (some_is p k.p (sym is ∙ k.is_undecided)) ∙ k.leads_to)
 
-pub receive_lands : (a b : Audited) (id : GlobalId) (t : Found) → found a.machine a.world id ≡ Some t → is_some (next_late a.machine a.world (ReceiveTimeout id)) ≡ true →
-    b ≡ with_world a (change a.world t.at (fails 3)) → IsTakenLate a (ReceiveTimeout id) b
-receive_lands a b id t is goes e =
-    lands a b (ReceiveTimeout id) goes λ v h.
-    let k = late_receive_timeout a.machine a.world v id h in
-    e ∙ ap (with_world a) (ap (λ (x : Found). change a.world x.at (fails 3)) (some_is t k.t (sym is ∙ k.found)) ∙ k.leads_to)
-
 -- Whether they are possible, test by test
 
 pub send_goes : (m : Machine) (w : World) (s : Name) (p : Pending) → undecided m w s ≡ Some p →
@@ -58,24 +51,6 @@ send_goes m w s p is = by (may_time_out m w p) (not (must_wait w.owed s.thread p
     by true true x y = rw (is, x, y) refl
     by true false x y = rw (is, x, y) refl
     by false b x y = rw (is, x) refl
-
-pub send_missing : (m : Machine) (w : World) (s : Name) → undecided m w s ≡ None → is_some (next_late m w (SendTimeout s)) ≡ false
-send_missing m w s is = rw is refl
-
-pub receive_goes : (m : Machine) (w : World) (id : GlobalId) (t : Found) (receive : Receive) → found m w id ≡ Some t → receive_now t.now.phase ≡ Some receive →
-    is_some (next_late m w (ReceiveTimeout id)) ≡ (is_some receive.period && is_none (first_accepted m w t receive.from))
-receive_goes m w id t receive is receiving = by (is_some receive.period) (is_none (first_accepted m w t receive.from)) refl refl
-  where
-    by : (a b : Bool) → is_some receive.period ≡ a → is_none (first_accepted m w t receive.from) ≡ b → is_some (next_late m w (ReceiveTimeout id)) ≡ (a && b)
-    by true true x y = rw (is, receiving, x, y) refl
-    by true false x y = rw (is, receiving, x, y) refl
-    by false b x y = rw (is, receiving, x) refl
-
-pub thread_missing : (m : Machine) (w : World) (id : GlobalId) → found m w id ≡ None → is_some (next_late m w (ReceiveTimeout id)) ≡ false
-thread_missing m w id is = rw is refl
-
-pub phase_missing : (m : Machine) (w : World) (id : GlobalId) (t : Found) → found m w id ≡ Some t → receive_now t.now.phase ≡ None → is_some (next_late m w (ReceiveTimeout id)) ≡ false
-phase_missing m w id t is receiving = rw (is, receiving) refl
 
 -- A step that asks for no time is possible where no reason is told against it.
 pub now_exactly : (m : Machine) (w : World) (step : Step) → is_some (next m w step) ≡ is_none (reason m w step)

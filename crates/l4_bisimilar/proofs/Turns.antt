@@ -3,7 +3,7 @@ use Rattle.std.proofs.Common.{◌≡◌, ℕ, Bool, true, false, Option, Some, N
 use Rattle.std.specs.Prelude.{find, is_some, nat_lt, slice_get, slice_index_or}
 use Rattle.std.specs.Option.{option_map}
 use Rattle.l4_model.specs.Options.{if_some}
-use Rattle.l4_model.specs.Rules.{Act, Sends, act, ipc_act, request, id_from, receive_phase, receive_timeout_code, receive_nobody_code, receive_cancelled_code}
+use Rattle.l4_model.specs.Rules.{Act, Sends, act, ipc_act, request, id_from, receive_phase, TimeOver, NobodyThere, CancelAsked, receive_code}
 use Rattle.l4_model.specs.Words.{clock_limit, GlobalId, Id, NilThread, AnyThread, AnyLocalThread, LocalThread, GlobalThread, Period}
 use Rattle.l4_model.specs.Machine.{Instr, Run, Ipc, Ask, End, Machine, instruction_at, place_of}
 use Rattle.l4_model.specs.World.{Context, Owed, Receive, Thread, is_deleted, receive_now}
@@ -162,11 +162,11 @@ module _ (w : Way) (m : Machine) (cpu : ℕ) where
       (keeps_like w (has_told q i) (λ l. refl) x y h)) s t (cc) x y h
   does_duty_like i CancelsOwn CancelsOwn same x y h = refuses_like w m cpu Cancelled i x y h
   does_duty_like i CancelsReceive CancelsReceive same x y h =
-      fails_receive_like w m cpu ReceiveCancel receive_cancelled_code i x y h
+      fails_receive_like w m cpu ReceiveCancel (receive_code CancelAsked) i x y h
   does_duty_like i (DeliversFirst s) (DeliversFirst t) same x y h =
       at_place (λ q. does_duty m cpu i (DeliversFirst q)) (delivers_like w m cpu i) s t (cc) x y h
   does_duty_like i ClosesReceive ClosesReceive same x y h =
-      fails_receive_like w m cpu ReceiveNobody receive_nobody_code i x y h
+      fails_receive_like w m cpu ReceiveNobody (receive_code NobodyThere) i x y h
   does_duty_like i (RefusesZero s) (RefusesZero t) same x y h =
       at_place (λ q. does_duty m cpu i (RefusesZero q)) (refuses_like w m cpu TimedOut) s t (cc) x y h
   does_duty_like i d e same x y h = cc
@@ -175,7 +175,7 @@ module _ (w : Way) (m : Machine) (cpu : ℕ) where
   times_out_like i x y h =
       cond_like w (is_some (receive_now (thread x.local i).phase)) (is_some (receive_now (thread y.local i).phase))
       _ _ _ _ (ap is_some (phase_like w receive_now (λ r a b. refl) x.local y.local i h.local))
-      (fails_receive_like w m cpu ReceiveTimeout receive_timeout_code i x y h)
+      (fails_receive_like w m cpu ReceiveTimeout (receive_code TimeOver) i x y h)
       (cond_like w (plain.is_queued x.local.lists i) (plain.is_queued y.local.lists i) _ _ _ _
       (queued_like w x.local y.local i h.local) (refuses_like w m cpu TimedOut i x y h)
       (split_withdraws_like w m cpu ByTimeout i x y h))

@@ -62,13 +62,6 @@ goes_on text line left rest tone b is test toned = let plain = sym toned ∙ is_
       b.same ∙ ap (λ xs. b.front ++ xs) (parted line left rest is ∙ ap (λ xs. xs ++ 10 ∷ painted rest) (plain_line line plain)) ∙ shape;
 }
 
-pub all_plain : (text left : List ℕ) (tone : Tone) → IsBehindPlain text left → lines_of left ≡ left ∷ [] → is_plain tone ≡ true → tone ≡ line_tone left → painted text ≡ text
-all_plain text left tone b is test toned = let plain = sym toned ∙ is_it tone test in
-    b.same ∙ ap (λ xs. b.front ++ xs) (ap (λ ls. join_with_byte 10 (map painted_line ls)) is ∙ plain_line left plain) ∙ sym b.is
-
-pub left_within : (text left : List ℕ) → IsBehindPlain text left → length left ≤ length text
-left_within text left b = let e = ap length b.is in grind (arith, common_steps, e)
-
 pub line_within : (line left rest : List ℕ) → lines_of left ≡ line ∷ lines_of rest → length line ≤ length left
 line_within line left rest is = let e = ap length (left_is line left rest is) in grind (arith, common_steps, e)
 
@@ -104,16 +97,6 @@ found text line left rest before line' behind tone tone' b is some toned front t
   where
     dropped : (line rest : List ℕ) → drop (length line) (line ++ rest) ≡ rest
     dropped line rest = grind (arith, common_steps)
-
-pub found_last : (text left before line' behind : List ℕ) (tone tone' : Tone) → IsBehindPlain text left → lines_of left ≡ left ∷ [] → is_plain tone ≡ false → tone ≡ line_tone left →
-    before ≡ take (length text - length left) text → tone' ≡ tone → line' ≡ left → behind ≡ drop (length left) left →
-    painted text ≡ before ++ (begin_of tone' ++ (line' ++ (end ++ painted behind)))
-found_last text left before line' behind tone tone' b is some toned front tone_is line_is last =
-    let behind_is : behind ≡ [] = (let none : drop (length left) left ≡ [] = grind (arith, common_steps) in last ∙ none) in
-    let rest_is : painted behind ≡ [] = ap painted behind_is in
-    b.same ∙ ap (λ xs. xs ++ painted left) (sym (before_is text left b) ∙ sym front)
-    ∙ ap (λ xs. before ++ xs) (ap (λ ls. join_with_byte 10 (map painted_line ls)) is ∙ toned_is tone left some (sym toned) ∙ sym (append-nil (begin_of tone ++ (left ++ end))) ∙ ap (λ xs. (begin_of tone ++ (left ++ end)) ++ xs) (sym rest_is))
-    ∙ around tone before left (painted behind) ∙ same_bytes before left line' (end ++ painted behind) tone tone' tone_is line_is
 
 -- A line that has a tone has a byte, so less is left behind it.
 some_bytes : (line : List ℕ) (tone : Tone) → is_plain tone ≡ false → line_tone line ≡ tone → 0 < length line

@@ -2,7 +2,7 @@
 
 /// The version of the program and of the kit that proves it, and the profiles and formats that it
 /// reads.
-pub const VERSION: &str = "0.51
+pub const VERSION: &str = "0.52
 rattle-kit-13b logic dac8208d650f15bf
 profiles 1 and 2, words of 64 and 32 bits";
 

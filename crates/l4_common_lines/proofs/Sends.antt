@@ -10,7 +10,6 @@ use Rattle.l4_model.specs.Conditions.{Pending, undecided}
 use Rattle.l4_model.specs.History.{reached, report_of, waiting}
 use Rattle.l4_model.proofs.Chains.{some_is}
 use Rattle.l4_model.proofs.Places.{known_send, eqb_same, place_id}
-use Rattle.l4_core_model.specs.Runs.{is_empty}
 use Rattle.l4_bisimilar.specs.Shifted.{timeless_send}
 use Rattle.l4_bisimilar.specs.InCommon.{AreDeleted, AreToldAlike, HaveInCommon, thread_at}
 use Rattle.l4_common_lines.proofs.Begun.{Has, is_listed, is_pending}
@@ -118,10 +117,3 @@ common_back m w v alike = λ place inside. back (alike place inside)
             ((id : GlobalId) → report_of id b ≡ report_of id a) ⊎ AreDeleted b a
         turned (inl told) = inl (λ id. sym (told id))
         turned (inr deleted) = inr (deleted.1, deleted.0)
-
-pub empty_alike : (xs ys : List (Name × Id)) → ((x : Name × Id) → Has x xs → HasLike x ys) →
-    ((y : Name × Id) → Has y ys → HasLike y xs) → is_empty xs ≡ is_empty ys
-empty_alike [] [] there back = refl
-empty_alike [] (y ∷ ys) there back = absurd (back y (inl refl)).has
-empty_alike (x ∷ xs) [] there back = absurd (there x (inl refl)).has
-empty_alike (x ∷ xs) (y ∷ ys) there back = refl

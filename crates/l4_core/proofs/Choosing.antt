@@ -1,6 +1,6 @@
 -- What the next turn is about: the first duty, a due timeout, or a ready thread.
 use Rattle.std.proofs.Common.{◌≡◌, ℕ, zero, suc, ◌+◌, ◌<◌, ◌≤◌, subst, Bool, true, false, cond, Option, Some, None, List, [], ◌∷◌, length, filter, refl, sym, ap, ◌∙◌, inl, inr, ◌⊎◌, arith}
-use Rattle.std.specs.Prelude.{slice_get}
+use Rattle.std.specs.Prelude.{slice_get, is_some, MatchOption}
 use Rattle.std.specs.Option.{option_map}
 use Rattle.std.specs.List.{range_with_len}
 use Rattle.std.proofs.lemmas.Bool.{cases_eq}
@@ -8,7 +8,9 @@ use Rattle.l4_model.specs.Machine.{Machine}
 use Rattle.l4_core_model.specs.Plain as plain
 use Rattle.l4_core_model.specs.Local.{Local, is_own}
 use Rattle.l4_core_model.specs.Turns.{Duty, Choice, ByDuty, ByDue, ByReady, first_some, first_duty, choice}
-use Rattle.l4_core.specs.Inner.Covered.{duty_at, IsFirstDuty, HasNoDuty}
+use Rattle.l4_core.specs.Inner.Covered.{duty_at, Covers, IsFirstDuty, HasNoDuty}
+use Rattle.l4_core.specs.Inner.Places.{has, IsFirst}
+use Rattle.l4_core.specs.Processor.{Processor}
 
 -- The first duty
 
@@ -69,3 +71,11 @@ due_first o p q e = rw e
 
 pub ready_next : (o q : Option ℕ) → o ≡ None → first_some (option_map ByDue o ∷ option_map ByReady q ∷ []) ≡ option_map ByReady q
 ready_next o q e = rw e (only_second (option_map ByReady q))
+
+-- Where no place may have a duty, and no deadline is due, it is about the first ready thread.
+pub chooses_ready : (p : Processor) (duties : List ℕ) (first due : Option ℕ) → Covers duties p.machine p.cpu p.local → MatchOption first ((place : ℕ) → has duties place ≡ false) (IsFirst duties) → is_some first ≡ false →
+    due ≡ plain.due_block p.local.clock p.local.lists.armed → is_some due ≡ false → choice p.machine p.cpu p.local ≡ option_map ByReady (slice_get p.local.lists.ready 0)
+chooses_ready p duties None None covers empty e due f =
+    chooses_other p.machine p.cpu p.local (λ place own. covers.others place own (empty place)) ∙ ready_next (plain.due_block p.local.clock p.local.lists.armed) (slice_get p.local.lists.ready 0) (sym due)
+chooses_ready p duties None (Some i) covers empty e due f = cc
+chooses_ready p duties (Some i) due covers empty e is f = cc

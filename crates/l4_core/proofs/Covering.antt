@@ -149,12 +149,16 @@ pub no_duty : (o : Option Duty) → is_some o ≡ false → o ≡ None
 no_duty None e = refl
 no_duty (Some duty) e = cc
 
-pub covers-unnoted : (d : List ℕ) (m : Machine) (cpu : ℕ) (l : Local) (i : ℕ) → CoversOthers i d m cpu l → is_some (duty_at m cpu l i) ≡ false → Covers d m cpu l
-covers-unnoted d m cpu l i c idle = record { within = c.within; others = λ o own h. by o own h (cases_eq o i) }
+-- The place itself was in, or it has no duty.
+pub covers-idle : (d : List ℕ) (m : Machine) (cpu : ℕ) (l : Local) (i : ℕ) → CoversOthers i d m cpu l → (has d i ≡ false → duty_at m cpu l i ≡ None) → Covers d m cpu l
+covers-idle d m cpu l i c idle = record { within = c.within; others = λ o own h. by o own h (cases_eq o i) }
   where
     by : (o : ℕ) → IsOwn m cpu o → has d o ≡ false → (o ≡ i) ⊎ (o ≡ i → ⊥) → duty_at m cpu l o ≡ None
-    by o own h (inl same) = subst (λ k. duty_at m cpu l k ≡ None) (sym same) (no_duty (duty_at m cpu l i) idle)
+    by o own h (inl same) = subst (λ k. duty_at m cpu l k ≡ None) (sym same) (idle (subst (λ k. has d k ≡ false) same h))
     by o own h (inr apart) = c.others o own (λ same. apart (sym same)) h
+
+pub covers-unnoted : (d : List ℕ) (m : Machine) (cpu : ℕ) (l : Local) (i : ℕ) → CoversOthers i d m cpu l → is_some (duty_at m cpu l i) ≡ false → Covers d m cpu l
+covers-unnoted d m cpu l i c idle = covers-idle d m cpu l i c (λ h. no_duty (duty_at m cpu l i) idle)
 
 -- Of two places the first one was noted, or has no duty.
 pub but-noted : (d e : List ℕ) (m : Machine) (cpu : ℕ) (l : Local) (i j : ℕ) → CoversBut i j d m cpu l → IsOwn m cpu i → ((o : ℕ) → has e o ≡ (has d o || o == i)) → CoversOthers j e m cpu l

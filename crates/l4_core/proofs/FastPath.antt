@@ -57,7 +57,7 @@ all_without_none p (ws ∷ wss) e =
     ap (λ vs. vs ∷ map (filter (λ w. not (p w))) wss) (without_none p ws parts.0) ∙ ap (λ vss. ws ∷ vss) (all_without_none p wss parts.1)
 
 -- A list where one was queued and taken out again is the list.
-queued_and_taken : (p : Waiting → Bool) (wss : List (List Waiting)) (r : ℕ) (x : Waiting) → list_any (list_any p) wss ≡ false → p x ≡ true →
+pub queued_and_taken : (p : Waiting → Bool) (wss : List (List Waiting)) (r : ℕ) (x : Waiting) → list_any (list_any p) wss ≡ false → p x ≡ true →
     map (filter (λ w. not (p w))) (changed (λ ws. ws ++ x ∷ []) wss r) ≡ wss
 queued_and_taken p [] r x e last = refl
 queued_and_taken p (ws ∷ wss) zero x e last =
@@ -126,7 +126,7 @@ changed_twice b g h [] i e = refl
 changed_twice b g h (t ∷ ts) zero e = ap (λ u. u ∷ ts) (e t)
 changed_twice b g h (t ∷ ts) (suc i) e = ap (λ us. t ∷ us) (changed_twice b g h ts i e)
 
-changed_around : (b f g h : Thread → Thread) (ts : List Thread) (i r : ℕ) → ((t : Thread) → g (b t) ≡ h t) → (r ≡ i → ⊥) → changed g (changed f (changed b ts i) r) i ≡ changed h (changed f ts r) i
+pub changed_around : (b f g h : Thread → Thread) (ts : List Thread) (i r : ℕ) → ((t : Thread) → g (b t) ≡ h t) → (r ≡ i → ⊥) → changed g (changed f (changed b ts i) r) i ≡ changed h (changed f ts r) i
 changed_around b f g h [] i r e ne = refl
 changed_around b f g h (t ∷ ts) zero zero e ne = absurd (ne refl)
 changed_around b f g h (t ∷ ts) zero (suc r) e ne = ap (λ u. u ∷ changed f ts r) (e t)
@@ -200,7 +200,7 @@ zero_taken m h send receive since e a =
     ap (λ p. is_zero send.period && (is_alive p && not (may_still_accept m h send.message.shown p))) e
     ∙ ap (λ b. is_zero send.period && (true && not b)) a ∙ never (is_zero send.period)
 
-arrives_taken : (m : Machine) (cpu r i : ℕ) (y : Work) (send : Send) (receive : Receive) (since : ℕ) → (thread y.local i).send ≡ Some send → (thread y.local r).phase ≡ Receiving receive since → accepts m receive.from send.message.shown (declared m r).id ≡ true →
+pub arrives_taken : (m : Machine) (cpu r i : ℕ) (y : Work) (send : Send) (receive : Receive) (since : ℕ) → (thread y.local i).send ≡ Some send → (thread y.local r).phase ≡ Receiving receive since → accepts m receive.from send.message.shown (declared m r).id ≡ true →
     arrives m cpu r i y ≡ queues_send m cpu r i (Some send) y
 arrives_taken m cpu r i y send receive since has waits a =
     ap (λ o. cond (is_deleted (thread y.local r).phase) (refuses m cpu Nobody i y) (cond (zero_refusable m (held m y.local r) o) (refuses m cpu TimedOut i y) (queues_send m cpu r i o y))) has
@@ -214,21 +214,22 @@ owes_nothing m s message receiver e =
     ap (λ b. cond (m.retargeting && b) (Some owed) None) e ∙ ap (λ b. cond b (Some owed) None) (never m.retargeting)
 
 -- The work once a send is queued.
-abbrev queued_work : Machine → (r i : ℕ) → Send → Work → Work
+abbrev pub queued_work : Machine → (r i : ℕ) → Send → Work → Work
 queued_work m r i send y = y ▷ tells_send m Queue i ▷ does (relists (plain.queued r (entry m r i send)))
 
 -- The same once its message has come to the receiver.
-abbrev handed_work : Machine → (r i : ℕ) → Message → (tag : ℕ) → Work → Work
+abbrev pub handed_work : Machine → (r i : ℕ) → Message → (tag : ℕ) → Work → Work
 handed_work m r i message tag z =
     z ▷ tells (Deliver (last_name m z.local i) (declared m r).id message.shown message.actual tag message.words) ▷ does (comes_to r (receives message tag))
 
-abbrev ended_work : (i : ℕ) → Work → Work
+abbrev pub ended_work : (i : ℕ) → Work → Work
 ended_work i v = v ▷ does (relists (plain.unqueued i)) ▷ does (comes_to i (after_decision Delivered v.local.clock))
 
-queues_taken : (m : Machine) (cpu r i : ℕ) (y : Work) (send : Send) (receive : Receive) (since : ℕ) → r < length y.local.lists.waiting → (thread y.local i).send ≡ Some send → (thread y.local r).phase ≡ Receiving receive since →
-    accepts m receive.from send.message.shown (declared m r).id ≡ true → plain.first_taken receive.from (plain.list_of y.local.lists r) ≡ None → send.message.propagated ≡ false → is_own m cpu i ≡ true →
-    queues_send m cpu r i (Some send) y ≡ ended_work i (handed_work m r i send.message (received_tag (is_cross m (declared m r).id send.message) send.message) (queued_work m r i send y))
-queues_taken m cpu r i y send receive since listed has waits a none ordinary own =
+-- A send that its receiver takes at once is queued, handed over, and decided.
+pub queues_handed : (m : Machine) (cpu r i : ℕ) (y : Work) (send : Send) (receive : Receive) (since : ℕ) → r < length y.local.lists.waiting → (thread y.local i).send ≡ Some send → (thread y.local r).phase ≡ Receiving receive since →
+    accepts m receive.from send.message.shown (declared m r).id ≡ true → plain.first_taken receive.from (plain.list_of y.local.lists r) ≡ None → send.message.propagated ≡ false →
+    queues_send m cpu r i (Some send) y ≡ decides_send m cpu Delivered i (handed_work m r i send.message (received_tag (is_cross m (declared m r).id send.message) send.message) (queued_work m r i send y))
+queues_handed m cpu r i y send receive since listed has waits a none ordinary =
     let w : Waiting = entry m r i send in
     let s : Plain = y.local.lists in
     let z : Work = queued_work m r i send y in
@@ -242,6 +243,14 @@ queues_taken m cpu r i y send receive since listed has waits a none ordinary own
     ap (λ b. cond b (delivers m cpu r i z) z) first
     ∙ ap (λ o. delivers_send m cpu r i o z) has
     ∙ ap (λ o. owes_for m cpu r o (decides_send m cpu Delivered i v)) (owes_nothing m (last_name m z.local i) send.message (declared m r).id ordinary)
+
+queues_taken : (m : Machine) (cpu r i : ℕ) (y : Work) (send : Send) (receive : Receive) (since : ℕ) → r < length y.local.lists.waiting → (thread y.local i).send ≡ Some send → (thread y.local r).phase ≡ Receiving receive since →
+    accepts m receive.from send.message.shown (declared m r).id ≡ true → plain.first_taken receive.from (plain.list_of y.local.lists r) ≡ None → send.message.propagated ≡ false → is_own m cpu i ≡ true →
+    queues_send m cpu r i (Some send) y ≡ ended_work i (handed_work m r i send.message (received_tag (is_cross m (declared m r).id send.message) send.message) (queued_work m r i send y))
+queues_taken m cpu r i y send receive since listed has waits a none ordinary own =
+    let tag : ℕ = received_tag (is_cross m (declared m r).id send.message) send.message in
+    let v : Work = handed_work m r i send.message tag (queued_work m r i send y) in
+    queues_handed m cpu r i y send receive since listed has waits a none ordinary
     ∙ ap (λ b. cond b (ended_work i v) (v ▷ does (relists (plain.unqueued i)) ▷ does (changes i decided) ▷ posts (declared m i).cpu (DoneLetter (last_name m v.local i) Delivered))) own
 
 fast_acts : (m : Machine) (cpu : ℕ) (x : Work) (r i : ℕ) (send : Send) (receive : Receive) (since : ℕ) → IsFast m cpu x.local r i send receive since →
@@ -268,11 +277,11 @@ fast_acts m cpu x r i send receive since f =
 
 -- A receiver that takes a send at once
 
-none_is : {A : Type 0} (o : Option A) → is_none o ≡ true → o ≡ None
+pub none_is : {A : Type 0} (o : Option A) → is_none o ≡ true → o ≡ None
 none_is None e = refl
 none_is (Some x) e = cc
 
-not_so : (b : Bool) → not b ≡ true → b ≡ false
+pub not_so : (b : Bool) → not b ≡ true → b ≡ false
 not_so true e = cc
 not_so false e = refl
 

@@ -431,6 +431,18 @@ fits-stands_in m cpu l i k receiver message zero_timeout s lt away from count = 
   ready = λ q. (s.ready i q).phase;
 }
 
+pub fits-taken : (m : Machine) (cpu : ℕ) (l : Local) (i k : ℕ) (send : Send) → IsSettled m cpu l → i < length m.threads → is_own m cpu i ≡ false → plain.is_queued l.lists i ≡ false → Fits m cpu l i (decided (stands_in k send (thread l i)))
+fits-taken m cpu l i k send s lt away unqueued = record {
+  within = lt;
+  sent = tt;
+  begun = λ mine. let wrong : true ≡ false = sym mine ∙ away in cc;
+  ordering = λ mine. let wrong : true ≡ false = sym mine ∙ away in cc;
+  sends = λ q. let wrong : true ≡ false = sym q ∙ unqueued in cc;
+  here = λ q. let wrong : true ≡ false = sym q ∙ unqueued in cc;
+  sending = λ mine e. cc;
+  ready = λ q. (s.ready i q).phase;
+}
+
 pub fits-gone : (m : Machine) (cpu : ℕ) (l : Local) (i : ℕ) → IsSettled m cpu l → i < length m.threads → is_own m cpu i ≡ false → Fits m cpu l i (is_gone_now (thread l i))
 fits-gone m cpu l i s lt away = record {
   within = lt;

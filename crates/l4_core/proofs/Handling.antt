@@ -1,13 +1,13 @@
 -- A letter does what was found that it asks for.
-use Rattle.std.proofs.Common.{◌≡◌, ℕ, Bool, true, false, cond, is_some, is_none, Option, Some, None, ◌||◌, ◌↔◌, List, [], ◌∷◌, zero, suc, refl, ap, sym, ◌∙◌, subst, arith}
+use Rattle.std.proofs.Common.{◌≡◌, ℕ, Result, Ok, Err, IfOk, not, Bool, true, false, cond, is_some, is_none, Option, Some, None, ◌||◌, ◌↔◌, List, [], ◌∷◌, zero, suc, refl, ap, sym, ◌∙◌, subst, arith}
 use Rattle.std.specs.Prelude.{◌==◌, slice_index_or}
 use Rattle.std.specs.Option.{option_map}
 use Rattle.l4_model.specs.Words.{GlobalId, same_id}
-use Rattle.l4_model.specs.Machine.{Machine, is_declared}
-use Rattle.l4_model.specs.World.{Message, Phase, Ready, Sending, Receiving, Ordering, Ended, Deleted, Thread, changed, is_deleted, opening_thread}
+use Rattle.l4_model.specs.Machine.{Machine, is_declared, place_of}
+use Rattle.l4_model.specs.World.{Message, Name, Phase, Ready, Sending, Receiving, Ordering, Ended, Deleted, Thread, changed, is_deleted, opening_thread}
 use Rattle.l4_model.specs.Effects.{obeyed}
 use Rattle.l4_model.specs.Conditions.{◌>>=◌, ◌>>◌}
-use Rattle.l4_core_model.specs.Local.{Local, changes, comes_to, entered, stand_in, stands_in, thread}
+use Rattle.l4_core_model.specs.Local.{Local, changes, comes_to, entered, is_own, stand_in, stands_in, thread}
 use Rattle.l4_core_model.specs.Plain.{is_queued}
 use Rattle.l4_core_model.specs.Acts.{Work, refuses, split_place, split_receiver}
 use Rattle.l4_core_model.specs.Mail.{handle, handled, own_place, foreign_place, is_ordering, waits_here, withdraws_here}
@@ -24,7 +24,7 @@ use Rattle.l4_core.specs.declared.known.tasks.Task.{Task}
 use Rattle.l4_core.specs.declared.known.tasks.Task.TheVariants.{Arrive, End, NoteGone, Obey, FinishOrder}
 use Rattle.l4_core.specs.declared.known.tasks.Task.TheVariants as tasks
 use Rattle.l4_core.specs.Processor.{Processor, with_local}
-use Rattle.l4_core.specs.Inner.Tasks.{does_asked, does_task, refusal_for, refused_if, task_of, IsArrival, IsCaller, IsSplit}
+use Rattle.l4_core.specs.Inner.Tasks.{arrival_places, does_asked, does_task, ended_place, refusal_for, refused_if, task_of, IsArrival, IsCaller, IsSplit}
 use Rattle.l4_core.specs.Inner.Turning.{IsFree, IsNewSender}
 use Rattle.l4_core_model.proofs.Changed.{get-changed}
 use Rattle.l4_thread.specs.declared.changes.Change.TheVariants as change
@@ -58,7 +58,7 @@ found_both f None q t = refl
 found_both f (Some r) None t = refl
 found_both f (Some r) (Some i) t = refl
 
-found_and : (f : Task → Work) (o : Option ℕ) (a b : ℕ → Bool) (t : ℕ → Task) → (o >>= λ i. a i >> (b i >> Some (f (t i)))) ≡ option_map f (o >>= λ i. a i >> (b i >> Some (t i)))
+found_and : {A : Type 0} (f : A → Work) (o : Option ℕ) (a b : ℕ → Bool) (t : ℕ → A) → (o >>= λ i. a i >> (b i >> Some (f (t i)))) ≡ option_map f (o >>= λ i. a i >> (b i >> Some (t i)))
 found_and f None a b t = refl
 found_and f (Some i) a b t = by (a i) (b i)
   where
@@ -75,7 +75,7 @@ found_if f (Some i) a t = by (a i)
     by true = refl
     by false = refl
 
-found_all : (f : Task → Work) (o q : Option ℕ) (a : ℕ → Bool) (b c : Bool) (t : ℕ → ℕ → Task) →
+found_all : {A : Type 0} (f : A → Work) (o q : Option ℕ) (a : ℕ → Bool) (b c : Bool) (t : ℕ → ℕ → A) →
     (o >>= λ r. q >>= λ i. a i >> (b >> (c >> Some (f (t r i))))) ≡ option_map f (o >>= λ r. q >>= λ i. a i >> (b >> (c >> Some (t r i))))
 found_all f None q a b c t = refl
 found_all f (Some r) None a b c t = refl
@@ -100,12 +100,18 @@ withdrawn_both m cpu k cause x None q = refl
 withdrawn_both m cpu k cause x (Some r) None = refl
 withdrawn_both m cpu k cause x (Some r) (Some i) = ap Some (withdrawn_is m cpu i k cause x)
 
+mapped_twice : {A : Type 0} (f : Task → Work) (g : A → Task) (o : Option A) → option_map f (option_map g o) ≡ option_map (λ a. f (g a)) o
+mapped_twice f g None = refl
+mapped_twice f g (Some a) = refl
+
 handled_is : (m : Machine) (cpu : ℕ) (words : List ℕ) (c : Content) (x : Work) → handled m cpu (content_with words c) x ≡ option_map (λ t. does_task m cpu t x) (task_of m cpu x.local words c)
 handled_is m cpu words (Send name to message zero_timeout) x =
-    found_all (λ t. does_task m cpu t x) (own_place m cpu to) (foreign_place m cpu name.thread) (λ i. is_none (thread x.local i).send) (same_id message.actual name.thread) (is_declared m message.shown)
-    (λ r i. Arrive r i name to (message_with words message) zero_timeout)
+    found_all (λ (p : ℕ × ℕ). does_task m cpu (Arrive p.0 p.1 name to (message_with words message) zero_timeout) x) (own_place m cpu to) (foreign_place m cpu name.thread) (λ i. is_none (thread x.local i).send)
+    (same_id message.actual name.thread) (is_declared m message.shown) (λ r i. (r, i))
+    ∙ sym (mapped_twice (λ t. does_task m cpu t x) (λ (p : ℕ × ℕ). Arrive p.0 p.1 name to (message_with words message) zero_timeout) (arrival_places m cpu x.local name to message))
 handled_is m cpu words (Done name decision) x =
-    found_and (λ t. does_task m cpu t x) (own_place m cpu name.thread) (λ i. is_some (split_place m cpu x.local i)) (λ i. (thread x.local i).context.begun == name.k) (λ i. End i decision)
+    found_and (λ i. does_task m cpu (End i decision) x) (own_place m cpu name.thread) (λ i. is_some (split_place m cpu x.local i)) (λ i. (thread x.local i).context.begun == name.k) (λ i. i)
+    ∙ sym (mapped_twice (λ t. does_task m cpu t x) (λ i. End i decision) (ended_place m cpu x.local name))
 handled_is m cpu words (Withdraw name to cause) x =
     withdrawn_both m cpu name.k cause x (own_place m cpu to) (foreign_place m cpu name.thread)
     ∙ found_both (λ t. does_task m cpu t x) (own_place m cpu to) (foreign_place m cpu name.thread) (λ r i. refused_if (waits_here x.local i name.k) i (refusal_for cause))
@@ -146,9 +152,30 @@ pub asked_something : (E F : Type 0) (event : Option Work) (f : Task → Work) (
 asked_something E F event f None is e = ((λ x. let some = (e.0 x).0 in cc), (λ both. let none = ap is_some is in let some = both.0 in cc))
 asked_something E F event f (Some task) is e = ((λ x. (ap is_some is, (e.0 x).1)), (λ both. e.1 (refl, both.1)))
 
+-- A thread of another processor is declared.
+pub foreign_declared : (m : Machine) (cpu i : ℕ) (id : GlobalId) → foreign_place m cpu id ≡ Some i → is_declared m id ≡ true
+foreign_declared m cpu i id is = by (place_of m id) is
+  where
+    by : (o : Option ℕ) → (o >>= λ j. not (is_own m cpu j) >> Some j) ≡ Some i → is_some o ≡ true
+    by None e = cc
+    by (Some j) e = refl
+
+pub if_ok : {E : Type 0} (r : Result ℕ E) (P Q : ℕ → Type 0) → ((n : ℕ) → P n → Q n) → IfOk r P → IfOk r Q
+if_ok (Ok n) P Q f h = f n h
+if_ok (Err e) P Q f h = h
+
+-- The same of what is made into a task.
+pub mapped_nothing : {A : Type 0} (E : Type 0) (event : Option Work) (f : Task → Work) (g : A → Task) (o : Option A) → event ≡ option_map f (option_map g o) → E ↔ (o ≡ None) → E ↔ (event ≡ None)
+mapped_nothing E event f g None is e = ((λ x. is), (λ none. e.1 refl))
+mapped_nothing E event f g (Some a) is e = ((λ x. let none = e.0 x in cc), (λ none. cc))
+
+pub mapped_something : {A : Type 0} (E F : Type 0) (event : Option Work) (f : Task → Work) (g : A → Task) (o : Option A) → event ≡ option_map f (option_map g o) → E ↔ ((is_some o ≡ true) × F) → E ↔ ((is_some event ≡ true) × F)
+mapped_something E F event f g None is e = ((λ x. let some = (e.0 x).0 in cc), (λ both. let none = ap is_some is in let some = both.0 in cc))
+mapped_something E F event f g (Some a) is e = ((λ x. (ap is_some is, (e.0 x).1)), (λ both. e.1 (refl, both.1)))
+
 -- A send of another processor's thread, which stands in its block now, is in no list yet.
-pub taken_in : (p q : Processor) (r i k : ℕ) (to : GlobalId) (message : Message) (zero_timeout : Bool) → AreCore p → IsArrival p r i message → q ≡ with_local p (changes i (stands_in k (stand_in to message zero_timeout)) p.local) → IsNewSender q i
-taken_in p q r i k to message zero_timeout core a is = subst (λ (x : Processor). IsNewSender x i) (sym is) (record {
+pub taken_in : (p q : Processor) (r i k : ℕ) (to : GlobalId) (message : Message) (zero_timeout : Bool) (name : Name) → AreCore p → IsArrival p r i name message → q ≡ with_local p (changes i (stands_in k (stand_in to message zero_timeout)) p.local) → IsNewSender q i
+taken_in p q r i k to message zero_timeout name core a is = subst (λ (x : Processor). IsNewSender x i) (sym is) (record {
   sender = record {
     within = a.sender.within;
     sends = ap (λ (t : Thread). is_some t.send) (get-changed (stands_in k (stand_in to message zero_timeout)) p.local.threads i opening_thread (omega (arith, a.sender.within, core.settled.threads)));

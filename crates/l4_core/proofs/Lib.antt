@@ -27,6 +27,7 @@ mod Running
 mod Sending
 mod Settling
 mod Starting
+mod TakenAtOnce
 mod Telling
 mod Turned
 mod Turning

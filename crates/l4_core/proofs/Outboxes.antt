@@ -58,6 +58,15 @@ none-left heads row taken some =
       (λ none. let no = ap (length {A = ℕ × Letter}) none in omega (arith, many, no, some)),
     )
 
+-- Once the last one is taken out none is left, whatever the row has.
+pub last-dropped : (heads : List Posted) (words row : List ℕ) (posted taken gone : ℕ) → posted ≤ 2 → length heads ≡ 2 → taken + 1 ≡ posted →
+    posted_in (drop (taken + 1) (take posted heads)) row ≡ drop 1 (posted_in (drop taken (take posted heads)) (drop gone words))
+last-dropped heads words row posted taken gone some two last =
+    let count = posted-count heads posted some two in
+    let all : List (ℕ × Letter) = posted_in (drop taken (take posted heads)) (drop gone words) in
+    is-nil _ (omega (arith, as-many head_of seen (drop (taken + 1) (take posted heads)) row, length-drop (taken + 1) (take posted heads), count, last))
+    ∙ sym (is-nil (drop 1 all) (omega (arith, length-drop 1 all, as-many head_of seen (drop taken (take posted heads)) (drop gone words), length-drop taken (take posted heads), count, last)))
+
 left : (heads : List Posted) (words : List ℕ) (taken gone : ℕ) → IsOutbox heads (length words) taken gone → words_by head_of (drop taken heads) ≡ length (drop gone words)
 left heads words taken gone is =
     let whole = is.whole in

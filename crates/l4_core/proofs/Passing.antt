@@ -2,9 +2,10 @@
 use Rattle.std.proofs.Common.{◌≡◌, ℕ, zero, suc, ◌<◌, List, [], ◌∷◌, ◌++◌, length, get_or, set, refl, ap, sym, ◌∙◌, subst, arith, length-append}
 use Rattle.std.proofs.lemmas.List.{length-set}
 use Rattle.std.proofs.Math.Seq.{set-append_left}
-use Rattle.l4_model.specs.World.{Message, Thread, opening_thread}
+use Rattle.l4_model.specs.World.{Message, Ready, opening_thread}
 use Rattle.l4_model.specs.Effects.{receives}
-use Rattle.l4_core_model.specs.Local.{comes_to, declared, thread}
+use Rattle.l4_core_model.specs.Local.{Local, comes_to, declared, thread}
+use Rattle.l4_core_model.proofs.Fit.{get_cases}
 use Rattle.l4_thread.specs.Inner.Messages.{outgoing}
 use Rattle.l4_thread.specs.Inner.Parts.{Block}
 use Rattle.l4_core.specs.Inner.Parts.{passed}
@@ -14,7 +15,7 @@ use Rattle.l4_core.specs.Inner.Turning.{IsReceiver}
 use Rattle.l4_core.specs.declared.known.ProcessorState.TheInside.{Inside}
 use Rattle.l4_core.proofs.Fitting.{fits-keeps, keeps-receives, unqueued, unready, waits_alive, waits_not_ready, waits_not_sends}
 use Rattle.l4_core.proofs.Starting.{block_id}
-use Rattle.l4_core.proofs.Writing.{Kept, KeptWith, block_thread, come-written, kept-changed, length-threads, of_parts, state, with_blocks}
+use Rattle.l4_core.proofs.Writing.{Kept, KeptWith, block_thread, come-written, kept-changed, length-threads, local-written, of_parts, state, with_blocks}
 
 at_front : (xs ys : List Block) (i : ℕ) (x d : Block) → i < length xs → x ≡ get_or xs i x → x ≡ get_or (xs ++ ys) i d
 at_front [] ys i x d lt at = absurd (omega arith)
@@ -80,16 +81,18 @@ passed_is s r i tag was news k receiver sender blocks is =
 pub passed_size : (s : Inside) (r i tag : ℕ) (news : List Block) → IsPassed s.threads.items news r (outgoing (declared s.machine.now i).id (thread (state s) i)) tag → length news ≡ length s.threads.items
 passed_size s r i tag news x = ap length x.is ∙ length-set s.threads.items r _
 
-pub kept-passed : (s : Inside) (r i tag : ℕ) (news : List Block) → Kept s → IsReceiver (of_parts s (state s)) r → IsPassed s.threads.items news r (outgoing (declared s.machine.now i).id (thread (state s) i)) tag → KeptWith s news
-kept-passed s r i tag news k w x =
+-- A receiver has its message.
+pub kept-received : (s : Inside) (r : ℕ) (message : Message) (tag : ℕ) (old new : Block) → Kept s → IsReceiver (of_parts s (state s)) r → old ≡ get_or s.threads.items r old → new ≡ record { id = old.id; thread = receives message tag old.thread } →
+    KeptWith s (set s.threads.items r new)
+kept-received s r message tag old new k w at is =
     let settled = k.core.settled in
-    let message : Message = outgoing (declared s.machine.now i).id (thread (state s) i) in
-    let takes : Thread → Thread = receives message tag in
     let ends = waits_not_sends _ w.waits in
-    subst (KeptWith s) (sym x.is)
-    (kept-changed s r takes x.old _ k x.at refl
+    kept-changed s r (receives message tag) old new k at is
     (fits-keeps s.machine.now s.cpu (state s) r _ settled w.own (unready s.machine.now s.cpu (state s) r settled (waits_not_ready _ w.waits)) (unqueued s.machine.now s.cpu (state s) r settled w.own.own ends)
-    (λ e. absurd (ends (settled.sending r w.own.own e))) (λ e. cc) (keeps-receives message tag _ (waits_alive _ w.waits))))
+    (λ e. absurd (ends (settled.sending r w.own.own e))) (λ e. cc) (keeps-receives message tag _ (waits_alive _ w.waits)))
+
+pub kept-passed : (s : Inside) (r i tag : ℕ) (news : List Block) → Kept s → IsReceiver (of_parts s (state s)) r → IsPassed s.threads.items news r (outgoing (declared s.machine.now i).id (thread (state s) i)) tag → KeptWith s news
+kept-passed s r i tag news k w x = subst (KeptWith s) (sym x.is) (kept-received s r (outgoing (declared s.machine.now i).id (thread (state s) i)) tag x.old _ k w x.at refl)
 
 pub passed-written : (s : Inside) (r i tag : ℕ) (news : List Block) (p q : Processor) → Kept s → r < length s.machine.now.threads → IsPassed s.threads.items news r (outgoing (declared s.machine.now i).id (thread (state s) i)) tag → of_parts s (state s) ≡ p →
     q ≡ with_local (of_parts s (with_blocks s news)) (enters_lists r (with_blocks s news)) → q ≡ with_local p (comes_to r (receives (outgoing (declared p.machine i).id (thread p.local i)) tag) p.local)
@@ -97,3 +100,15 @@ passed-written s r i tag news p q k lt x view settled =
     come-written s r (receives (outgoing (declared s.machine.now i).id (thread (state s) i)) tag) x.old _ p q k lt x.at refl view
     (subst (λ (bs : List Block). q ≡ with_local (of_parts s (with_blocks s bs)) (enters_lists r (with_blocks s bs))) x.is settled)
     ∙ ap (λ (o : Processor). with_local p (comes_to r (receives (outgoing (declared o.machine i).id (thread o.local i)) tag) p.local)) view
+
+-- It can run.
+pub received-ready : (s : Inside) (r : ℕ) (message : Message) (tag : ℕ) (old new : Block) → Kept s → r < length s.machine.now.threads → old ≡ get_or s.threads.items r old → new ≡ record { id = old.id; thread = receives message tag old.thread } →
+    (thread (with_blocks s (set s.threads.items r new)) r).phase ≡ Ready
+received-ready s r message tag old new k lt at is =
+    ap (λ (l : Local). (thread l r).phase) (local-written s r (receives message tag) old new k lt at is)
+    ∙ get_cases (λ t. t.phase ≡ Ready) (receives message tag) (state s).threads r r (omega (arith, lt, k.core.settled.threads)) (λ same. refl) (λ ne. absurd (ne refl))
+
+pub passed-ready : (s : Inside) (r i tag : ℕ) (news : List Block) → Kept s → r < length s.machine.now.threads → IsPassed s.threads.items news r (outgoing (declared s.machine.now i).id (thread (state s) i)) tag → (thread (with_blocks s news) r).phase ≡ Ready
+passed-ready s r i tag news k lt x =
+    subst (λ (bs : List Block). (thread (with_blocks s bs) r).phase ≡ Ready) (sym x.is)
+    (received-ready s r (outgoing (declared s.machine.now i).id (thread (state s) i)) tag x.old _ k lt x.at refl)

@@ -1,4 +1,4 @@
--- A thread that has run an instruction and can run on has the duties that it had.
+-- A thread that has run an instruction and can run on has the duties that it had, and so has one that waited and can run now.
 use Rattle.std.proofs.Common.{◌≡◌, ℕ, ◌<◌, Bool, true, false, cond, ◌&&◌, not, Option, None, Some, List, [], ◌∷◌, refl, sym, ap, ◌∙◌, subst, inl, inr, ◌⊎◌, length, arith}
 use Rattle.std.specs.Prelude.{◌==◌}
 use Rattle.std.specs.List.{list_any}
@@ -15,12 +15,13 @@ use Rattle.l4_core_model.proofs.Fit.{get_cases}
 use Rattle.tcb_arena.specs.Inner.Blocks.{is_armed}
 use Rattle.l4_core.specs.Processor.{Processor, with_local}
 use Rattle.l4_core.specs.Inner.Places.{has}
-use Rattle.l4_core.specs.Inner.Covered.{after_retarget, deleted_duty, duty_at, duty_of_thread, first_refusable, first_zero, is_zero_send, living_duty, names_nobody, or_refuse, receive_duty, untold_of, Covers, IsCovered}
+use Rattle.l4_core.specs.Inner.Covered.{after_retarget, deleted_duty, duty_at, duty_of_thread, first_refusable, first_zero, is_zero_send, living_duty, names_nobody, or_refuse, receive_duty, untold_of, Covers, IsCovered, IsCoveredBut}
 use Rattle.l4_core.specs.Inner.Parts.{AreCore}
 use Rattle.l4_core.specs.Inner.PhaseLists.{readies, enters_lists}
 use Rattle.l4_core.specs.Inner.Settled.{IsOwn}
 use Rattle.l4_core.specs.Inner.Turning.{IsAtHand}
-use Rattle.l4_core.proofs.Covering.{others-comes}
+use Rattle.l4_core.proofs.Covering.{covers-idle, others-comes}
+use Rattle.l4_core.proofs.Fitting.{ready_not_sends, unqueued}
 use Rattle.l4_core.proofs.Noting.{hand_free}
 use Rattle.l4_core.proofs.Parting.{duty_is}
 use Rattle.l4_core.proofs.Settling.{ready_is}
@@ -104,6 +105,19 @@ pub ran_on : (p k : Processor) (i : ℕ) (f : Thread → Thread) → i < length 
 ran_on p k i f lt is runs =
     let there : thread (changes i f p.local) i ≡ f (thread p.local i) = get_cases (λ t. t ≡ f (thread p.local i)) f p.local.threads i i lt (λ same. refl) (λ ne. absurd (ne refl)) in
     ready_is _ (ap (λ (t : Thread). is_ready t.phase) (sym there) ∙ ap (λ (q : Processor). is_ready (thread q.local i).phase) (sym is) ∙ runs)
+
+-- A thread that can run, at which no send of timeout zero waits, has no duty but a retarget, and of that its place was in.
+pub covered-ready : (d z : List ℕ) (p : Processor) (i : ℕ) → IsCoveredBut i d z p → AreCore p → (thread p.local i).phase ≡ Ready → has z i ≡ false → (has d i ≡ false → owed_beside p.local i ≡ None) → IsCovered d z p
+covered-ready d z p i c core ready none kept = record { covers = covers-idle d p.machine p.cpu p.local i c.others idle; waiting = c.waiting }
+  where
+    free : plain.is_queued p.local.lists i ≡ false
+    free = unqueued p.machine p.cpu p.local i core.settled c.own.own (ready_not_sends _ ready)
+
+    idle : has d i ≡ false → duty_at p.machine p.cpu p.local i ≡ None
+    idle h =
+        ready_duty p.machine p.cpu p.local i ready free
+        ∙ ap (λ k. after_retarget k (or_refuse None (first_zero p.local (plain.list_of p.local.lists i)))) (kept h)
+        ∙ ap (or_refuse None) (c.waiting i none)
 
 -- A thread that can run and is not armed stands last among the ready ones, and nothing else is changed.
 

@@ -68,7 +68,7 @@ written bs i f old new lt at is =
     map-set (λ (b : Block). b.thread) bs i new
     ∙ set_changed f (threads_of bs) i opening_thread new.thread (let e = length-threads bs in omega (arith, e)) (is ∙ ap f (read-thread bs i old lt at))
 
-local-written : (s : Inside) (i : ℕ) (f : Thread → Thread) (old new : Block) → Kept s → i < length s.machine.now.threads → old ≡ get_or s.threads.items i old → new ≡ record { id = old.id; thread = f old.thread } →
+pub local-written : (s : Inside) (i : ℕ) (f : Thread → Thread) (old new : Block) → Kept s → i < length s.machine.now.threads → old ≡ get_or s.threads.items i old → new ≡ record { id = old.id; thread = f old.thread } →
     with_blocks s (set s.threads.items i new) ≡ changes i f (state s)
 local-written s i f old new k lt at is =
     ap (λ ts. record (state s) { threads = ts }) (written s.threads.items i f old new (let e = length-threads s.threads.items in omega (arith, e, k.core.settled.threads)) at (ap (λ (b : Block). b.thread) is))

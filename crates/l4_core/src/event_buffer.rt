@@ -2,8 +2,9 @@
 ghost use Rattle.std.specs.Prelude.{◌≡◌, ◌<◌, ◌≤◌, ◌↔◌, [], ◌++◌, IfNone, OnOk, OnErr, drop, false};
 ghost use Rattle.std.specs.Prelude.{length, map, slice_get};
 ghost use Rattle.std.specs.Option.{option_to_list};
-ghost use Rattle.l4_core_model.specs.Letters.{SendLetter};
+ghost use Rattle.l4_core_model.specs.Letters.{DoneLetter, SendLetter};
 ghost use Rattle.l4_types.specs.Inner.LetterHeads.{letter_with, word_count};
+ghost use Rattle.l4_types.specs.Inner.LetterView.{decision_of};
 ghost use Rattle.l4_types.specs.StepView.{seen, step_of};
 ghost use Rattle.l4_core.specs.EventBuffers.{IsBegun, with_sent, with_step, with_letter};
 
@@ -14,7 +15,7 @@ use l4_history::sink::Sink;
 use l4_types::errors::NoMemory;
 use l4_types::ids::GlobalId;
 use l4_types::letter_ref::LetterRef;
-use l4_types::letters::{Content, Letter, LetterHead};
+use l4_types::letters::{Content, Decision, Letter, LetterHead};
 use l4_types::message_ref::MessageRef;
 use l4_types::step_ref::{DeliveryRef, StepRef};
 use l4_types::steps::{Event, Name, Step};
@@ -114,6 +115,18 @@ impl<S: Sink> EventBuffer<S> {
         ensures { self.new ≡ with_letter cpu (letter_with [] letter) self.old }
     {
         self.letters.post(cpu, letter, &[]);
+    }
+
+    /// Posts the decision of a send to a processor, as a letter of this stamp.
+    #[inline(always)]
+    pub(crate) fn post_done(&mut self, cpu: u8, stamp: u64, name: Name, decision: Decision)
+        requires { 0 < self.old.slots }
+        ensures { self.new ≡ with_letter cpu (record {
+          stamp = stamp;
+          content = DoneLetter name (decision_of decision);
+        }) self.old }
+    {
+        self.letters.post_done(cpu, stamp, name, decision);
     }
 
     /// Posts a begun send to the processor of its receiver, as a letter of this stamp.

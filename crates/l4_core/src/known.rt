@@ -202,6 +202,7 @@ impl<'m> ProcessorState<'m> {
     }
 
     /// The place of a thread.
+    #[inline(always)]
     pub(crate) fn place_of(&self, id: GlobalId) -> Option<usize>
         ensures value { result ≡ place_of self.now.machine id }
         ensures within { IfSome result (λ place. place < length self.now.machine.threads) }
@@ -320,10 +321,10 @@ impl<'m> ProcessorState<'m> {
         }
     }
 
-    // Whether a thread that is shown by a sender is of the receiver's space. Mostly the shown
-    // thread is the sender; then nothing is looked up.
+    /// Whether a thread that is shown by a sender is of the receiver's space. Mostly the shown
+    /// thread is the sender; then nothing is looked up.
     #[inline(always)]
-    fn is_of_space(&self, shown: GlobalId, sender: usize, receiver: usize) -> bool
+    pub(crate) fn is_of_space(&self, shown: GlobalId, sender: usize, receiver: usize) -> bool
         requires sender { sender < length self.now.machine.threads }
         requires receiver { receiver < length self.now.machine.threads }
         ensures { result ≡ same_space self.now.machine shown

@@ -1,12 +1,15 @@
 //! The letters that an event posts.
 ghost use Rattle.std.specs.Prelude.{◌≡◌, ◌∷◌, ◌++◌, ◌-◌, ◌<◌, ◌≤◌, ◌↔◌, [], IsTrue, drop, length};
 ghost use Rattle.std.specs.Prelude.{slice_get};
+ghost use Rattle.l4_core_model.specs.Letters.{DoneLetter};
 ghost use Rattle.l4_types.specs.Inner.LetterHeads.{letter_with, word_count};
+ghost use Rattle.l4_types.specs.Inner.LetterView.{decision_of};
 
 use crate::event_buffer::{Letters, MOST_LETTERS};
 use crate::posted_words::PostedWords;
 use l4_types::letter_ref::LetterRef;
-use l4_types::letters::LetterHead;
+use l4_types::letters::{Content, Decision, LetterHead};
+use l4_types::steps::Name;
 use std::marker::Model;
 
 /// The letters of an event, each with the processor that it goes to. Their words stand in one row:
@@ -78,9 +81,35 @@ impl Outbox {
     {
         let count = head.word_count();
         prove!(words.len() == count);
-        self.heads[self.posted] = (to, head);
+        // In its parts: a whole pair would be put together elsewhere first.
+        let slot = &mut self.heads[self.posted];
+        slot.0 = to;
+        slot.1 = head;
         self.posted += 1;
         self.words.append(words);
+    }
+
+    /// Posts the decision of a send to a processor, as a letter of this stamp. Most letters without
+    /// words are decisions, so this one is put together where it is to lie.
+    #[inline(always)]
+    pub(crate) fn post_done(&mut self, to: u8, stamp: u64, name: Name, decision: Decision)
+        requires { 0 < self.old.slots }
+        ensures { self.new ≡ record {
+          letters = self.old.letters ++ (
+            to,
+            record {
+              stamp = stamp;
+              content = DoneLetter name (decision_of decision);
+            },
+          ) ∷ [];
+          slots = self.old.slots - 1;
+        } }
+    {
+        let slot = &mut self.heads[self.posted];
+        slot.0 = to;
+        slot.1.stamp = stamp;
+        slot.1.content = Content::Done { name, decision };
+        self.posted += 1;
     }
 
     /// Whether no letter is left.
@@ -114,8 +143,15 @@ impl Outbox {
         ensures slots { self.new.slots ≡ self.old.slots }
     {
         if self.taken < self.posted {
-            self.gone += self.heads[self.taken].1.word_count();
-            self.taken += 1;
+            let next = self.taken + 1;
+            // Mostly it was the last one. Then no words are left, and its own are not counted.
+            if next == self.posted {
+                self.words.clear();
+                self.gone = 0;
+            } else {
+                self.gone += self.heads[self.taken].1.word_count();
+            }
+            self.taken = next;
         }
     }
 

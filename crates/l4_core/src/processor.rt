@@ -1,10 +1,11 @@
 //! One processor: its turns and its clock.
 ghost use Rattle.std.specs.Prelude.{◌≡◌, ◌+◌, ◌<◌, ◌≤◌, IfOk, IfSome, is_some, length, slice_get};
-ghost use Rattle.std.specs.Prelude.{slice_index_or, true, ℕ, ◌||◌, ◌==◌};
+ghost use Rattle.std.specs.Prelude.{slice_index_or, true, ℕ, ◌||◌, ◌==◌, false, None};
 ghost use Rattle.std.specs.Option.{option_map};
 ghost use Rattle.l4_model.specs.Words.{clock_limit, period_limit};
 ghost use Rattle.l4_model.specs.Machine.{most_threads};
 ghost use Rattle.l4_model.specs.History.{report_of};
+ghost use Rattle.l4_model.specs.World.{Ready};
 ghost use Rattle.l4_core_model.specs.Local.{declared, is_own, opening_local, owed_beside, thread};
 ghost use Rattle.l4_types.specs.Inner.OwedView.{owed_of};
 ghost use Rattle.l4_core_model.specs.Plain.{due_block};
@@ -147,7 +148,27 @@ impl<'m> Core<'m> {
     /// instruction of the first ready thread. Appends its steps to `buffer`, and returns its stamp,
     /// or None if there is nothing to do; then nothing is changed. Conditions: `can_stamp(0)`, and
     /// `buffer` has begun an event that has no step yet.
+    #[inline(always)]
     pub fn turn_into<S: Sink>(&mut self, buffer: &mut EventBuffer<S>) -> Option<u64>
+        requires stamp { can_stamp self.old.local 0 ≡ true }
+        requires open { IsOpen buffer.old }
+        ensures { IsTurn self.old self.new buffer.old buffer.new result }
+    {
+        self.known.facts();
+        // Mostly a ready thread is to run, or there is nothing to do. Then no choice is written to
+        // memory, and where there is nothing to do nothing is called.
+        if self.duties.first().is_some() || self.first_due().is_some() {
+            return self.turn_by_choice(buffer);
+        }
+        let place = self.known.first_ready()?;
+        let stamp = self.open(0);
+        self.do_ready(place, buffer);
+        Some(stamp)
+    }
+
+    // A turn where a duty may be the first, or a deadline.
+    #[inline(never)]
+    fn turn_by_choice<S: Sink>(&mut self, buffer: &mut EventBuffer<S>) -> Option<u64>
         requires stamp { can_stamp self.old.local 0 ≡ true }
         requires open { IsOpen buffer.old }
         ensures { IsTurn self.old self.new buffer.old buffer.new result }
@@ -364,6 +385,21 @@ fn note_duty(known: &ProcessorState, duties: &mut Places, zeros: &Places, place:
 {
     known.facts();
     if known.may_have_duty(place, zeros.contains(place)) {
+        insert_place(known, duties, place);
+    }
+}
+
+// Notes that a thread of this processor that waited and can run now may have a duty: a send of
+// timeout zero may wait at it. A retarget that is owed at it was its duty before.
+#[inline(always)]
+fn note_ready(known: &ProcessorState, duties: &mut Places, zeros: &Places, place: usize)
+    requires but { IsCoveredBut place duties.old zeros.now known.now }
+    requires ready { (thread known.now.local place).phase ≡ Ready }
+    requires owed { has duties.old place ≡ false → owed_beside known.now.local place ≡ None }
+    ensures { IsCovered duties.new zeros.now known.now }
+{
+    known.facts();
+    if zeros.contains(place) {
         insert_place(known, duties, place);
     }
 }

@@ -3,7 +3,7 @@
 use Rattle.std.specs.Prelude.{ℕ, ◌+◌, ◌==◌, Bool, if◌then◌else◌, Option, Some, None, List, [], ◌∷◌, ◌++◌, map, filter, length, slice_index_or}
 use Rattle.std.specs.Option.{option_map}
 use Rattle.std.specs.List.{range_with_len}
-use Rattle.l4_model.specs.Rules.{send_timeout_code, send_nobody_code, send_cancelled_code}
+use Rattle.l4_model.specs.Rules.{TimeOver, NobodyThere, CancelAsked, send_code}
 use Rattle.l4_model.specs.Options.{if_some}
 use Rattle.l4_model.specs.Words.{GlobalId, Id, GlobalThread, Period}
 use Rattle.l4_model.specs.Machine.{Declaration, Machine, place_of}
@@ -132,9 +132,9 @@ was_dropped t = if is_alive t.phase then record (decided t) { phase = Ready } el
 -- What becomes of a thread whose send was decided.
 abbrev pub after_decision : Result → (now : ℕ) → Thread → Thread
 after_decision Delivered now t = was_delivered t.send now t
-after_decision (Refused TimedOut) now t = refused send_timeout_code t
-after_decision (Refused Nobody) now t = refused send_nobody_code t
-after_decision (Refused Cancelled) now t = refused send_cancelled_code t
+after_decision (Refused TimedOut) now t = refused (send_code TimeOver) t
+after_decision (Refused Nobody) now t = refused (send_code NobodyThere) t
+after_decision (Refused Cancelled) now t = refused (send_code CancelAsked) t
 after_decision (Refused Dropped) now t = was_dropped t
 
 -- The stand-in of a foreign thread's send. Of its period only whether it is zero is known.

@@ -21,7 +21,7 @@ use Rattle.l4_core.specs.Processor.{Processor}
 use Rattle.l4_explore.specs.Tries.{deepest}
 use Rattle.l4_replay.specs.UnderWay.{UnderWay, IsProcessorOf, IsRun}
 use Rattle.l4_states.specs.Inner.Codes.{chained, content_code, local_code, number_code}
-use Rattle.l4_states.specs.Choices.{after_choices, after_entry, choice, state_after, state_in, IsEarly, IsNear, IsReached, LeadsEarly}
+use Rattle.l4_states.specs.Choices.{after_choices, after_entry, choice, state_after, state_in, IsNear, IsReached}
 use Rattle.l4_states.specs.Inner.Remembered.{cpu_of, known_of, local_at, pair_place, part_code, poster_at, poster_of, receiver_at, rests_at}
 use Rattle.l4_states.proofs.Following.{after-append, has_reached}
 use Rattle.l4_states.proofs.Places.{likely, local_rest_is, near_same, pair_below, pair_rests, rests_same}
@@ -50,18 +50,6 @@ use Rattle.l4_endings.specs.Inner.Walked.{AreChoices, IsWalked}
 pub run_reached : (m : Machine) (r : Run) (w : UnderWay) → IsRun m r w → IsReached m r.system
 run_reached m r w is =
     record { actions = is.core_run.0; run = r; is = is.core_run.1; system = refl }
-
-pub none_armed_rests : (busy : Bool) (deadline : Option ℕ) (armed : List (ℕ × ℕ)) → deadline ≡ None →
-    deadline ≡ option_map (λ e. e.0) (slice_get armed 0) → not busy ≡ (not busy && is_empty armed)
-none_armed_rests true deadline [] none is = refl
-none_armed_rests false deadline [] none is = refl
-none_armed_rests busy deadline (e ∷ es) none is = cc
-
-pub armed_rests_not : (busy : Bool) (deadline : Option ℕ) (d : ℕ) (armed : List (ℕ × ℕ)) → deadline ≡ Some d →
-    deadline ≡ option_map (λ e. e.0) (slice_get armed 0) → false ≡ (not busy && is_empty armed)
-armed_rests_not busy deadline d [] some is = cc
-armed_rests_not true deadline d (e ∷ es) some is = refl
-armed_rests_not false deadline d (e ∷ es) some is = refl
 
 new_true : (m : Machine) (g : System) (p : Part) → IsMachine m → IsReached m g → IsAt m g p.place p →
     rests_at m g p.place ≡ p.rests → (p.place < m.cpus → IsNear g p.place) →
@@ -471,11 +459,6 @@ none_past m s parts row e machine r above =
         (reached_within m r.system machine (has_reached m s r.system r.leads)).locals is in
         absurd (omega (arith, b, above))
 
-pub early_behind : (m : Machine) (s : List ℕ) (parts : List Part) (row : List ℕ) → IsMachine m → AreTrue m parts →
-    IsRowBehind m s parts row → length s < deepest → LeadsEarly m s
-early_behind m s parts row machine true_ r short g at =
-    subst IsEarly (some_is r.system g (sym r.leads ∙ at)) (led_of m s parts row machine true_ r short).early
-
 -- The row of a state for its code
 pub row_in : (m : Machine) (s : List ℕ) (parts : List Part) (row : List ℕ) (cpus : ℕ) → IsMachine m →
     cpus ≡ m.cpus → AreTrue m parts → (r : IsRowBehind m s parts row) → IsRowIn m r.system parts row cpus
@@ -563,12 +546,6 @@ goes_on_by m s parts es row number place new possible machine known r at gone be
       λ none. both.stops (sym told ∙ none),
     )
 
--- The event of a number is there, and fits.
-pub event_fits : (m : Machine) (es : List Event) (row : List ℕ) (number place : ℕ) (e : Event) →
-    IsEventAt m es row number place → slice_get es place ≡ Some e → Fit e.writes.items row
-event_fits m es row number place e at there =
-    subst (λ (x : Event). Fit x.writes.items row) (some_is at.event e (sym at.at ∙ there)) at.of.fit
-
 pub event_inside : (m : Machine) (es : List Event) (row : List ℕ) (number place : ℕ) →
     IsEventAt m es row number place → place < length es
 event_inside m es row number place at = slice_get_within es place at.event at.at
@@ -624,7 +601,3 @@ cannot_stop m s i some inside false stops =
     by : (o : Option System) → IsSome o → option_map (state_in m) o ≡ None → ⊥
     by None some none = cc
     by (Some g) some none = cc
-
-pub all_stand : {A E : Type 0} (P : Type 0) → P → (r : Result A E) → IfOk r (λ x. P)
-all_stand P p (Ok x) = p
-all_stand P p (Err e) = tt

@@ -1,19 +1,11 @@
 -- Choices that lead on, listed one by one.
-use Rattle.std.proofs.Common.{◌≡◌, ℕ, ◌+◌, ◌<◌, ◌≤◌, ◌⊎◌, inl, inr, Bool, true, Option, None, Some, List, [], ◌∷◌, ◌++◌, map, refl, ap, sym, subst, ◌∙◌, arith, Result, Ok, Err}
+use Rattle.std.proofs.Common.{◌≡◌, ℕ, ◌+◌, ◌<◌, ◌≤◌, ◌⊎◌, inl, inr, Bool, true, Option, Some, List, [], ◌∷◌, ◌++◌, map, ap, sym, subst, ◌∙◌, arith}
 use Rattle.std.proofs.lemmas.Bool.{cases_lt}
-use Rattle.std.specs.Prelude.{IfOk, IsSome}
-use Rattle.std.specs.Option.{option_map}
 use Rattle.std.proofs.lemmas.List.{map-append}
-use Rattle.l4_model.specs.Machine.{Machine}
 use Rattle.l4_explore.specs.Tries.{State}
 use Rattle.l4_explore.specs.Inner.Views.{next_from, state_from}
 use Rattle.l4_explore.specs.declared.tries.Choice.{Choice}
-use Rattle.l4_explore.specs.declared.tries.Reached.{Reached}
-use Rattle.l4_core_model.specs.Runs.{System, opening_system}
-use Rattle.l4_replay.specs.UnderWay.{UnderWay}
-use Rattle.l4_states.specs.Choices.{after_choices, state_after, state_in}
 use Rattle.l4_endings.specs.Inner.Tried.{AreUpTo}
-use Rattle.l4_endings.specs.Inner.Walked.{AreChoices, IsWalked}
 use Rattle.l4_endings.proofs.Nexts.{listed}
 
 pub one_listed : (f : List ℕ → Option State) (inside : ℕ → Bool) (s : List ℕ) (n : ℕ)
@@ -25,23 +17,6 @@ one_listed f inside s n old new x same is leads in_set all =
     (ap (λ e. map next_from old ++ record { entry = e; state = state_from x.reached } ∷ []) (sym is)
     ∙ sym (ap (map next_from) same ∙ map-append next_from old (x ∷ [])))
     (listed f inside s 0 n (map next_from old) (state_from x.reached) (omega arith) in_set all leads)
-
--- The state of a walk is the one that its choices lead to.
-pub state_here : {E : Type 0} (r : Result Reached E) (m : Machine) (s : List ℕ) (w : UnderWay)
-    (walked : IsWalked m s w) →
-    IfOk r (λ x. state_from x ≡ state_in m walked.run.system) →
-    IfOk r (λ x. state_after m s ≡ Some (state_from x))
-state_here (Ok x) m s w walked is =
-    ap (option_map (state_in m)) walked.leads ∙ ap (λ (t : State). Some t) (sym is)
-state_here (Err e) m s w walked is = tt
-
--- Numbers that lead to a state as a search knows it lead to a state.
-pub have_led : (m : Machine) (s : List ℕ) → IsSome (state_after m s) → AreChoices m s
-have_led m s some = by (after_choices m (opening_system m) s) some
-  where
-    by : (o : Option System) → IsSome (option_map (state_in m) o) → IsSome o
-    by None some = some
-    by (Some g) some = refl
 
 -- What is true of all numbers below one, and of that one, is true below the next.
 pub one_more : (P : ℕ → Type 0) (number : ℕ) → ((n : ℕ) → n < number → P n) → P number →

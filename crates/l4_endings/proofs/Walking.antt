@@ -1,26 +1,21 @@
 -- Core runs that choices lead to.
-use Rattle.std.proofs.Common.{◌≡◌, ℕ, ◌+◌, ◌*◌, ◌/◌, ◌%◌, ◌<◌, ◌≤◌, true, false, Option, None, Some, List, [], ◌∷◌, ◌++◌, length, get_or, take, drop, refl, ap, sym, subst, ◌∙◌, arith, length-append}
+use Rattle.std.proofs.Common.{◌≡◌, ℕ, ◌+◌, ◌*◌, ◌/◌, ◌%◌, ◌<◌, ◌≤◌, true, Option, None, Some, List, [], ◌∷◌, ◌++◌, length, get_or, take, drop, refl, ap, sym, subst, ◌∙◌, arith, length-append}
 use Rattle.std.specs.Prelude.{IsSome, is_some}
 use Rattle.std.specs.Option.{option_map}
 use Rattle.std.proofs.lemmas.List.{take-append-drop, take_more}
-use Rattle.std.proofs.lemmas.Nat.{div-mul-add, mod-mul-add, mul-add-lt}
-use Rattle.std.proofs.Math.Nat.{mul_comm}
 use Rattle.l4_model.specs.Machine.{Machine}
 use Rattle.l4_model.specs.Conditions.{◌>>=◌}
-use Rattle.l4_model.proofs.Chains.{some_is}
 use Rattle.l4_core_model.specs.Runs.{IsMachine, System, Run, opening_run, opening_system}
 use Rattle.l4_core_model.specs.Schedules.{Entry}
 use Rattle.l4_replay.specs.Entries.{after_entry as after_entry_of_run}
 use Rattle.l4_replay.specs.UnderWay.{UnderWay, GoesOn, HasRun, IsRun}
-use Rattle.l4_states.specs.Choices.{after_choices, after_entry, choice, choice_of, state_after, state_in, IsEarly, IsNear, LeadsEarly}
-use Rattle.l4_states.proofs.Early.{AreLow, is_early, low_next, low_opening}
+use Rattle.l4_states.specs.Choices.{after_choices, after_entry, choice, choice_of, state_after, state_in, IsNear}
+use Rattle.l4_states.proofs.Early.{AreLow, low_next, low_opening}
 use Rattle.l4_states.proofs.Endings.{replayed}
 use Rattle.l4_persistent.proofs.Slow.{AreSlow, slow_next, slow_opening}
 use Rattle.l4_states.proofs.Following.{after-append, has_reached}
 use Rattle.l4_states.proofs.Reached.{reached_within}
-use Rattle.l4_explore.specs.Tries.{deepest}
 use Rattle.l4_endings.specs.Inner.Walked.{AreChoices, IsWalked}
-use Rattle.l4_rounds.specs.Inner.Choices.{IsTickOf}
 use Rattle.l4_rounds.proofs.Locals.{locals_of_run}
 use Rattle.l4_rounds.proofs.Possible.{entry_same, number_below}
 
@@ -73,12 +68,6 @@ on m s w e walked some =
         IsOn m s w e walked
     by None is some = absurd cc
     by (Some h) is some = record { next = h; leads = is }
-
-pub next_below : (m : Machine) (s : List ℕ) (w : UnderWay) (e : ℕ) → IsWalked m s w →
-    AreChoices m (s ++ e ∷ []) → e < m.cpus * (m.cpus + 2)
-next_below m s w e walked some =
-    let o = on m s w e walked some in
-    number_below m walked.run.system o.next e (locals_of_run m walked.run w walked.is) o.leads
 
 -- No least deadline of the processor of a choice is farther ahead than the longest period.
 abbrev pub IsNearIn : UnderWay → (cpus e : ℕ) → Type 0
@@ -189,17 +178,6 @@ leads_on m s w e walked possible =
     by None is = cc
     by (Some g) is = refl
 
-pub leads_nowhere : (m : Machine) (s : List ℕ) (w : UnderWay) (e : ℕ) (walked : IsWalked m s w) →
-    is_some (after_entry m walked.run.system (choice m e)) ≡ false →
-    state_after m (s ++ e ∷ []) ≡ None
-leads_nowhere m s w e walked impossible =
-    ap (option_map (state_in m)) (next_is m s w e walked
-    ∙ by (after_entry m walked.run.system (choice m e)) impossible)
-  where
-    by : (o : Option System) → is_some o ≡ false → o ≡ None
-    by None is = refl
-    by (Some g) is = cc
-
 pub none_above : (m : Machine) (s : List ℕ) (w : UnderWay) (e : ℕ) → IsWalked m s w →
     m.cpus * (m.cpus + 2) ≤ e → state_after m (s ++ e ∷ []) ≡ None
 none_above m s w e walked above =
@@ -213,34 +191,3 @@ none_above m s w e walked above =
         absurd (omega (arith, b, above))
 
 -- A walk of few choices is early.
-
-tick_below : (cpus cpu : ℕ) → cpu < cpus → cpu * (cpus + 2) + (cpus + 1) < cpus * (cpus + 2)
-tick_below cpus cpu own =
-    subst (λ n. cpu * (cpus + 2) + (cpus + 1) < n) (mul_comm (cpus + 2) cpus)
-    (mul-add-lt cpu (cpus + 2) (cpus + 1) cpus own (omega arith))
-
--- The same of the state that choices lead to
-abbrev pub IsNearAfter : Machine → List ℕ → (cpus e : ℕ) → Type 0
-IsNearAfter m s cpus e =
-    (g : System) → after_choices m (opening_system m) s ≡ Some g → IsNear g (e / (cpus + 2))
-
-pub near_after : (m : Machine) (s : List ℕ) (w : UnderWay) (cpus e : ℕ) → IsWalked m s w →
-    IsNearIn w cpus e → IsNearAfter m s cpus e
-near_after m s w cpus e walked near g at =
-    subst (λ (k : System). IsNear k (e / (cpus + 2)))
-    (some_is walked.run.system g (sym walked.leads ∙ at)) (near m walked.run walked.is)
-
-pub early_here : (m : Machine) (s : List ℕ) (w : UnderWay) → IsWalked m s w →
-    length s < deepest →
-    ((e : ℕ) → e < m.cpus * (m.cpus + 2) → IsTickOf m.cpus e → IsNearAfter m s m.cpus e) →
-    LeadsEarly m s
-early_here m s w walked short near g at =
-    subst IsEarly (some_is walked.run.system g (sym walked.leads ∙ at))
-    (is_early m walked.run.system (length s) walked.clocks short
-    (locals_of_run m walked.run w walked.is)
-    (λ cpu own.
-    let tick : ℕ = cpu * (m.cpus + 2) + (m.cpus + 1) in
-    subst (IsNear walked.run.system)
-    (div-mul-add cpu (m.cpus + 2) (m.cpus + 1) (omega arith))
-    (near tick (tick_below m.cpus cpu own)
-    (mod-mul-add cpu (m.cpus + 2) (m.cpus + 1) (omega arith)) walked.run.system walked.leads)))

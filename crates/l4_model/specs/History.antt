@@ -3,7 +3,7 @@ use Rattle.std.specs.Prelude.{ℕ, ◌+◌, ◌<◌, ◌≤◌, ◌≡◌, ◌�
 use Rattle.l4_model.specs.Words.{GlobalId, Id}
 use Rattle.l4_model.specs.Machine.{Machine}
 use Rattle.l4_model.specs.World.{Phase, Ready, Sending, Receiving, Ordering, Ended, Deleted, Thread, World, opening, Name}
-use Rattle.l4_model.specs.Steps.{Step, Begin, next}
+use Rattle.l4_model.specs.Steps.{Step, OfSend, Begun, next}
 use Rattle.l4_model.specs.Conditions.{undecided, ◌>>=◌}
 
 -- The world after these steps. None where one of them is not possible.
@@ -46,7 +46,7 @@ pub record TellsFirstFault (m : Machine) (h : List Step) : Type 0 where
 
 -- The send that a step begins.
 abbrev pub begun_name : Step → Option Name
-begun_name (Begin s) = Some s
+begun_name (OfSend Begun s) = Some s
 begun_name _ = None
 
 -- A begun send that is still undecided, with its destination.

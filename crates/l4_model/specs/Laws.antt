@@ -6,7 +6,7 @@ use Rattle.l4_model.specs.Machine.{Machine, Delete, is_declared}
 pub use Rattle.l4_model.specs.World.{same_name}
 use Rattle.l4_model.specs.World.{World, opening, PendingOrder, Message, receive_now, Name}
 use Rattle.l4_model.specs.Rules.{accepts, message_of}
-use Rattle.l4_model.specs.Steps.{Step, Begin, Queue, Deliver, Drop, Obey, next, OfSend, Failed}
+use Rattle.l4_model.specs.Steps.{Step, OfThread, OfSend, Deliver, Obeys, Begun, Queued, Failed, Dropped, next}
 use Rattle.l4_model.specs.Conditions.{found, undecided, receiver_of, ◌>>=◌, ◌>>◌}
 use Rattle.l4_model.specs.History.{reached, waiting, begun_name}
 
@@ -25,11 +25,11 @@ refused_name (OfSend (Failed why) s) = Some s
 refused_name _ = None
 
 abbrev pub dropped_name : Step → Option Name
-dropped_name (Drop s) = Some s
+dropped_name (OfSend Dropped s) = Some s
 dropped_name _ = None
 
 abbrev pub queued_name : Step → Option Name
-queued_name (Queue s) = Some s
+queued_name (OfSend Queued s) = Some s
 queued_name _ = None
 
 -- In how many steps a send is begun, delivered, refused or dropped.
@@ -109,7 +109,7 @@ DeliversAs s message _ = Unit {0}
 abbrev pub IsUnalteredFromBegin : Machine → List Step → Type 0
 IsUnalteredFromBegin m h =
     (before after : List Step) (s : Name) (w : World) →
-    h ≡ before ++ Begin s ∷ after → reached m before ≡ Some w →
+    h ≡ before ++ OfSend Begun s ∷ after → reached m before ≡ Some w →
     IsSomeAnd (message_at m w s.thread) (λ message. AllByRecursion (DeliversAs s message) after)
 
 -- The sends that were queued before this one.
@@ -146,7 +146,7 @@ undone m w caller = found m w caller >>= λ t. t.now.order
 abbrev pub NoneAfterDelete : Machine → List Step → Type 0
 NoneAfterDelete m h =
     (before after : List Step) (caller target : GlobalId) (w : World) →
-    h ≡ before ++ Obey caller ∷ after → reached m before ≡ Some w →
+    h ≡ before ++ OfThread Obeys caller ∷ after → reached m before ≡ Some w →
     undone m w caller ≡ Some (record { target = target; what = Delete }) →
     AllByRecursion (λ step. is_delivered_to target step ≡ false) after
 

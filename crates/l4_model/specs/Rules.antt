@@ -32,42 +32,25 @@ register c a = slice_index c.words a
 abbrev pub advanced : Context → Context
 advanced c = record c { place = c.place + 1 }
 
--- The ErrorCodes (manual: Ipc, ErrorCode). Bit 0 is the phase that failed, 0 for send and 1 for
--- receive; bits 1 to 3 are the cause: 1 timeout, 2 non-existing partner, 3 cancelled.
-
-abbrev pub send_timeout_code : ℕ
-send_timeout_code = 2
-
-abbrev pub receive_timeout_code : ℕ
-receive_timeout_code = 3
-
-abbrev pub send_nobody_code : ℕ
-send_nobody_code = 4
-
-abbrev pub receive_nobody_code : ℕ
-receive_nobody_code = 5
-
-abbrev pub send_cancelled_code : ℕ
-send_cancelled_code = 6
-
-abbrev pub receive_cancelled_code : ℕ
-receive_cancelled_code = 7
-
 -- Why a phase fails: its time is over, nobody is there, or a thread asked for its cancellation.
 pub data Failure : Type 0 where
   TimeOver : Failure
   NobodyThere : Failure
   CancelAsked : Failure
 
+-- The ErrorCode of a phase that failed (manual: Ipc, ErrorCode). Bits 1 to 3 are the cause: 1
+-- timeout, 2 non-existing partner, 3 cancelled. Bit 0 is the phase, 0 for send and 1 for receive.
+
+abbrev pub cause : Failure → ℕ
+cause TimeOver = 1
+cause NobodyThere = 2
+cause CancelAsked = 3
+
 abbrev pub send_code : Failure → ℕ
-send_code TimeOver = send_timeout_code
-send_code NobodyThere = send_nobody_code
-send_code CancelAsked = send_cancelled_code
+send_code why = 2 * cause why
 
 abbrev pub receive_code : Failure → ℕ
-receive_code TimeOver = receive_timeout_code
-receive_code NobodyThere = receive_nobody_code
-receive_code CancelAsked = receive_cancelled_code
+receive_code why = 2 * cause why + 1
 
 -- The ErrorCode of an order that is not admitted (own).
 abbrev pub order_refused_code : ℕ

@@ -112,9 +112,3 @@ goes m w entry s h =
     bind_then (step_at m w entry) _ s h λ step is rest.
     guard_then (is_some (next_late m w step)) (Some step) s rest λ some rest.
     ap (λ x. is_some (next_late m w x)) (sym (some_is step s rest)) ∙ some
-
--- An entry that leads on is open.
-pub not_open : (m : Machine) (w : World) (entry : ℕ) (v : World) → open_step m w entry ≡ None → after_entry m w entry ≡ Some v → ⊥
-not_open m w entry v h on =
-    bind_then (step_at m w entry) (next_late m w) v on λ step is goes.
-    let some : Some step ≡ None = sym (opens m w entry step is ∙ ap (λ o. is_some o >> Some step) goes) ∙ h in cc

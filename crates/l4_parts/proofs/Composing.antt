@@ -146,13 +146,6 @@ is_state m g a b c bytes rests none locals mail are at =
     (mail_code (processors m) g.mail []))) none in
     λ i. record { code = code i; is_end = at i }
 
--- Letters that there are begin with a number above 0.
-pub some_letters : (ls : List Letter) (b v : Written) → is_empty ls ≡ false →
-    Writes (letters_code ls) unwritten v → Writes (letters_code ls) b (appended b v)
-some_letters [] b v some written = cc
-some_letters (l ∷ ls) b v some written =
-    written_apart (letters_code (l ∷ ls)) b v (λ rest. record { first = 0; others = _; is = refl }) written
-
 pub no_letters : (ls : List Letter) (b c : Written) → is_empty ls ≡ true →
     Writes (number_code 0) b c → Writes (letters_code ls) b c
 no_letters [] b c none written = written

@@ -1,11 +1,11 @@
 -- What is remembered is so wherever the parts are the same.
-use Rattle.std.proofs.Common.{◌≡◌, ℕ, zero, suc, ◌+◌, ◌*◌, ◌<◌, ◌≤◌, ◌⊎◌, inl, inr, Bool, true, false, ◌==◌, ◌||◌, Option, Some, None, List, [], ◌∷◌, ◌++◌, length, drop, get_or, take, refl, ap, subst, sym, ◌∙◌, arith, append_assoc, length-append}
+use Rattle.std.proofs.Common.{◌≡◌, ℕ, zero, suc, ◌+◌, ◌*◌, ◌<◌, ◌≤◌, ◌⊎◌, inl, inr, Bool, true, false, ◌==◌, ◌||◌, Option, Some, None, List, [], ◌∷◌, ◌++◌, length, get_or, refl, ap, subst, sym, ◌∙◌, arith, append_assoc, length-append}
 use Rattle.std.specs.Prelude.{slice_get, slice_set}
 use Rattle.std.specs.List.{AllByRecursion}
 use Rattle.std.specs.Option.{option_map}
 use Rattle.std.proofs.lemmas.Bool.{cases_eq, cases_lt, eq-eqb, ne_eqb}
 use Rattle.l4_model.proofs.Chains.{some_is}
-use Rattle.std.proofs.lemmas.List.{append-nil, get_or-set_other, length-set, take_more}
+use Rattle.std.proofs.lemmas.List.{append-nil, get_or-set_other, length-set}
 use Rattle.std.proofs.lemmas.Grind.{get_or-set_at}
 use Rattle.std.proofs.lemmas.Nat.{div_below}
 use Rattle.l4_model.specs.Machine.{Machine}
@@ -376,32 +376,6 @@ found_none m g parts old e machine led r own leads none part queue taken writes 
     by h (Some b) same = absurd same
 
 -- Writes, one by one
-
-pub fit_next : (ws : List Write) (row : List ℕ) (i : ℕ) (d : Write) → i < length ws → Fit (take i ws) row →
-    (get_or ws i d).place < length row → number_at row (get_or ws i d).place ≡ (get_or ws i d).old →
-    Fit (take (i + 1) ws) row
-fit_next ws row i d inside fit less same =
-    subst (λ xs. Fit xs row) (sym (take_more ws i d inside)) (by (take i ws) fit)
-  where
-    by : (xs : List Write) → Fit xs row → Fit (xs ++ get_or ws i d ∷ []) row
-    by [] all = ((less, same), tt)
-    by (x ∷ xs) all = (all.0, by xs all.1)
-
-pub fit_at : (ws : List Write) (row : List ℕ) (i : ℕ) (d : Write) → i < length ws → Fit ws row →
-    (get_or ws i d).place < length row
-fit_at [] row i d inside fit = absurd (omega (arith, inside))
-fit_at (w ∷ ws) row zero d inside fit = fit.0.0
-fit_at (w ∷ ws) row (suc i) d inside fit = fit_at ws row i d (omega (arith, inside)) fit.1
-
-pub written_next : (ws : List Write) (row all : List ℕ) (i : ℕ) (d : Write) → i < length ws →
-    written (drop i ws) row ≡ all →
-    written (drop (i + 1) ws) (slice_set row (get_or ws i d).place (get_or ws i d).new) ≡ all
-written_next [] row all i d inside same = absurd (omega (arith, inside))
-written_next (w ∷ ws) row all zero d inside same = same
-written_next (w ∷ ws) row all (suc i) d inside same =
-    subst (λ k. written (drop k (w ∷ ws)) (slice_set row (get_or ws i d).place (get_or ws i d).new) ≡ all)
-    (let e : suc (i + 1) ≡ suc i + 1 = omega arith in e)
-    (written_next ws row all i d (omega (arith, inside)) same)
 
 pub none_written : (old new : List ℕ) (ws : List Write) → ws ≡ [] → AreWrites old new 0 ws
 none_written old new ws is = subst (AreWrites old new 0) (sym is) (record {

@@ -7,7 +7,7 @@ use Rattle.std.proofs.lemmas.List.Quantifiers.{position-Some}
 use Rattle.l4_model.specs.Words.{GlobalId, Id, same_id}
 use Rattle.l4_model.specs.Machine.{Declaration, Machine, place_of}
 use Rattle.l4_model.specs.Steps.{Step}
-use Rattle.l4_model.specs.World.{Name, Thread, Send, World, Phase, Ready, Sending, Receiving, Ordering, Ended, Deleted, opening_thread}
+use Rattle.l4_model.specs.World.{Name, Thread, Send, World, Phase, Receiving, Deleted, opening_thread}
 use Rattle.l4_model.specs.Conditions.{◌>>=◌, ◌>>◌, Found, Pending, undecided}
 use Rattle.l4_model.specs.History.{Report, begun_name, report_of, state_of, waiting}
 use Rattle.l4_core_model.specs.Local.{declared, undeclared}
@@ -32,13 +32,10 @@ agreeing_alike : {m : Machine} (world t : Thread) → is_deleted_state (state_of
 agreeing_alike world t undeleted a = by t.phase refl undeleted a.by_phase
   where
     by : (p : Phase) → t.phase ≡ p → is_deleted_state (state_of p) ≡ false → AgreesIn p world t → IsAlike world t
-    by Ready is alive a = same_alike world t a
-    by Sending is alive a = same_alike world t a
     by (Receiving receive since) is alive a =
         subst (λ u. IsAlike u t) (sym a.same) (record { report = λ id. rw is refl; begun = refl; send = refl })
-    by Ordering is alive a = same_alike world t a
-    by Ended is alive a = same_alike world t a
     by Deleted is alive a = cc
+    by _ is alive a = same_alike world t a
 
 -- Lists
 
@@ -89,10 +86,8 @@ told_of : (s : Name) (f : Found) → (((f.now.context.begun == s.k) >> (f.now.se
 told_of s f = by (f.now.context.begun == s.k) f.now.send
   where
     by : (b : Bool) (o : Option Send) → ((b >> (o >>= pending f)) >>= destination s) ≡ ((b >> (o >>= to_of)) >>= named s)
-    by true None = refl
     by true (Some send) = refl
-    by false None = refl
-    by false (Some send) = refl
+    by _ _ = refl
 
 alike_destination : (k : ℕ) (a b : Thread) → IsAlike a b → destination_of k a ≡ destination_of k b
 alike_destination k a b one = ap₂ (λ (begun : ℕ) (send : Option Send). (begun == k) >> (send >>= to_of)) one.begun one.send

@@ -1,9 +1,4 @@
 -- What a piece of an event leaves as it is: in the world, on each processor, in the lists and in the letters under way.
 pub mod Locals
-pub mod Places
-pub mod Lists
-pub mod Owed
-pub mod Owes
 pub mod Mail
-pub mod Moves
 pub mod Going

@@ -1,6 +1,6 @@
 -- What is known of a core run stays known event by event, and the laws follow.
 use Rattle.l4_refines.proofs.Retargets.Doing.{handles_retarget}
-use Rattle.std.proofs.Common.{◌≡◌, ℕ, Some, [], List, ap, arith, length, map, refl, subst, sym, true, ◌<◌, ◌∙◌, ◌∷◌}
+use Rattle.std.proofs.Common.{◌≡◌, ℕ, Some, [], List, ap, arith, length, map, refl, subst, sym, true, ◌<◌, ◌∙◌, ◌∷◌, IsSomeAnd, slice_get}
 use Rattle.l4_model.specs.Machine.{Machine}
 use Rattle.l4_model.specs.World.{World, opening}
 use Rattle.l4_core_model.specs.Letters.{Content, SendLetter, DoneLetter, WithdrawLetter, GoneLetter, OrderLetter, OrderDoneLetter, RetargetLetter, Letter}
@@ -8,24 +8,20 @@ use Rattle.l4_core_model.specs.Acts.{Work, tells}
 use Rattle.l4_core_model.specs.Mail.{handled, handle}
 use Rattle.l4_refines.proofs.Relation.Views.{Scene, nowhere, scene}
 use Rattle.l4_refines.proofs.Frames.Going.{Goes, opened_goes, IsReached}
-use Rattle.l4_refines.proofs.Letters.Receiving.{without, IsLetter, at_work, handles_send, handles_done}
-use Rattle.l4_refines.proofs.Letters.Late.{handles_withdraw}
-use Rattle.l4_refines.proofs.Letters.Gone.{handles_gone}
-use Rattle.l4_refines.proofs.Orders.Ordered.{handles_order}
-use Rattle.l4_refines.proofs.Orders.Obeyed.{handles_order_done}
+use Rattle.l4_refines.proofs.Letters.Receiving.{without, IsLetter, at_work, handles_send, handles_done, handles_gone, handles_withdraw}
+use Rattle.l4_refines.proofs.Orders.Obeyed.{handles_order_done, handles_order}
 use Rattle.l4_refines.proofs.Lists.{all_join, all_without}
 use Rattle.l4_core_model.proofs.Telling.{run-append, told-last}
-use Rattle.l4_core_model.specs.Runs.{told, Happened, Action, IsMachine, Posted, Run, System, at_rest, core_run, done, happens, letters, opening_run, posted, taken, then_event}
+use Rattle.l4_core_model.specs.Runs.{told, Happened, Action, IsMachine, Posted, Run, System, at_rest, core_run, done, happens, letters, opening_run, posted}
+use Rattle.l4_core_model.specs.Runs.{taken, then_event}
 use Rattle.std.proofs.lemmas.List.FromFn.{length-map-range_with_len}
 use Rattle.l4_model.proofs.Lawful.{lawful}
-use Rattle.l4_refines.proofs.Turns.Choosing.{turn_goes}
+use Rattle.l4_refines.proofs.Turns.Choices.{turn_goes}
 use Rattle.l4_refines.proofs.Turns.Ticking.{tick_goes}
 use Rattle.l4_core_model.specs.Local.{Local, opening_local}
 use Rattle.l4_core_model.specs.Laws.{IsCoreRun}
-use Rattle.std.specs.Prelude.{IsSomeAnd, slice_get}
-use Rattle.l4_refines.proofs.Letters.AddressedEvents.{turn_addressed, handled_addressed}
-use Rattle.l4_refines.proofs.Promises.Choosing.{turn_keeps}
-use Rattle.l4_refines.proofs.Letters.Lawful.{all_lawful, first_lawful, AreAddressed}
+use Rattle.l4_refines.proofs.Promises.Choosing.{turn_keeps, letter_keeps}
+use Rattle.l4_refines.proofs.Letters.Lawful.{all_lawful, first_lawful, AreAddressed, turn_addressed, handled_addressed}
 use Rattle.l4_core_model.proofs.Changed.{length-changed}
 use Rattle.l4_refines.proofs.Relation.Rows.{Matches}
 use Rattle.l4_refines.specs.Laws.{IsLawfulRun, IsState, LettersAreLawful, IsToldAtHome}
@@ -36,7 +32,7 @@ use Rattle.l4_refines.proofs.Relation.Opening.{opening_promised, opening_relates
 use Rattle.l4_model.specs.Steps.{Tick}
 use Rattle.l4_model.specs.Conditions.{◌>>=◌}
 use Rattle.l4_model.specs.History.{reached, run}
-use Rattle.l4_refines.proofs.Rest.RestIsStill.{resting_settled}
+use Rattle.l4_refines.proofs.Rest.Idle.{resting_settled}
 use Rattle.l4_refines.proofs.Rest.Settled.{IsSettled, settled_still}
 use Rattle.l4_core_model.specs.Turns.{advance, opened, turn}
 use Rattle.std.specs.List.{AllByRecursion}
@@ -47,8 +43,7 @@ use Rattle.l4_model.proofs.Worlds.{reached_facts}
 use Rattle.l4_refines.proofs.Promises.Promised.{Promised}
 use Rattle.l4_refines.proofs.Events.{advance_then, done_scene, event_then}
 use Rattle.l4_refines.proofs.Promises.Acts.{StaysPromised}
-use Rattle.l4_refines.proofs.Promises.Turns.{opened_keeps, ticks_keeps}
-use Rattle.l4_refines.proofs.Promises.Handling.{letter_keeps}
+use Rattle.l4_refines.proofs.Promises.Giving.{opened_keeps, ticks_keeps}
 use Rattle.l4_refines.proofs.Relation.Relates.{Relates, RelatesExcept}
 use Rattle.l4_refines.proofs.Frames.Mail.{first_letter}
 

@@ -14,6 +14,11 @@ use Rattle.l4_refines.proofs.Relation.Views.{is_of}
 
 -- Tests of two places
 
+-- A test that can't hold fails.
+pub unless : (b : Bool) → ((b ≡ true) → ⊥) → b ≡ false
+unless true no_way = absurd (no_way refl)
+unless false no_way = refl
+
 pub other_is : (i j : ℕ) → (i ≡ j → ⊥) → (i == j) ≡ false
 other_is i j ne = by (i == j) refl
   where
@@ -110,17 +115,14 @@ pub changed_cases : {A : Type 0} (P : A → Type 0) (f : A → A) (xs : List A) 
     ((i ≡ j → ⊥) → P (slice_index_or xs j d)) → P (slice_index_or (changed f xs i) j d)
 changed_cases P f [] i j d lt here other = absurd (omega arith)
 changed_cases P f (x ∷ xs) zero zero d lt here other = here refl
-changed_cases P f (x ∷ xs) zero (suc j) d lt here other = other (λ e. omega arith)
-changed_cases P f (x ∷ xs) (suc i) zero d lt here other = other (λ e. omega arith)
 changed_cases P f (x ∷ xs) (suc i) (suc j) d lt here other =
     changed_cases P f xs i j d (omega arith) (λ e. here (ap suc e)) (λ ne. other (λ e. ne (omega arith)))
+changed_cases P f (x ∷ xs) _ _ d lt here other = other (λ e. omega arith)
 
 pub get_other_place : {A : Type 0} (f : A → A) (xs : List A) (i j : ℕ) (d : A) → (i ≡ j → ⊥) → slice_index_or (changed f xs i) j d ≡ slice_index_or xs j d
-get_other_place f [] i j d ne = refl
 get_other_place f (x ∷ xs) zero zero d ne = absurd (ne refl)
-get_other_place f (x ∷ xs) zero (suc j) d ne = refl
-get_other_place f (x ∷ xs) (suc i) zero d ne = refl
 get_other_place f (x ∷ xs) (suc i) (suc j) d ne = get_other_place f xs i j d (λ e. ne (ap suc e))
+get_other_place f _ _ _ d ne = refl
 
 -- What is true of all of a list, or of one of it.
 

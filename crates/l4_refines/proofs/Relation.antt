@@ -4,5 +4,4 @@ pub mod Rows
 pub mod Owing
 pub mod Relates
 pub mod Whereabouts
-pub mod Agreement
 pub mod Opening

@@ -1,6 +1,4 @@
 -- A run at rest is still.
 pub mod Idle
 pub mod Seen
-pub mod Resting
 pub mod Settled
-pub mod RestIsStill

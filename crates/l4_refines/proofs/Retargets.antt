@@ -1,6 +1,4 @@
 -- Retargets: owed since a delivery, and done.
 pub mod Others
-pub mod Owes
 pub mod Turned
-pub mod Turning
 pub mod Doing

@@ -7,20 +7,18 @@ use Rattle.std.proofs.lemmas.Bool.{ne_eqb}
 use Rattle.std.proofs.lemmas.List.{length-map, map-set}
 use Rattle.std.proofs.lemmas.List.FromFn.{length-map-range_with_len}
 use Rattle.l4_model.specs.Machine.{Machine}
-use Rattle.l4_model.specs.Words.{GlobalId}
-use Rattle.l4_model.specs.World.{Name, Receive, Send, Thread, is_alive}
+use Rattle.l4_model.specs.World.{Receive, Send, Thread, is_alive}
 use Rattle.l4_model.specs.Effects.{decided, goes_on, obeyed}
 use Rattle.l4_model.specs.History.{Report, report_of}
 use Rattle.l4_model.proofs.Chains.{some_is}
-use Rattle.l4_core_model.specs.Letters.{Cancelled, Delivered, DoneLetter, Dropped, Letter, Nobody, OrderDoneLetter, Refused, Result, TimedOut}
+use Rattle.l4_core_model.specs.Letters.{Cancelled, Delivered, Dropped, Letter, Nobody, Refused, Result, TimedOut}
 use Rattle.l4_core_model.specs.Local.{after_decision, declared, thread, was_delivered}
-use Rattle.l4_core_model.specs.Mail.{own_place}
 use Rattle.l4_core_model.proofs.Changed.{same_nat}
 use Rattle.l4_types.specs.ReportView.{report_of_view}
 use Rattle.l4_types.specs.declared.reports.ThreadView.{ThreadView}
 use Rattle.l4_core.specs.Processor.{Processor}
 use Rattle.l4_replay.specs.Stations.{Station}
-use Rattle.l4_replay.specs.Inner.Heard.{HasPlaces, answers, hears, hears_all, hears_all_mail, hears_at, hears_mail, with_thread}
+use Rattle.l4_replay.specs.Inner.Heard.{HasPlaces, hears, hears_all, hears_all_mail, hears_mail, with_thread}
 use Rattle.l4_replay.specs.Inner.Homes.{last_send, AreThreads}
 use Rattle.l4_replay.specs.declared.homes.LastSend.{LastSend}
 use Rattle.l4_replay.specs.declared.homes.OwnerView.{OwnerView}
@@ -126,35 +124,6 @@ sends_still t =
     (sym keeps.send)
 
 -- What a letter of the program is
-
-pub hears_decision : (p : Processor) (letter : Letter) (t : ℕ → Thread) (m : Machine) (s : Name) (result : Result)
-    (place : ℕ) → p.machine ≡ m → letter.content ≡ DoneLetter s result →
-    own_place m p.cpu s.thread ≡ Some place →
-    hears p letter t ≡ with_thread place (after_decision result p.local.clock (thread p.local place)) t
-hears_decision p letter t m s result place machine content at =
-    ap (λ c. hears_at (answers p.machine p.cpu c) p c t) content
-    ∙ ap (λ o. hears_at o p (DoneLetter s result) t) (ap (λ m. own_place m p.cpu s.thread) machine ∙ at)
-
-pub hears_no_decision : (p : Processor) (letter : Letter) (t : ℕ → Thread) (m : Machine) (s : Name) (result : Result) →
-    p.machine ≡ m → letter.content ≡ DoneLetter s result →
-    own_place m p.cpu s.thread ≡ None → hears p letter t ≡ t
-hears_no_decision p letter t m s result machine content none =
-    ap (λ c. hears_at (answers p.machine p.cpu c) p c t) content
-    ∙ ap (λ o. hears_at o p (DoneLetter s result) t) (ap (λ m. own_place m p.cpu s.thread) machine ∙ none)
-
-pub hears_order : (p : Processor) (letter : Letter) (t : ℕ → Thread) (m : Machine) (caller : GlobalId) (place : ℕ) →
-    p.machine ≡ m → letter.content ≡ OrderDoneLetter caller →
-    own_place m p.cpu caller ≡ Some place → hears p letter t ≡ with_thread place (obeyed (thread p.local place)) t
-hears_order p letter t m caller place machine content at =
-    ap (λ c. hears_at (answers p.machine p.cpu c) p c t) content
-    ∙ ap (λ o. hears_at o p (OrderDoneLetter caller) t) (ap (λ m. own_place m p.cpu caller) machine ∙ at)
-
-pub hears_no_order : (p : Processor) (letter : Letter) (t : ℕ → Thread) (m : Machine) (caller : GlobalId) →
-    p.machine ≡ m → letter.content ≡ OrderDoneLetter caller →
-    own_place m p.cpu caller ≡ None → hears p letter t ≡ t
-hears_no_order p letter t m caller machine content none =
-    ap (λ c. hears_at (answers p.machine p.cpu c) p c t) content
-    ∙ ap (λ o. hears_at o p (OrderDoneLetter caller) t) (ap (λ m. own_place m p.cpu caller) machine ∙ none)
 
 -- Letters in several rows
 

@@ -62,11 +62,24 @@ impl Entry {
 
     /// Whether the entry is one of a machine: the machine has its processor and that of its letter,
     /// and a clock may go on to its value.
-    pub fn is_of(self, machine: &Machine) -> bool
-        ensures { result ≡ is_entry machine.now (entry_from self) }
+    #[inline(always)]
+    pub fn is_of(&self, machine: &Machine) -> bool
+        ensures { result ≡ is_entry machine.now (entry_from self.now) }
+    {
+        // Most entries are turns.
+        match self {
+            Entry::Turn(cpu) => *cpu < machine.cpus(),
+            _ => self.is_other_of(machine),
+        }
+    }
+
+    // The same, of any entry.
+    #[inline(never)]
+    fn is_other_of(&self, machine: &Machine) -> bool
+        ensures { result ≡ is_entry machine.now (entry_from self.now) }
     {
         let cpus = machine.cpus();
-        match self {
+        match *self {
             Entry::Turn(cpu) | Entry::Tick(cpu) | Entry::Core(cpu) => cpu < cpus,
             Entry::Letter { cpu, from } => cpu < cpus && from < cpus,
             Entry::TickTo { cpu, clock } => cpu < cpus && clock > 0 && clock < CLOCKS,

@@ -5,28 +5,30 @@ ghost use Rattle.std.specs.Iterator.{YieldsFirst, item_count};
 use l4_types::letter_ref::LetterRef;
 use l4_types::letters::LetterHead;
 use std::alloc::{AllocError, Global};
-use std::collections::VecDeque;
 use std::marker::Model;
 
 /// Letters in order. Most have few words, so a head lies apart from its words.
 #[derive(Drop)]
 pub(crate) struct LetterQueue {
-    heads: VecDeque<LetterHead>,
+    heads: Vec<LetterHead>,
+    // So many letters, the first ones, were taken out.
+    taken: usize,
     words: Vec<u64>,
     // So many words, the first ones, are those of letters that were taken out.
     gone: usize,
 }
 
 impl Model for LetterQueue {
-    ghost use Rattle.std.specs.Prelude.{◌≡◌, ◌+◌, List, drop, length};
+    ghost use Rattle.std.specs.Prelude.{◌≡◌, ◌≤◌, ◌+◌, List, drop, length};
     ghost use Rattle.l4_types.specs.Inner.LetterHeads.{letters_in, words_by};
     ghost use Rattle.l4_core_model.specs.Letters.{Letter};
 
     ghost Value = { List Letter };
 
-    ghost view = { λ q. letters_in q.heads.items (drop q.gone q.words.items) };
+    ghost view = { λ q. letters_in (drop q.taken q.heads.items) (drop q.gone q.words.items) };
 
-    ghost invariant = { λ q. q.gone + words_by (λ l. l) q.heads.items ≡ length q.words.items };
+    ghost invariant = { λ q. (q.taken ≤ length q.heads.items) ×
+        (q.gone + words_by (λ l. l) (drop q.taken q.heads.items) ≡ length q.words.items) };
 }
 
 impl LetterQueue {
@@ -35,7 +37,8 @@ impl LetterQueue {
         ensures { result ≡ [] }
     {
         LetterQueue {
-            heads: VecDeque::new(alloc),
+            heads: Vec::new(alloc),
+            taken: 0,
             words: Vec::new(alloc),
             gone: 0,
         }
@@ -52,7 +55,7 @@ impl LetterQueue {
         append(&mut self.words, words)?;
         // In its parts: the prover loses track of a whole head that is moved behind a `?`.
         let LetterHead { stamp, content } = *head;
-        self.heads.push_back_reserved(LetterHead { stamp, content });
+        self.heads.push_reserved(LetterHead { stamp, content });
         Ok(())
     }
 
@@ -60,7 +63,7 @@ impl LetterQueue {
     pub(crate) fn first(&self) -> Option<LetterRef<'_>>
         ensures { result ≡ slice_get self.now 0 }
     {
-        let head = self.heads.get(0)?;
+        let head = self.heads.get(self.taken)?;
         let end = self.gone + head.word_count();
         Some(LetterRef::new(head, &self.words[self.gone..end]))
     }
@@ -69,35 +72,37 @@ impl LetterQueue {
     pub(crate) fn drop_first(&mut self)
         ensures { self.new ≡ drop 1 self.old }
     {
-        let Some(head) = self.heads.pop_front() else {
+        // Mostly it is the only one. Then its words are all that are left.
+        if self.heads.len() - self.taken <= 1 {
+            self.clear();
             return;
-        };
-        let count = head.word_count();
-        if count > 0 {
-            self.gone += count;
-            self.tidy();
         }
-    }
-
-    // Drops the words of letters that were taken out where they are more than the others: so each
-    // word is moved once at most.
-    #[inline(always)]
-    fn tidy(&mut self)
-        ensures { self.new ≡ self.old }
-    {
-        if self.gone == self.words.len() {
-            self.words.clear();
-            self.gone = 0;
-        } else if self.gone > self.words.len() / 2 {
+        self.gone += self.heads[self.taken].word_count();
+        self.taken += 1;
+        if self.taken > self.heads.len() / 2 {
             self.drop_gone();
         }
     }
 
-    // Drops the words of letters that were taken out.
+    // Drops all letters.
+    #[inline(always)]
+    fn clear(&mut self)
+        ensures { self.new ≡ [] }
+    {
+        self.heads.clear();
+        self.taken = 0;
+        self.words.clear();
+        self.gone = 0;
+    }
+
+    // Drops what is kept of letters that were taken out. They are more than the others then: so each
+    // letter is moved once at most.
     #[inline(never)]
     fn drop_gone(&mut self)
         ensures { self.new ≡ self.old }
     {
+        let _ = self.heads.drain(..self.taken);
+        self.taken = 0;
         let _ = self.words.drain(..self.gone);
         self.gone = 0;
     }
@@ -106,7 +111,7 @@ impl LetterQueue {
     pub(crate) fn is_empty(&self) -> bool
         ensures { result ≡ (length self.now == 0) }
     {
-        self.heads.get(0).is_none()
+        self.heads.get(self.taken).is_none()
     }
 
     /// The letters in order.
@@ -114,8 +119,8 @@ impl LetterQueue {
         ensures { result ≡ self.now }
     {
         Letters {
-            heads: &self.heads,
-            next: 0,
+            heads: self.heads.as_slice(),
+            next: self.taken,
             words: &self.words[self.gone..],
         }
     }
@@ -141,7 +146,7 @@ fn append(words: &mut Vec<u64>, more: &[u64]) -> Result<(), AllocError>
 /// list of those that are left.
 #[derive(Drop)]
 pub struct Letters<'a> {
-    heads: &'a VecDeque<LetterHead>,
+    heads: &'a [LetterHead],
     next: usize,
     // The words of the letters that are left.
     words: &'a [u64],
@@ -154,10 +159,10 @@ impl<'a> Model for Letters<'a> {
 
     ghost Value = { List Letter };
 
-    ghost view = { λ l. letters_in (drop l.next l.heads.now.items) l.words.now };
+    ghost view = { λ l. letters_in (drop l.next l.heads.now) l.words.now };
 
     ghost invariant = { λ l.
-        words_by (λ h. h) (drop l.next l.heads.now.items) ≡ length l.words.now };
+        words_by (λ h. h) (drop l.next l.heads.now) ≡ length l.words.now };
 }
 
 impl Letters<'_> {

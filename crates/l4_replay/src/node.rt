@@ -43,11 +43,11 @@ impl<'m> Node<'m> {
     /// Does what an entry asks for as the event that has begun, if it can be done. Returns whether
     /// it could.
     #[inline(always)]
-    pub(crate) fn attempt(&mut self, entry: Entry, buffer: &mut EventBuffer<History>) -> bool
+    pub(crate) fn attempt(&mut self, entry: &Entry, buffer: &mut EventBuffer<History>) -> bool
         requires can { CanGoOn (station_of self.old) }
-        requires poster { KnowsPoster (length (letters_in self.old.inbox)) (entry_from entry) }
+        requires poster { KnowsPoster (length (letters_in self.old.inbox)) (entry_from entry.now) }
         requires open { IsOpen buffer.old }
-        ensures { HasTried (entry_from entry) result self.old self.new buffer.old buffer.new }
+        ensures { HasTried (entry_from entry.now) result self.old self.new buffer.old buffer.new }
     {
         match entry {
             Entry::Turn(_) => self.turn(buffer),
@@ -57,13 +57,13 @@ impl<'m> Node<'m> {
 
     // The same. Most entries are turns, so any other is done by a call.
     #[inline(never)]
-    fn attempt_any(&mut self, entry: Entry, buffer: &mut EventBuffer<History>) -> bool
+    fn attempt_any(&mut self, entry: &Entry, buffer: &mut EventBuffer<History>) -> bool
         requires can { CanGoOn (station_of self.old) }
-        requires poster { KnowsPoster (length (letters_in self.old.inbox)) (entry_from entry) }
+        requires poster { KnowsPoster (length (letters_in self.old.inbox)) (entry_from entry.now) }
         requires open { IsOpen buffer.old }
-        ensures { HasTried (entry_from entry) result self.old self.new buffer.old buffer.new }
+        ensures { HasTried (entry_from entry.now) result self.old self.new buffer.old buffer.new }
     {
-        match entry {
+        match *entry {
             Entry::Turn(_) => self.turn(buffer),
             Entry::Core(_) => self.own_turn(buffer),
             Entry::Letter { from, .. } => self.handle_letter(from, buffer),

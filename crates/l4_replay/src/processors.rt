@@ -58,14 +58,14 @@ impl<'m> Processors<'m> {
     ///
     /// `NoMemory`: memory was refused, and what is under way is no core run any more.
     #[inline(always)]
-    pub fn take(&mut self, entry: Entry, buffer: &mut EventBuffer<History>) -> Result<(), NoMemory>
+    pub fn take(&mut self, entry: &Entry, buffer: &mut EventBuffer<History>) -> Result<(), NoMemory>
         requires run { HasRun (under_way self.old) }
         requires few { self.old.events < 2 ^ 61 }
         requires open { IsOpen buffer.old }
-        requires lawful { is_entry self.old.machine.now (entry_from entry) ≡ true }
-        ensures goes { OnOk result (GoesOn (after_entry (entry_from entry))
+        requires lawful { is_entry self.old.machine.now (entry_from entry.now) ≡ true }
+        ensures goes { OnOk result (GoesOn (after_entry (entry_from entry.now))
             (under_way self.old) (under_way self.new)) }
-        ensures told { OnOk result (HasTold (after_entry (entry_from entry))
+        ensures told { OnOk result (HasTold (after_entry (entry_from entry.now))
             (under_way self.old) buffer.old buffer.new) }
     {
         law_core_run();
@@ -84,15 +84,15 @@ impl<'m> Processors<'m> {
     #[inline(never)]
     pub(crate) fn go_on(
         &mut self,
-        entry: Entry,
+        entry: &Entry,
         buffer: &mut EventBuffer<History>,
     ) -> Result<(), NoMemory>
         requires run { HasRun (under_way self.old) }
         requires few { self.old.events < 2 ^ 61 }
-        requires lawful { is_entry self.old.machine.now (entry_from entry) ≡ true }
-        ensures goes { OnOk result (GoesOn (after_entry (entry_from entry))
+        requires lawful { is_entry self.old.machine.now (entry_from entry.now) ≡ true }
+        ensures goes { OnOk result (GoesOn (after_entry (entry_from entry.now))
             (under_way self.old) (under_way self.new)) }
-        ensures told { OnOk result (HasTold (after_entry (entry_from entry))
+        ensures told { OnOk result (HasTold (after_entry (entry_from entry.now))
             (under_way self.old) buffer.old buffer.new) }
     {
         buffer.begin()?;

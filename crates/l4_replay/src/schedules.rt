@@ -59,7 +59,7 @@ pub fn ended_replay<'m>(
         if !entry.is_of(machine) {
             return Err(RunFault::Schedule(place + 1));
         }
-        processors.go_on(*entry, &mut buffer)?;
+        processors.go_on(entry, &mut buffer)?;
     }
     Ok(EndedReplay {
         processors,

@@ -62,7 +62,7 @@ impl<'m> Walk<'m> {
         requires lawful { is_entry self.old.machine (entry_from entry) ≡ true }
         ensures { OnOk result (GoesOn (after_entry (entry_from entry)) self.old self.new) }
     {
-        self.processors.go_on(entry, &mut self.buffer)
+        self.processors.go_on(&entry, &mut self.buffer)
     }
 
     /// A processor, by its number.

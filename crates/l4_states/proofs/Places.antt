@@ -32,9 +32,6 @@ likely m g h cpu own same = like_of _ _ _ (λ rest.
     ap (λ (f : List ℕ → List ℕ). f rest) (sym (own_code m g cpu own)) ∙ same rest
     ∙ ap (λ (f : List ℕ → List ℕ). f rest) (own_code m h cpu own))
 
-local_rests : Machine → (cpu : ℕ) → Local → Bool
-local_rests m cpu l = not (is_busy m cpu l) && is_empty l.lists.armed
-
 pub local_rest_is : (m : Machine) (g : System) (cpu : ℕ) (l : Local) → slice_get g.locals cpu ≡ Some l →
     local_at_rest m g cpu ≡ (not (is_busy m cpu l) && is_empty l.lists.armed)
 local_rest_is m g cpu l at = by (slice_get g.locals cpu) refl at

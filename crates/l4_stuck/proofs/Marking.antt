@@ -1,6 +1,5 @@
 -- Marks of places, set one after another.
 use Rattle.std.proofs.Common.{◌≡◌, ℕ, zero, suc, ◌+◌, ◌<◌, ◌≤◌, Bool, true, false, ◌⊎◌, inl, inr, Some, List, [], ◌∷◌, ◌++◌, length, refl, ap, sym, subst, ◌∙◌, arith}
-use Rattle.std.proofs.Math.ListN.{length-append}
 use Rattle.std.specs.Prelude.{slice_get, slice_set}
 use Rattle.l4_model.specs.Machine.{Machine}
 use Rattle.l4_model.proofs.Chains.{some_is}
@@ -94,34 +93,6 @@ lies (suc i) (suc n) = by (lies i n)
     by (At e) = At (ap suc e)
     by (Above lt) = Above (omega (arith, lt))
 
--- The next place is marked where the search has not gone on from it, or the thread does not wait there.
-pub started_more : (rows : List (List Wait)) (known thread : ℕ) (moves : List Bool) (place : ℕ) (b : Bool) →
-    (b ≡ false → (place < known) × (is_waiting (wait_by rows place thread) ≡ true)) → (place < known → b ≡ true → is_waiting (wait_by rows place thread) ≡ false) →
-    AreStartedSoFar rows known thread moves place → AreStartedSoFar rows known thread (moves ++ b ∷ []) (place + 1)
-started_more rows known thread moves place b free marked h =
-    record {
-      len = omega (arith, h.len, length-append moves (b ∷ []));
-      free = λ i is. free_at i (lies i (length moves)) is;
-      marked = λ i below inside is. marked_at i (lies i (length moves)) below inside is;
-    }
-  where
-    free_at : (i : ℕ) → Lies i (length moves) → moves_at (moves ++ b ∷ []) i ≡ false → (i < known) × (is_waiting (wait_by rows i thread) ≡ true)
-    free_at i (Below lt) is = h.free i (sym ((pushed moves b i).before lt) ∙ is)
-    free_at i (At e) is =
-        let same : i ≡ place = e ∙ h.len in
-        subst (λ j. (j < known) × (is_waiting (wait_by rows j thread) ≡ true)) (sym same) (free (sym ((pushed moves b i).here e) ∙ is))
-    free_at i (Above lt) is = let no : true ≡ false = sym ((pushed moves b i).behind lt) ∙ is in cc
-
-    marked_at : (i : ℕ) → Lies i (length moves) → i < place + 1 → i < known → moves_at (moves ++ b ∷ []) i ≡ true → is_waiting (wait_by rows i thread) ≡ false
-    marked_at i (Below lt) below inside is = h.marked i (omega (arith, lt, h.len)) inside (sym ((pushed moves b i).before lt) ∙ is)
-    marked_at i (At e) below inside is =
-        let same : i ≡ place = e ∙ h.len in
-        subst (λ j. is_waiting (wait_by rows j thread) ≡ false) (sym same) (marked (subst (λ j. j < known) same inside) (sym ((pushed moves b i).here e) ∙ is))
-    marked_at i (Above lt) below inside is = absurd (omega (arith, lt, below, h.len))
-
-pub started_none : (rows : List (List Wait)) (known thread : ℕ) → AreStartedSoFar rows known thread [] 0
-started_none rows known thread = record { len = refl; free = λ i is. cc; marked = λ i below inside is. absurd (omega (arith, below)) }
-
 -- One round along the edges, from the last to the first
 
 pub record IsRoundOn (g : Graph) (thread : ℕ) (old new : List Bool) (left : ℕ) (has_spread : Bool) : Type 0 where
@@ -131,21 +102,6 @@ pub record IsRoundOn (g : Graph) (thread : ℕ) (old new : List Bool) (left : �
   pub no_more : unmarked new ≤ unmarked old
   pub same : has_spread ≡ false → new ≡ old
   pub spread : has_spread ≡ false → (k : ℕ) (e : Edge) → left ≤ k → slice_get g.edges.items k ≡ Some e → IsSpread (rows_of g) thread new e
-
-pub round_none : (g : Graph) (thread : ℕ) (old : List Bool) (left : ℕ) → length g.edges.items ≤ left → IsRoundOn g thread old old left false
-round_none g thread old left all = record {
-  free = λ place is. is;
-  justified = λ m found timed reached are just. just;
-  fewer = λ is. cc;
-  no_more = omega arith;
-  same = λ is. refl;
-  spread = λ is k e low at. absurd (omega (arith, low, all, inside g.edges.items k e at));
-}
-  where
-    inside : (es : List Edge) (k : ℕ) (e : Edge) → slice_get es k ≡ Some e → k < length es
-    inside [] k e at = cc
-    inside (x ∷ es) zero e at = omega arith
-    inside (x ∷ es) (suc k) e at = let less = inside es k e at in omega (arith, less)
 
 pub round_marked : (g : Graph) (thread : ℕ) (old now new : List Bool) (left : ℕ) (has_spread : Bool) (e : Edge) → slice_get g.edges.items left ≡ Some e → IsMarkedBy (rows_of g) thread e now new →
     IsRoundOn g thread old now (left + 1) has_spread → IsRoundOn g thread old new left true

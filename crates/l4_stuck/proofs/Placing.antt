@@ -21,14 +21,6 @@ pub record AreBuilt (m : Machine) (found : List Seen) (rows : List (List Wait)) 
   pub steps : (k : ℕ) (e : Edge) → slice_get edges k ≡ Some e → IsEdge m found e.from e.to
   pub all : (i : ℕ) → i < place → HasAll m found edges i
 
-pub none_built : (m : Machine) (found : List Seen) → AreBuilt m found [] [] 0
-none_built m found = record {
-  counted = refl;
-  waits = λ i w below at. absurd (omega (arith, below));
-  steps = λ k e at. cc;
-  all = λ i below. absurd (omega (arith, below));
-}
-
 row_before : (rows : List (List Wait)) (row : List Wait) (i : ℕ) → i < length rows → row_at (rows ++ row ∷ []) i ≡ row_at rows i
 row_before [] row i below = absurd (omega (arith, below))
 row_before (x ∷ rows) row zero below = refl

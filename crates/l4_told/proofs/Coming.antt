@@ -20,7 +20,7 @@ use Rattle.l4_told.specs.Inner.Kept.{steps_in}
 use Rattle.l4_told.specs.Inner.OfOne.{IsRunOfOne}
 use Rattle.l4_told.specs.declared.alone.Alone.{Alone}
 use Rattle.l4_told.proofs.Telling.{event_steps, more_told, none_told, same_told}
-use Rattle.l4_told.proofs.OfOne.{HasGone, advanced, not_advanced, not_turned, opening_of_one, turned}
+use Rattle.l4_told.proofs.OfOne.{HasGone, advanced, not_advanced, opening_of_one, turned}
 
 -- Nothing has happened yet.
 pub opening_come : (m : Machine) (a : Alone) → m.cpus ≡ 1 → IsMachine m → a.machine.now ≡ m →
@@ -99,12 +99,6 @@ advanced_come to m r before old new stamp come =
     (λ x is. advanced to m r old.core.local x come.of_one (advance_here to m r before old come ∙ is)) come
 
 -- What can't be done leaves the run as it is.
-
-pub unturned_come : (m : Machine) (r : Run) (before : List Step) (a : Alone) → HasCome m r before a →
-    turn a.core.machine a.core.cpu a.core.local ≡ None → HasCome m (attempts m r (Turns 0)) before a
-unturned_come m r before a come none =
-    subst (λ q. HasCome m q before a)
-    (sym (not_turned m r a.core.local come.of_one (turn_here m r before a come ∙ none))) come
 
 pub unadvanced_come : (to : ℕ) (m : Machine) (r : Run) (before : List Step) (a : Alone) → HasCome m r before a →
     advance a.core.machine a.core.cpu to a.core.local ≡ None → HasCome m (attempts m r (Ticks 0 to)) before a

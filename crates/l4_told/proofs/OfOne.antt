@@ -1,7 +1,7 @@
 -- On a machine of one processor no letter is ever under way: each event of a core run is a turn or a tick of that
 -- processor, and its events stand in order.
-use Rattle.std.proofs.Common.{◌≡◌, ◌≢◌, ◌⊎◌, ℕ, zero, suc, ◌+◌, ◌-◌, ◌*◌, ◌<◌, ◌≤◌, Bool, true, false, not, cond}
-use Rattle.std.proofs.Common.{Option, Some, None, List, [], ◌∷◌, ◌++◌, map, filter, length, refl, ap, sym, ◌∙◌, subst}
+use Rattle.std.proofs.Common.{[], ◌≡◌, ◌≢◌, ◌⊎◌, ℕ, zero, suc, ◌+◌, ◌-◌, ◌*◌, ◌<◌, ◌≤◌, Bool, true, false, not, cond}
+use Rattle.std.proofs.Common.{Option, Some, None, List, ◌∷◌, ◌++◌, map, filter, length, refl, ap, sym, ◌∙◌, subst}
 use Rattle.std.proofs.Common.{arith, length-append, lt-ltb, mul-le-mul_right}
 use Rattle.std.specs.Prelude.{slice_get, IsSomeAnd, is_some, ◌==◌, ◌&&◌}
 use Rattle.std.specs.Option.{option_map}
@@ -20,7 +20,7 @@ use Rattle.l4_core_model.specs.Turns.{Choice, choice, does_choice, opened, turn,
 use Rattle.l4_core_model.specs.Runs.{IsMachine, Posted, processors, letters, is_between, posted, Action, Handles, Turns}
 use Rattle.l4_core_model.specs.Runs.{Ticks, Event, Happened, done, happens, Run, then_event, opening_run}
 use Rattle.l4_core_model.specs.Runs.{told, put_event, merged, is_empty, local_at_rest, at_rest}
-use Rattle.l4_core_model.specs.Schedules.{first_poster, turn_of, next_turn, or_stays, attempts, attempts_all}
+use Rattle.l4_core_model.specs.Schedules.{or_stays, attempts, attempts_all}
 use Rattle.l4_core_model.specs.Schedules.{least_deadline, earliest, earliest_of, ticks, ticks_to, run}
 use Rattle.l4_core_model.proofs.Lists.{all-map}
 use Rattle.l4_core_model.proofs.Telling.{told-last}
@@ -293,12 +293,6 @@ letters_stay m r l from of =
     let at = here m r l of in
     let none = of.none from in
     rw (at, none) refl
-
--- So its next turn is the core's own.
-pub mail_comes_never : (m : Machine) (r : Run) (l : Local) → IsRunOfOne m r l → next_turn m r.system 0 ≡ Turns 0
-mail_comes_never m r l of =
-    ap (λ (cpus : List ℕ). turn_of 0 (first_poster r.system 0 cpus)) (one_processor m of.one)
-    ∙ ap (λ (ls : List Letter). turn_of 0 (cond (is_empty ls) None (Some 0))) (of.none 0)
 
 -- The order of its events
 

@@ -1,25 +1,24 @@
 -- A run in rounds of one processor: its next event, and its end.
-use Rattle.std.proofs.Common.{◌≡◌, ℕ, ◌+◌, ◌*◌, ◌<◌, ◌≤◌, ◌^◌, Bool, true, false, cond, Option, Some}
-use Rattle.std.proofs.Common.{None, List, [], ◌∷◌, ◌++◌, length, refl, ap, ap₂, sym, ◌∙◌, subst, inl, inr}
+use Rattle.std.proofs.Common.{[], ◌≡◌, ℕ, ◌+◌, ◌*◌, ◌<◌, ◌≤◌, ◌^◌, Bool, true, false, cond, Option, Some}
+use Rattle.std.proofs.Common.{None, List, ◌∷◌, ◌++◌, length, refl, ap, ap₂, sym, ◌∙◌, subst, inl, inr}
 use Rattle.std.proofs.Common.{arith, lt-ltb}
-use Rattle.std.specs.Prelude.{is_some, nat_le, nat_lt, slice_get}
+use Rattle.std.specs.Prelude.{is_some, nat_le, slice_get}
 use Rattle.std.specs.Option.{option_map}
 use Rattle.std.proofs.lemmas.Bool.Decides.{nat_tests}
 use Rattle.l4_model.specs.Machine.{Machine}
-use Rattle.l4_model.specs.Steps.{Step, Tick}
+use Rattle.l4_model.specs.Steps.{Step}
 use Rattle.l4_model.specs.Words.{period_limit}
-use Rattle.l4_model.proofs.Chains.{guard_then, some_is}
+use Rattle.l4_model.proofs.Chains.{some_is}
 use Rattle.l4_core_model.specs.Plain as plain
-use Rattle.l4_core_model.specs.Acts.{Work, ◌▷◌, does, tells}
+use Rattle.l4_core_model.specs.Acts.{Work, ◌▷◌, does}
 use Rattle.l4_core_model.specs.Local.{Local, own_places}
-use Rattle.l4_core_model.specs.Runs.{Run, Ticks, Turns, opening_run, told}
+use Rattle.l4_core_model.specs.Runs.{Run, Ticks, Turns, told}
 use Rattle.l4_core_model.specs.Schedules.{attempts, run}
-use Rattle.l4_core_model.specs.Turns.{ByDue, ByReady, advance, clock_is, first_duty, first_some, is_busy, opened, turn}
+use Rattle.l4_core_model.specs.Turns.{ByDue, ByReady, advance, first_duty, first_some, is_busy, turn}
 use Rattle.l4_merge.specs.LocalTraces.{empty_past}
 use Rattle.l4_merge.specs.Rounds.{IsInRounds}
 use Rattle.l4_merge.specs.Transitions.{Turned, Transition, handled_by, letters_with, posted_by, told_by, happened_by}
 use Rattle.l4_merge.proofs.ClocksOfEvents.{turned_clock}
-use Rattle.l4_merge.proofs.InRounds.{opening_in_rounds}
 use Rattle.l4_core.specs.Inner.Turning.{work}
 use Rattle.l4_replay.specs.Entries.{most_turns}
 use Rattle.l4_machine.specs.Outcomes.{Findings, IsFoundFor, IsOutcomeOf, in_order as run_in_order}
@@ -65,13 +64,6 @@ turn_clock m cpu l x is =
       };
       turns = (refl, tt);
     })
-
-advance_clock : (m : Machine) (cpu to : ℕ) (l : Local) (x : Work) → advance m cpu to l ≡ Some x → x.local.clock ≡ to
-advance_clock m cpu to l x is =
-    let y : Work = opened 0 l ▷ tells (Tick cpu to) ▷ does (clock_is to) in
-    guard_then (nat_lt l.clock to) _ x is λ later is.
-    guard_then (nat_lt to (2 ^ 62)) (Some y) x is λ below is.
-    ap (λ (x : Work). x.local.clock) (sym (some_is y x is))
 
 -- Where nothing is to be done, the least deadline is above the clock.
 
@@ -140,15 +132,6 @@ clock_turned old new event low =
     let events = event.events in
     omega (arith, same, events, low)
 
-pub clock_ticked : (deadline : ℕ) (old new : Alone) →
-    IsEventOf (advance old.core.machine old.core.cpu deadline old.core.local) old new →
-    deadline < old.core.local.clock + period_limit → old.core.local.clock ≤ old.events * period_limit →
-    new.core.local.clock ≤ new.events * period_limit
-clock_ticked deadline old new event near low =
-    let same = advance_clock old.core.machine old.core.cpu deadline old.core.local _ event.is in
-    let events = event.events in
-    omega (arith, same, events, near, low)
-
 pub can_advance : (deadline : ℕ) (a : Alone) → HasRun a → turn a.core.machine a.core.cpu a.core.local ≡ None →
     option_map (λ (e : ℕ × ℕ). e.0) (slice_get a.core.local.lists.armed 0) ≡ Some deadline →
     deadline < a.core.local.clock + period_limit → a.core.local.clock ≤ a.events * period_limit →
@@ -177,19 +160,6 @@ pub record IsRunning (m : Machine) (turns count : ℕ) (hears : List Step → Ty
   pub count_is : length run.events ≡ count
   pub clock : a.core.local.clock ≤ count * period_limit
   pub heard : hears before
-
-pub running_start : (m : Machine) (turns : ℕ) (hears : List Step → Type 0) (a : Alone) →
-    HasCome m (opening_run m) [] a →
-    a.core.local.clock ≡ 0 → hears [] → IsRunning m turns 0 hears a
-running_start m turns hears a come clock none = record {
-  run = opening_run m;
-  before = [];
-  come = come;
-  rounds = opening_in_rounds m turns;
-  count_is = refl;
-  clock = omega (arith, clock);
-  heard = none;
-}
 
 -- What the end of a run comes to.
 pub found : (m : Machine) (turns : ℕ) (hears : List Step →

@@ -43,13 +43,13 @@ impl<'m> Replay<'m> {
     pub(crate) fn take<L: Listener>(
         &mut self,
         alloc: Global,
-        entry: Entry,
+        entry: &Entry,
         listener: &mut L,
     ) -> Result<(), NoMemory>
         requires run { HasRun self.old }
         requires few { self.old.processors.events < 2 ^ 61 }
-        requires lawful { is_entry self.old.processors.machine.now (entry_from entry) ≡ true }
-        ensures { OnOk result (HasToldAnd (after_entry (entry_from entry))
+        requires lawful { is_entry self.old.processors.machine.now (entry_from entry.now) ≡ true }
+        ensures { OnOk result (HasToldAnd (after_entry (entry_from entry.now))
             (λ steps. L.hears listener.old steps listener.new) self.old self.new) }
     {
         self.make_room(alloc, listener)?;

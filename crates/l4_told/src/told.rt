@@ -119,7 +119,7 @@ fn told_replay<L: Listener>(
         if !entry.is_of(machine) {
             return Err(RunFault::Schedule(place + 1));
         }
-        replay.take(alloc, *entry, listener)?;
+        replay.take(alloc, entry, listener)?;
     }
     replay.tell_left(listener)?;
     Ok(replay.into_final_state(alloc)?)

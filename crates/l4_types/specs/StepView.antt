@@ -8,7 +8,7 @@ use Rattle.l4_types.specs.declared.steps.Step.{Step}
 use Rattle.l4_types.specs.declared.steps.Step.TheVariants.{Local, Begin, Queue, Deliver, Wait, SendTimeout, ReceiveTimeout, SendNobody, ReceiveNobody, SendCancel, ReceiveCancel, Drop, Order, Obey, Tick, Retarget}
 use Rattle.l4_model.specs.Machine as machine
 use Rattle.l4_model.specs.Steps as steps
-use Rattle.l4_model.specs.Rules.{received_tag}
+use Rattle.l4_model.specs.Rules.{TimeOver, NobodyThere, CancelAsked, received_tag}
 
 abbrev pub order_kind_of : OrderKind → machine.OrderKind
 order_kind_of CancelSend = machine.CancelSend
@@ -18,22 +18,22 @@ order_kind_of Delete = machine.Delete
 
 -- A step of the machine, where it is known how deliveries are seen.
 abbrev pub step_by : {D : Type 0} → (D → steps.Step) → Step D → steps.Step
-step_by delivery (Local t) = steps.Local t
-step_by delivery (Begin s) = steps.Begin s
-step_by delivery (Queue s) = steps.Queue s
+step_by delivery (Local t) = steps.OfThread steps.Runs t
+step_by delivery (Begin s) = steps.OfSend steps.Begun s
+step_by delivery (Queue s) = steps.OfSend steps.Queued s
 step_by delivery (Deliver d) = delivery d
-step_by delivery (Wait t) = steps.Wait t
-step_by delivery (SendTimeout s) = steps.SendTimeout s
-step_by delivery (ReceiveTimeout t) = steps.ReceiveTimeout t
-step_by delivery (SendNobody s) = steps.SendNobody s
-step_by delivery (ReceiveNobody t) = steps.ReceiveNobody t
-step_by delivery (SendCancel s) = steps.SendCancel s
-step_by delivery (ReceiveCancel t) = steps.ReceiveCancel t
-step_by delivery (Drop s) = steps.Drop s
+step_by delivery (Wait t) = steps.OfThread steps.Waits t
+step_by delivery (SendTimeout s) = steps.OfSend (steps.Failed TimeOver) s
+step_by delivery (ReceiveTimeout t) = steps.OfThread (steps.Fails TimeOver) t
+step_by delivery (SendNobody s) = steps.OfSend (steps.Failed NobodyThere) s
+step_by delivery (ReceiveNobody t) = steps.OfThread (steps.Fails NobodyThere) t
+step_by delivery (SendCancel s) = steps.OfSend (steps.Failed CancelAsked) s
+step_by delivery (ReceiveCancel t) = steps.OfThread (steps.Fails CancelAsked) t
+step_by delivery (Drop s) = steps.OfSend steps.Dropped s
 step_by delivery (Order caller target what) = steps.Order caller target (order_kind_of what)
-step_by delivery (Obey t) = steps.Obey t
+step_by delivery (Obey t) = steps.OfThread steps.Obeys t
 step_by delivery (Tick t) = steps.Tick t.cpu t.clock
-step_by delivery (Retarget s) = steps.Retarget s
+step_by delivery (Retarget s) = steps.OfSend steps.Retargeted s
 
 abbrev pub delivery_in : {D : Type 0} → Step D → Option D
 delivery_in (Deliver d) = Some d

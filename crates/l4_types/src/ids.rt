@@ -65,11 +65,12 @@ pub enum Kind {
 }
 
 /// A global thread id: a thread number and a version whose low six bits are not all zero. The
-/// number and the version of all ones are no global id, since their word is anythread.
-#[derive(Clone, Copy, PartialEq, Eq, Hash, Debug)]
+/// number and the version of all ones are no global id, since their word is anythread. It lies in
+/// memory as its word.
+#[derive(Clone, Copy, Eq, Hash, Debug)]
 pub struct GlobalId {
-    number: u32,
     version: u32,
+    number: u32,
 }
 
 impl Model for GlobalId {
@@ -83,6 +84,21 @@ impl Model for GlobalId {
     ghost invariant = { λ t. is_global (global_id t.number t.version) ≡ true };
 
     ghost inverse = { λ t. record { number = t.number; version = t.version } };
+}
+
+impl PartialEq for GlobalId {
+    ghost use Rattle.std.specs.Prelude.{◌==◌};
+    ghost use Rattle.std.specs.Ordering.{on, eq_of_both};
+    ghost use Rattle.std.specs.Cmp.Rules.{comparing};
+    ghost use Rattle.std.proofs.Common.{rules};
+
+    ghost eq = { eq_of_both (on (λ t. t.number) ◌==◌) (on (λ t. t.version) ◌==◌) };
+
+    ghost laws = { Prim.search (comparing, rules) };
+
+    fn eq(&self, other: &GlobalId) -> bool {
+        other.number == self.number && other.version == self.version
+    }
 }
 
 impl GlobalId {

@@ -1,5 +1,5 @@
 -- Which choices can be made behind a core run.
-use Rattle.std.proofs.Common.{◌≡◌, ℕ, zero, suc, ◌+◌, ◌<◌, true, false, Bool, ◌⊎◌, inl, inr, Option, None, Some, List, [], ◌∷◌, ◌++◌, length, get_or, refl, sym, subst, arith}
+use Rattle.std.proofs.Common.{◌≡◌, ℕ, zero, suc, ◌+◌, ◌<◌, true, false, Bool, ◌⊎◌, Option, None, Some, List, [], ◌∷◌, ◌++◌, length, get_or, refl, sym, subst, arith}
 use Rattle.std.specs.Prelude.{is_some, nat_lt}
 use Rattle.std.specs.List.{AllByRecursion}
 use Rattle.std.proofs.lemmas.Bool.{ltb-true, ltb-false}
@@ -55,14 +55,6 @@ at : (P : ℕ → Type 0) (xs : List ℕ) (i d : ℕ) → i < length xs → AllB
 at P [] i d inside all = absurd (omega (arith, inside))
 at P (x ∷ xs) zero d inside all = all.0
 at P (x ∷ xs) (suc i) d inside all = at P xs i d (omega (arith, inside)) all.1
-
--- One of them was chosen.
-pub one_chosen : (m : Machine) (g : System) (numbers : List ℕ) (i d number : ℕ) →
-    AreChoices m g numbers → i < length numbers → number ≡ get_or numbers i d →
-    IsChoice m g (Some number)
-one_chosen m g numbers i d number are inside is =
-    subst (λ n. IsChoice m g (Some n)) (sym is)
-    (at (λ n. IsChoice m g (Some n)) numbers i d inside are.each)
 
 pub none_chosen : (m : Machine) (g : System) (numbers : List ℕ) → AreChoices m g numbers →
     length numbers ≡ 0 → IsOver m g

@@ -26,6 +26,15 @@ takes_at_once m l r i (Some receive) =
     accepts m receive.from (declared m i).id (declared m r).id &&
     is_none (first_taken receive.from (list_of l.lists r))
 
+-- A thread waits, and accepts this message of another one before those that wait at it. None that is
+-- propagated is taken at once.
+abbrev pub takes_message : Machine → Local → (r : ℕ) → Message → Option Receive → Bool
+takes_message m l r message None = false
+takes_message m l r message (Some receive) =
+    not message.propagated &&
+    (accepts m receive.from message.shown (declared m r).id &&
+    is_none (first_taken receive.from (list_of l.lists r)))
+
 -- The receiver that takes at once what a thread sends now to this id: a thread of this processor.
 -- None if the send asks for propagation.
 abbrev pub fast_receiver : Machine → (cpu : ℕ) → Local → (sender : ℕ) → Id → Option ℕ

@@ -1,9 +1,9 @@
 -- What a letter asks of a processor, found before anything changes.
 use Rattle.std.specs.Prelude.{◌≡◌, ℕ, ◌<◌, ◌==◌, Bool, true, false, if◌then◌else◌, ◌||◌, Option, Some, is_some, is_none, List, length}
 use Rattle.std.specs.Option.{option_map}
-use Rattle.l4_model.specs.Words.{same_id}
+use Rattle.l4_model.specs.Words.{GlobalId, same_id}
 use Rattle.l4_model.specs.Machine.{Machine, is_declared}
-use Rattle.l4_model.specs.World.{Message, is_deleted}
+use Rattle.l4_model.specs.World.{Message, Name, is_deleted}
 use Rattle.l4_model.specs.Effects.{obeyed}
 use Rattle.l4_model.specs.Conditions.{◌>>=◌, ◌>>◌}
 use Rattle.l4_core_model.specs.Letters.{OrderDoneLetter}
@@ -17,6 +17,7 @@ use Rattle.l4_types.specs.declared.letters.Cause.{Cause}
 use Rattle.l4_types.specs.declared.letters.Cause.TheVariants.{ByTimeout, ByCancel, ByDeletion}
 use Rattle.l4_types.specs.declared.letters.Content.{Content}
 use Rattle.l4_types.specs.declared.letters.Content.TheVariants as content
+use Rattle.l4_types.specs.declared.message_ref.MessageHead.{MessageHead}
 use Rattle.l4_types.specs.Inner.LetterHeads.{message_with}
 use Rattle.l4_types.specs.Inner.LetterView.{decision_of, refusal_of_send}
 use Rattle.l4_types.specs.Inner.OwedView.{owed_of}
@@ -35,21 +36,33 @@ refusal_for ByDeletion = Dropped
 abbrev pub refused_if : Bool → ℕ → Refusal → Task
 refused_if waits i refusal = if waits then Refuse i refusal else Leave
 
--- None if the letter, whose message has these words, is not lawful here.
-abbrev pub task_of : Machine → (cpu : ℕ) → Local → (words : List ℕ) →
-    Content → Option Task
-task_of m cpu l words (content.Send name to message zero_timeout) = do
+-- The places of the receiver and the sender of a send that has arrived. None where it is not lawful
+-- here.
+abbrev pub arrival_places : Machine → (cpu : ℕ) → Local → Name → GlobalId → MessageHead → Option (ℕ × ℕ)
+arrival_places m cpu l name to message = do
   r ← own_place m cpu to
   i ← foreign_place m cpu name.thread
   is_none (thread l i).send
   same_id message.actual name.thread
   is_declared m message.shown
-  Some (Arrive r i name to (message_with words message) zero_timeout)
-task_of m cpu l words (content.Done name decision) = do
+  Some (r, i)
+
+-- The place of the thread whose send a decision ends. None where it is not lawful here.
+abbrev pub ended_place : Machine → (cpu : ℕ) → Local → Name → Option ℕ
+ended_place m cpu l name = do
   i ← own_place m cpu name.thread
   is_some (split_place m cpu l i)
   (thread l i).context.begun == name.k
-  Some (End i decision)
+  Some i
+
+-- None if the letter, whose message has these words, is not lawful here.
+abbrev pub task_of : Machine → (cpu : ℕ) → Local → (words : List ℕ) →
+    Content → Option Task
+task_of m cpu l words (content.Send name to message zero_timeout) =
+    option_map (λ places. Arrive places.0 places.1 name to (message_with words message) zero_timeout)
+    (arrival_places m cpu l name to message)
+task_of m cpu l words (content.Done name decision) = option_map (λ i. End i decision)
+    (ended_place m cpu l name)
 task_of m cpu l words (content.Withdraw name to cause) = do
   r ← own_place m cpu to
   i ← foreign_place m cpu name.thread
@@ -97,9 +110,10 @@ pub record IsForeign (p : Processor) (i : ℕ) : Type 0 where
   pub foreign : is_own p.machine p.cpu i ≡ false
 
 -- A send of another processor's thread that comes to one of this processor.
-pub record IsArrival (p : Processor) (r i : ℕ) (message : Message) : Type 0 where
+pub record IsArrival (p : Processor) (r i : ℕ) (name : Name) (message : Message) : Type 0 where
   pub receiver : IsOwnOf p r
   pub sender : IsForeign p i
+  pub named : name.thread ≡ (declared p.machine i).id
   pub free : is_none (thread p.local i).send ≡ true
   pub actual : message.actual ≡ (declared p.machine i).id
 
@@ -119,7 +133,7 @@ pub record IsCaller (p : Processor) (i : ℕ) : Type 0 where
 
 -- What a task needs.
 abbrev pub IsTask : Task → Processor → Type 0
-IsTask (Arrive r i name to message zero_timeout) p = IsArrival p r i message
+IsTask (Arrive r i name to message zero_timeout) p = IsArrival p r i name message
 IsTask (End i decision) p = IsSplit p i
 IsTask (Refuse i refusal) p = IsSender p i
 IsTask Leave p = Unit {0}

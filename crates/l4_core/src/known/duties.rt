@@ -46,8 +46,8 @@ pub(crate) enum Duty {
 
 impl ProcessorState<'_> {
     /// Whether nobody has an id, as far as is known here: it is local, undeclared, or that of a
-    /// deleted thread. It is a call of its own, so that what asks for it last can be inlined.
-    #[inline(never)]
+    /// deleted thread.
+    #[inline(always)]
     pub(crate) fn names_nobody(&self, id: ThreadId) -> bool
         ensures { result ≡ names_nobody self.now.machine self.now.local id }
     {

@@ -6,10 +6,12 @@ ghost use Rattle.l4_script.specs.Inner.Scripts.{id_from_of};
 ghost use Rattle.l4_core_model.specs.Local.{declared, destination_place, thread};
 ghost use Rattle.l4_thread.specs.Inner.Messages.{outgoing};
 ghost use Rattle.l4_core.specs.Inner.FastPath.{fast_receiver, next_name, takes_at_once};
+ghost use Rattle.l4_core.specs.Inner.FastPath.{takes_message};
 ghost use Rattle.l4_core.specs.Inner.Turning.{IsOwnOf};
 
 use crate::known::ProcessorState;
 use l4_script::instructions::Ipc;
+use l4_types::ids::Kind;
 use l4_types::message_ref::MessageRef;
 use l4_types::steps::Name;
 
@@ -66,8 +68,34 @@ impl ProcessorState<'_> {
             return false;
         };
         let from = receive.from();
-        from.takes(self.id(sender), self.share_space(sender, receiver))
-            && self.lists.first_accepted(receiver, &from).is_none()
+        // Few ask for the space.
+        let local = matches!(from.kind(), Kind::AnyLocal) && self.share_space(sender, receiver);
+        from.takes(self.id(sender), local) && self.lists.first_accepted(receiver, &from).is_none()
+    }
+
+    /// Whether a thread is receiving, and accepts this message of another one before those that wait
+    /// at it. None that is propagated is taken at once.
+    #[inline(always)]
+    pub(crate) fn takes_message(
+        &self,
+        receiver: usize,
+        sender: usize,
+        message: &MessageRef<'_>,
+    ) -> bool
+        requires receiver { receiver < length self.now.machine.threads }
+        requires sender { sender < length self.now.machine.threads }
+        ensures { result ≡ takes_message self.now.machine self.now.local receiver message.now
+            (receive_now (thread self.now.local receiver).phase) }
+    {
+        let Some(receive) = self.receiving(receiver) else {
+            return false;
+        };
+        let (spec, shown) = (receive.from(), message.shown());
+        let local = matches!(spec.kind(), Kind::AnyLocal)
+            && self.is_of_space(shown, sender, receiver);
+        !message.propagated()
+            && spec.takes(shown, local)
+            && self.lists.first_accepted(receiver, &spec).is_none()
     }
 
     /// The next send that a thread begins.

@@ -60,7 +60,7 @@ impl ProcessorState<'_> {
     /// Puts a thread of this processor that can run into the ready list, where it does not stand
     /// yet. Mostly it has no deadline.
     #[inline(always)]
-    fn enter_ready(&mut self, place: usize)
+    pub(crate) fn enter_ready(&mut self, place: usize)
         requires own { IsOwnOf self.old place }
         requires ready { (thread self.old.local place).phase ≡ Ready }
         requires unready { is_ready_in self.old.local.lists place ≡ false }

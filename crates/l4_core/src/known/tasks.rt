@@ -1,5 +1,6 @@
 //! What a letter from another processor asks for, found before anything changes.
-ghost use Rattle.std.specs.Prelude.{◌≡◌, ◌<◌, ◌||◌, IfSome, [], length, true};
+ghost use Rattle.std.specs.Prelude.{◌≡◌, ◌<◌, ◌||◌, IfSome, [], is_none, length, true};
+ghost use Rattle.l4_model.specs.Machine.{is_declared};
 ghost use Rattle.l4_model.specs.World.{is_deleted};
 ghost use Rattle.l4_types.specs.declared.letters.Content.TheVariants.{Send as SendContent};
 ghost use Rattle.l4_types.specs.declared.letters.Content.TheVariants.{Done as DoneContent};
@@ -11,7 +12,8 @@ ghost use Rattle.l4_types.specs.declared.letters.Content.TheVariants.{Retarget a
 ghost use Rattle.l4_types.specs.Inner.LetterHeads.{word_count};
 ghost use Rattle.l4_core_model.specs.Local.{declared, thread};
 ghost use Rattle.l4_core_model.specs.Mail.{foreign_place, is_ordering, own_place, waits_here};
-ghost use Rattle.l4_core.specs.Inner.Tasks.{refusal_for, task_of, IsForeign, IsTask};
+ghost use Rattle.l4_core.specs.Inner.Tasks.{arrival_places, ended_place, refusal_for, task_of};
+ghost use Rattle.l4_core.specs.Inner.Tasks.{IsForeign, IsSplit, IsTask};
 ghost use Rattle.l4_core.specs.Inner.Turning.{IsOwnOf, IsSender};
 
 use crate::known::ProcessorState;
@@ -118,6 +120,61 @@ impl ProcessorState<'_> {
         tcb.is_deleted() || tcb.is_ordering()
     }
 
+    // Whether a thread is declared. Mostly it is this other one, which is; then nothing is looked
+    // up.
+    #[inline(always)]
+    fn is_declared_as(&self, id: GlobalId, other: GlobalId) -> bool
+        requires { is_declared self.now.machine other ≡ true }
+        ensures { result ≡ is_declared self.now.machine id }
+    {
+        id == other || self.place_of(id).is_some()
+    }
+
+    /// The places of the receiver and the sender of a send that has arrived, where it is lawful
+    /// here.
+    #[inline(always)]
+    pub(crate) fn arrival_places(
+        &self,
+        name: &Name,
+        to: GlobalId,
+        message: &MessageHead,
+    ) -> Option<(usize, usize)>
+        ensures value { result ≡ arrival_places self.now.machine self.now.cpu self.now.local
+            name.now to message.now }
+        ensures receiver { IfSome result (λ places. IsOwnOf self.now places.0) }
+        ensures sender { IfSome result (λ places. IsForeign self.now places.1) }
+        ensures named { IfSome result (λ places.
+            name.now.thread ≡ (declared self.now.machine places.1).id) }
+        ensures free { IfSome result (λ places.
+            is_none (thread self.now.local places.1).send ≡ true) }
+        ensures actual { IfSome result (λ places.
+            message.now.actual ≡ (declared self.now.machine places.1).id) }
+    {
+        let receiver = self.own_place(to)?;
+        let sender = self.foreign_place(name.thread())?;
+        if self.send_of(sender).is_some() || message.actual != name.thread() {
+            return None;
+        }
+        if !self.is_declared_as(message.shown, name.thread()) {
+            return None;
+        }
+        Some((receiver, sender))
+    }
+
+    /// The place of the thread whose send a decision ends, where that is lawful here.
+    #[inline(always)]
+    pub(crate) fn ended_place(&self, name: &Name) -> Option<usize>
+        ensures value { result ≡ ended_place self.now.machine self.now.cpu self.now.local name.now }
+        ensures split { IfSome result (λ place. IsSplit self.now place) }
+    {
+        let place = self.own_place(name.thread())?;
+        let _receiver = self.split_place(place)?;
+        if self.tcb(place).thread().begun() != name.k() {
+            return None;
+        }
+        Some(place)
+    }
+
     /// What a send that has arrived asks for. Its message has these words.
     #[inline(always)]
     pub(crate) fn arrival<'a>(
@@ -134,12 +191,7 @@ impl ProcessorState<'_> {
             (SendContent name.now to message.now zero_timeout) }
         ensures possible { IfSome result (λ task. IsTask task self.now) }
     {
-        let receiver = self.own_place(to)?;
-        let sender = self.foreign_place(name.thread())?;
-        if self.send_of(sender).is_some() || message.actual != name.thread() {
-            return None;
-        }
-        let _shown = self.place_of(message.shown)?;
+        let (receiver, sender) = self.arrival_places(name, to, message)?;
         Some(Task::Arrive {
             receiver,
             sender,
@@ -157,11 +209,7 @@ impl ProcessorState<'_> {
             task_of self.now.machine self.now.cpu self.now.local [] (DoneContent name.now decision) }
         ensures possible { IfSome result (λ task. IsTask task self.now) }
     {
-        let place = self.own_place(name.thread())?;
-        let _receiver = self.split_place(place)?;
-        if self.tcb(place).thread().begun() != name.k() {
-            return None;
-        }
+        let place = self.ended_place(name)?;
         Some(Task::End(place, decision))
     }
 

@@ -3,7 +3,7 @@
 ghost use Rattle.std.specs.Prelude.{◌≡◌, ◌≢◌, ◌<◌, ◌+◌, ◌^◌, None, Some, IsSome, false, true};
 ghost use Rattle.std.specs.Prelude.{length, slice_get, get_or, set, ℕ};
 ghost use Rattle.std.specs.Option.{option_map};
-ghost use Rattle.l4_model.specs.Words.{word_of_tag};
+ghost use Rattle.l4_model.specs.Words.{word_of_tag, register_count};
 ghost use Rattle.l4_model.specs.Machine.{Delete as DeleteThread};
 ghost use Rattle.l4_model.specs.Conditions.{act_of, instruction};
 ghost use Rattle.l4_model.specs.Effects.{receives, runs, turns};
@@ -15,7 +15,7 @@ ghost use Rattle.l4_script.specs.Inner.Scripts.{id_from_of, instr_of};
 ghost use Rattle.l4_thread.specs.Inner.Changes.{change_of};
 ghost use Rattle.l4_thread.specs.Inner.Requests.{is_end};
 ghost use Rattle.l4_thread.specs.Inner.Ipcs.{began_of, passes};
-ghost use Rattle.l4_thread.specs.Inner.Messages.{outgoing};
+ghost use Rattle.l4_thread.specs.Inner.Messages.{outgoing, unlabelled};
 ghost use Rattle.l4_thread.specs.Inner.Parts.{Block};
 ghost use Rattle.l4_core.specs.Inner.Parts.{passed};
 ghost use Rattle.l4_core_model.specs.Plain.{is_queued, queued, unqueued, popped, popped_due};
@@ -30,11 +30,14 @@ ghost use Rattle.l4_core.specs.Processor.{with_local};
 ghost use Rattle.l4_core.specs.Inner.Turning.{begun_by, IsAtHand, IsFree, IsNotSplit, IsOwnOf};
 ghost use Rattle.l4_core.specs.Inner.Turning.{IsReceiver, IsSender};
 
-use crate::processor::{Core, insert_place, note_all, note_duty, note_own, note_queued, note_zero};
+use crate::processor::{
+    Core, insert_place, note_all, note_duty, note_own, note_queued, note_ready, note_zero,
+};
 use l4_script::instructions::{Instr, Ipc};
 use l4_thread::changes::Change;
 use l4_thread::phases::Began;
 use l4_thread::tcb::Tcb;
+use l4_types::ids::GlobalId;
 use l4_types::owed::Owed;
 use l4_types::steps::OrderKind;
 use l4_types::tags::MsgTag;
@@ -100,11 +103,33 @@ impl Core<'_> {
     {
         let known = &mut self.known;
         pass_message(known.threads.as_mut_slice(), place, sender, tag);
-        known.enter_lists(place);
-        note_duty(&self.known, &mut self.duties, &self.zeros, place);
+        known.enter_ready(place);
+        note_ready(&self.known, &mut self.duties, &self.zeros, place);
+    }
+
+    /// Gives a thread a message of these words, with this tag.
+    #[inline(always)]
+    pub(super) fn take_words(
+        &mut self,
+        place: usize,
+        words: &[u64],
+        shown: GlobalId,
+        actual: GlobalId,
+        tag: MsgTag,
+    )
+        requires receiver { IsReceiver self.old place }
+        requires few { length words.now < register_count }
+        ensures { self.new ≡ with_local self.old (comes_to place
+            (receives (unlabelled words.now shown actual) (word_of_tag tag)) self.old.local) }
+    {
+        let known = &mut self.known;
+        known.threads[place].receive_words(words, shown, actual, tag);
+        known.enter_ready(place);
+        note_ready(&self.known, &mut self.duties, &self.zeros, place);
     }
 
     /// Begins the first phase of a thread's Ipc, if the Ipc has one.
+    #[inline(always)]
     pub(super) fn begin(&mut self, place: usize, instr: &Instr) -> Began
         requires hand { IsAtHand self.old place }
         requires room { is_end (instr_of instr.now) ≡ false →

@@ -40,8 +40,9 @@ impl Core<'_> {
         }
     }
 
-    // Runs the next instruction of the first ready thread.
-    fn do_ready<S: Sink>(&mut self, place: usize, buffer: &mut EventBuffer<S>)
+    /// Runs the next instruction of the first ready thread.
+    #[inline(always)]
+    pub(super) fn do_ready<S: Sink>(&mut self, place: usize, buffer: &mut EventBuffer<S>)
         requires first { slice_get self.old.local.lists.ready 0 ≡ Some place }
         requires count { is_own self.old.machine self.old.cpu place ≡ true →
             (thread self.old.local place).context.begun < self.old.local.stamp }

@@ -1,5 +1,6 @@
 //! What letters make of the threads of other processors, as far as they are known here.
 ghost use Rattle.std.specs.Prelude.{◌≡◌, ◌<◌, false, true, length, is_none};
+ghost use Rattle.l4_model.specs.World.{Send};
 ghost use Rattle.l4_model.specs.Effects.{decided};
 ghost use Rattle.l4_core_model.specs.Plain.{is_queued};
 ghost use Rattle.l4_core_model.specs.Local.{changes, declared, is_gone_now, is_own, stand_in};
@@ -42,6 +43,18 @@ impl Core<'_> {
     {
         let known = &mut self.known;
         known.threads[place].stand_in(name.k(), receiver, message, zero_timeout);
+    }
+
+    /// Notes that a send of a foreign thread has arrived, and was taken at once.
+    #[inline(always)]
+    pub(super) fn note_taken(&mut self, place: usize, k: u64)
+        requires sender { IsForeign self.old place }
+        requires unqueued { is_queued self.old.local.lists place ≡ false }
+        ensures { (send : Send) → self.new ≡ with_local self.old
+            (changes place (λ t. decided (stands_in k send t)) self.old.local) }
+    {
+        let known = &mut self.known;
+        known.threads[place].note_taken(k);
     }
 
     /// Notes that a foreign thread was deleted. Threads whose receive phase names it have a duty

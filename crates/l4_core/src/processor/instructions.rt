@@ -65,7 +65,8 @@ impl Core<'_> {
         }
     }
 
-    /// Runs the next instruction of a thread.
+    /// Runs the next instruction of a thread. It is a call of its own, as it is large.
+    #[inline(never)]
     pub(super) fn act<S: Sink>(&mut self, place: usize, buffer: &mut EventBuffer<S>)
         requires hand { IsAtHand self.old place }
         requires count { (thread self.old.local place).context.begun < self.old.local.stamp }
@@ -122,6 +123,7 @@ impl Core<'_> {
     }
 
     // Runs an Ipc. Its send, if it has one, goes to its partner.
+    #[inline(always)]
     fn ipc<S: Sink>(
         &mut self,
         place: usize,

@@ -126,12 +126,13 @@ impl Core<'_> {
             let name = self.known.last_name(place);
             self.unqueue_send(place);
             self.forget_send(place);
-            let letter = self.letter(Content::Done { name, decision });
-            buffer.post(self.known.cpu_of(place), letter);
+            let cpu = self.known.cpu_of(place);
+            buffer.post_done(cpu, self.stamp(), name, decision);
         }
     }
 
     /// Passes a begun send to its destination, the thread at a place that was found before.
+    #[inline(always)]
     pub(super) fn send<S: Sink>(
         &mut self,
         sender: usize,
@@ -157,6 +158,7 @@ impl Core<'_> {
     }
 
     // Posts a begun send to its receiver's processor.
+    #[inline(always)]
     fn post_send<S: Sink>(&mut self, receiver: usize, sender: usize, buffer: &mut EventBuffer<S>)
         requires receiver { receiver < length self.old.machine.threads }
         requires sender { IsSender self.old sender }

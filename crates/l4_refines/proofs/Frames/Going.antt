@@ -1,31 +1,179 @@
--- An event under way: the steps told so far are possible, and what they lead to is related to what the processors have.
-use Rattle.std.proofs.Common.{◌≡◌, ℕ, ◌<◌, Some, None, List, [], ◌∷◌, ◌++◌, length, refl, ap, sym, ◌∙◌, subst, arith, Bool, true, false, cond}
+-- A piece of an event leaves what is known of all places but those that it is about.
+use Rattle.std.proofs.Common.{◌≡◌, ℕ, ◌<◌, Some, None, List, [], ◌∷◌, ◌++◌, length, refl, ap, sym, ◌∙◌, subst, arith, Bool, true, false, cond, ◌+◌}
 use Rattle.std.proofs.lemmas.Option.{slice_get-get_or}
 use Rattle.l4_model.specs.Machine.{Machine}
-use Rattle.l4_model.specs.World.{Thread, World, change, opening, opening_thread}
+use Rattle.l4_model.specs.World.{Thread, World, change, opening, opening_thread, Phase, Ready, list_at}
 use Rattle.l4_model.specs.Steps.{Step, next}
 use Rattle.l4_model.specs.Conditions.{found, ◌>>=◌}
 use Rattle.l4_model.specs.History.{run, reached}
 use Rattle.l4_model.specs.Reached.{WorldFacts}
 use Rattle.l4_model.proofs.Worlds.{reached_facts}
 use Rattle.l4_core_model.proofs.Telling.{run-append}
-use Rattle.l4_core_model.specs.Local.{Local, declared, undeclared, comes_to, readied}
+use Rattle.l4_core_model.specs.Local.{Local, declared, undeclared, comes_to, readied, thread, changes, armed_for, armed_period}
 use Rattle.l4_core_model.specs.Acts.{Work, ◌▷◌, tells, does}
 use Rattle.l4_core_model.specs.Runs.{IsMachine}
-use Rattle.l4_core_model.proofs.Changed.{run-last, get-changed, same_nat}
-use Rattle.l4_core_model.proofs.Fit.{IsGood}
+use Rattle.l4_core_model.proofs.Changed.{run-last, get-changed, same_nat, blocks, length-changed}
+use Rattle.l4_core_model.proofs.Fit.{IsGood, NotIn, get_other}
 use Rattle.l4_core_model.proofs.Apart.{same_or_apart}
 use Rattle.l4_refines.proofs.Lists.{other_is}
-use Rattle.l4_refines.proofs.Frames.Locals.{come, comes_here}
+use Rattle.l4_refines.proofs.Frames.Locals.{come, comes_here, changes_other, comes_other, at_home, StaysTrue, same_alike, kept_on, plain_known}
+use Rattle.l4_refines.proofs.Frames.Locals.{IsFresh, come_kept}
 use Rattle.l4_refines.proofs.Relation.Views.{Scene, Kept, View, kept, view, world_thread, home, put, amid, locators}
 use Rattle.l4_refines.proofs.Relation.Rows.{seats, Agrees, IsUnplaced, IsKeptAtHome, IsKept, Matches, OwesIn}
-use Rattle.l4_refines.proofs.Relation.Relates.{IsSized, RelatesExcept}
-use Rattle.l4_refines.proofs.Frames.Places.{takes_in, world_changes, local_changes, comes_spares, first_about}
-use Rattle.l4_refines.proofs.Frames.Moves.{at_home, StaysTrue, Moves, same_alike, moves_kept, plain_known, IsFresh, come_kept}
-use Rattle.std.specs.Prelude.{◌==◌}
+use Rattle.l4_refines.proofs.Relation.Relates.{IsSized, RelatesExcept, AreWithin, senders}
+use Rattle.std.specs.Prelude.{◌==◌, not, nat_le, slice_index_or}
 use Rattle.std.proofs.lemmas.Bool.{eqb-true}
 use Rattle.std.proofs.lemmas.List.{append-nil}
 use Rattle.l4_core_model.specs.Turns.{opened}
+use Rattle.std.specs.List.{AllByRecursion}
+use Rattle.l4_model.specs.Words.{Period}
+use Rattle.l4_core_model.proofs.Lists.{all-append, all-filter}
+use Rattle.l4_refines.proofs.Relation.Owing.{Owing}
+use Rattle.l4_core_model.specs.Plain as plain
+
+-- Of one processor's local state, and of the others'
+
+pub put_keeps : (P : Local → Type 0) (cpu other : ℕ) (l after : Local) (locals : ℕ → Local) → (P l → P after) → P (put cpu l locals other) →
+    P (put cpu after locals other)
+put_keeps P cpu other l after locals f = by (cpu == other)
+  where
+    by : (b : Bool) → P (cond b l (locals other)) → P (cond b after (locals other))
+    by true h = f h
+    by false h = h
+
+pub put_same : {A : Type 0} (g : Local → A) (cpu other : ℕ) (l after : Local) (locals : ℕ → Local) → g after ≡ g l →
+    g (put cpu after locals other) ≡ g (put cpu l locals other)
+put_same g cpu other l after locals e = by (cpu == other)
+  where
+    by : (b : Bool) → g (cond b after (locals other)) ≡ g (cond b l (locals other))
+    by true = e
+    by false = refl
+
+-- The places that an act is about are among those that are left out.
+abbrev pub IsAbout : ℕ → List ℕ → Type 0
+IsAbout i except = (j : ℕ) → NotIn j except → i ≡ j → ⊥
+
+pub first_about : (i : ℕ) (except : List ℕ) → IsAbout i (i ∷ except)
+first_about i except j out e = out.0 (sym e)
+
+-- Leaving out, and taking in again
+
+pub leaves_out : {P : ℕ → View → Type 0} (m : Machine) (i : ℕ) (except : List ℕ) (s : Scene) (w : World) → RelatesExcept m P except s w →
+    RelatesExcept m P (i ∷ except) s w
+leaves_out m i except s w r = record {
+  sized = r.sized;
+  sized_world = r.sized_world;
+  clocks = r.clocks;
+  lists = r.lists;
+  owing = r.owing;
+  places = λ j lt out. r.places j lt out.1;
+}
+
+pub takes_in : {P : ℕ → View → Type 0} (m : Machine) (i : ℕ) (except : List ℕ) (s : Scene) (w : World) → RelatesExcept m P (i ∷ except) s w →
+    P i (view m s w i) → RelatesExcept m P except s w
+takes_in {P = P} m i except s w r here = record {
+  sized = r.sized;
+  sized_world = r.sized_world;
+  clocks = r.clocks;
+  lists = r.lists;
+  owing = r.owing;
+  places = λ j lt out. same_or_apart (P j (view m s w j)) i j (λ e. subst (λ k. P k (view m s w k)) e here) (λ ne. r.places j lt ((λ e. ne (sym e)), out));
+}
+
+-- In the world
+
+-- A thread of the world changes.
+pub world_changes : {P : ℕ → View → Type 0} (m : Machine) (i : ℕ) (except : List ℕ) (s : Scene) (w : World) (f : Thread → Thread) → IsAbout i except →
+    RelatesExcept m P except s w → RelatesExcept m P except s (change w i f)
+world_changes {P = P} m i except s w f about r = record {
+  sized = r.sized;
+  sized_world = record { threads = length-changed f w.threads i ∙ r.sized_world.threads; lists = r.sized_world.lists; clocks = r.sized_world.clocks };
+  clocks = r.clocks;
+  lists = r.lists;
+  owing = r.owing;
+  places = λ j lt out. let same = get_other f w.threads i j (about j out) in
+      subst (P j) (λ d. record (view m s w j) { world = sym same d }) (r.places j lt out);
+}
+
+-- On a processor
+
+-- What a piece of an event leaves of a local state, beside its lists.
+pub record Spares (m : Machine) (except : List ℕ) (l after : Local) : Type 0 where
+  pub sized : IsSized m l → IsSized m after
+  pub clock : after.clock ≡ l.clock
+  pub owed : after.owed ≡ l.owed
+  pub kept : (j : ℕ) → NotIn j except → kept after j ≡ kept l j
+
+-- The lists change in the world and on a processor.
+pub both_change : {P : ℕ → View → Type 0} (m : Machine) (cpu : ℕ) (except : List ℕ) (s : Scene) (w : World) (x : Work) (f : Local → Local)
+    (lists : List (List ℕ)) → Spares m except x.local (f x.local) → length lists ≡ length m.threads →
+    ((q : ℕ) → q < length m.threads → list_at lists q ≡ blocks (senders m (amid cpu s (x ▷ does f)) q)) →
+    RelatesExcept m P except (amid cpu s x) w → RelatesExcept m P except (amid cpu s (x ▷ does f)) (record w { waiting = lists })
+both_change {P = P} m cpu except s w x f lists spares size are r = record {
+  sized = λ c lt. put_keeps (IsSized m) cpu c x.local (f x.local) s.locals spares.sized (r.sized c lt);
+  sized_world = record { threads = r.sized_world.threads; lists = size; clocks = r.sized_world.clocks };
+  clocks = λ c lt. r.clocks c lt ∙ sym (put_same (λ l. l.clock) cpu c x.local (f x.local) s.locals spares.clock);
+  lists = are;
+  owing = subst (λ owed. Owing m owed (amid cpu s x).mail w.owed)
+      (λ d c. sym (put_same (λ l. l.owed) cpu c x.local (f x.local) s.locals spares.owed) d) r.owing;
+  places = λ j lt out. let same = λ (c : ℕ). put_same (λ l. kept l j) cpu c x.local (f x.local) s.locals (spares.kept j out) in
+      subst (P j) (λ d. record (view m (amid cpu s x) w j) { kept = λ c. sym (same c) d }) (r.places j lt out);
+}
+
+-- The lists stay.
+pub local_changes : {P : ℕ → View → Type 0} (m : Machine) (cpu : ℕ) (except : List ℕ) (s : Scene) (w : World) (x : Work) (f : Local → Local) →
+    Spares m except x.local (f x.local) → (f x.local).lists.waiting ≡ x.local.lists.waiting →
+    RelatesExcept m P except (amid cpu s x) w → RelatesExcept m P except (amid cpu s (x ▷ does f)) w
+local_changes m cpu except s w x f spares same r =
+    both_change m cpu except s w x f w.waiting spares r.sized_world.lists
+    (λ q lt. r.lists q lt ∙ ap (λ ess. blocks (slice_index_or ess q []))
+    (sym (put_same (λ l. l.lists.waiting) cpu (home m q) x.local (f x.local) s.locals same))) r
+
+-- A thread changes, or comes to a phase.
+
+pub changes_spares : (m : Machine) (i : ℕ) (except : List ℕ) (l : Local) (f : Thread → Thread) → IsAbout i except → Spares m except l (changes i f l)
+changes_spares m i except l f about = record {
+  sized = λ z. assumption (length-changed f l.threads i ∙ z.threads);
+  clock = refl;
+  owed = refl;
+  kept = λ j out. changes_other l i j f (about j out);
+}
+
+within_readied : (m : Machine) (i : ℕ) (p : Phase) (ready : List ℕ) → i < length m.threads → AreWithin m ready → AreWithin m (readied p i ready)
+within_readied m i Ready ready lt h = all-append (λ j. j < length m.threads) ready i h lt
+within_readied m i _ ready lt h = h
+
+put_within : (m : Machine) (e : ℕ × ℕ) (armed : List (ℕ × ℕ)) → e.1 < length m.threads → AllByRecursion (λ (e : ℕ × ℕ). e.1 < length m.threads) armed →
+    AllByRecursion (λ (e : ℕ × ℕ). e.1 < length m.threads) (plain.put_entry e armed)
+put_within m e [] lt h = (lt, tt)
+put_within m e (x ∷ xs) lt h = by (nat_le x.0 e.0) (put_within m e xs lt h.1)
+  where
+    by : (b : Bool) → AllByRecursion (λ (e : ℕ × ℕ). e.1 < length m.threads) (plain.put_entry e xs) →
+        AllByRecursion (λ (e : ℕ × ℕ). e.1 < length m.threads) (cond b (x ∷ plain.put_entry e xs) (e ∷ x ∷ xs))
+    by true rest = (h.0, rest)
+    by false rest = (lt, h)
+
+within_armed : (m : Machine) (i : ℕ) (period : Period) (clock : ℕ) (armed : List (ℕ × ℕ)) → i < length m.threads →
+    AllByRecursion (λ (e : ℕ × ℕ). e.1 < length m.threads) armed → AllByRecursion (λ (e : ℕ × ℕ). e.1 < length m.threads) (armed_for period clock i armed)
+within_armed m i None clock armed lt h = h
+within_armed m i (Some n) clock armed lt h = put_within m (clock + n, i) armed lt h
+
+comes_sized : (m : Machine) (i : ℕ) (l : Local) (f : Thread → Thread) → i < length m.threads → IsSized m l → IsSized m (comes_to i f l)
+comes_sized m i l f lt z = record {
+  threads = length-changed f l.threads i ∙ z.threads;
+  lists = z.lists;
+  told = z.told;
+  ready = within_readied m i (f (thread l i)).phase l.lists.ready lt z.ready;
+  armed = within_armed m i (armed_period (f (thread l i)).phase (f (thread l i)).send) l.clock (plain.without_block i l.lists.armed) lt
+      (all-filter (λ (e : ℕ × ℕ). e.1 < length m.threads) (λ e. not (i == e.1)) l.lists.armed z.armed);
+  listed = z.listed;
+}
+
+pub comes_spares : (m : Machine) (i : ℕ) (except : List ℕ) (l : Local) (f : Thread → Thread) → i < length m.threads → IsAbout i except →
+    Spares m except l (comes_to i f l)
+comes_spares m i except l f lt about = record { sized = comes_sized m i l f lt; clock = refl; owed = refl; kept = λ j out. comes_other l i j f (about j out) }
+
+-- An event under way: the steps told so far are possible, and what they lead to is related to what the processors have.
 
 -- A history leads to it.
 pub record IsReached (m : Machine) (w : World) : Type 0 where
@@ -50,6 +198,17 @@ now_facts m cpu s w except x e =
 pub one_more_told : (m : Machine) (w : World) (now v : World) (steps : List Step) (step : Step) → run m w steps ≡ Some now → next m now step ≡ Some v →
     run m w (steps ++ step ∷ []) ≡ Some v
 one_more_told m w now v steps step reaches possible = rw (run-last, reaches) possible
+
+-- It goes on without a step, and with one more.
+abbrev pub goes_on : {m : Machine} {cpu : ℕ} {s : Scene} {w : World} {except after : List ℕ} {x y : Work} → (e : Goes m cpu s w except x) → y.steps ≡ x.steps →
+    RelatesExcept m (Matches m) after (amid cpu s y) e.now → Goes m cpu s w after y
+goes_on {m = m} {w = w} e same relates = record { starts = e.starts; now = e.now; reaches = ap (run m w) same ∙ e.reaches; relates = relates }
+
+abbrev pub told_on : {m : Machine} {cpu : ℕ} {s : Scene} {w : World} {except after : List ℕ} {x y : Work} → (e : Goes m cpu s w except x)
+    (u : World) (step : Step) → next m e.now step ≡ Some u → y.steps ≡ x.steps ++ step ∷ [] →
+    RelatesExcept m (Matches m) after (amid cpu s y) u → Goes m cpu s w after y
+told_on {m = m} {w = w} {x = x} e u step possible same relates =
+    record { starts = e.starts; now = u; reaches = ap (run m w) same ∙ one_more_told m w e.now u x.steps step e.reaches possible; relates = relates }
 
 -- The event is at the home of the thread at a place.
 pub record IsHere (m : Machine) (cpu : ℕ) (i : ℕ) : Type 0 where
@@ -131,14 +290,11 @@ quiet_matches m cpu i except s w x f g here c q =
     let after : View = view m (amid cpu s (x ▷ does (comes_to i f))) (change w i g) i in
     let k : Kept = kept x.local i in
     let was : at_home m i v ≡ k = home_is m cpu i s x w here.home in
-    let moves : Moves m i v after = record {
-      elsewhere = λ p ne. same_alike (v.kept p) (after.kept p) (c.elsewhere p ne);
-      notices = refl;
-      stays_true = subst (λ a. StaysTrue a (at_home m i after)) (sym was) (subst (StaysTrue k) (sym c.here) q.stays_true);
-    } in
     record {
       known = plain_known m i after
-          (moves_kept m i v after q.kept moves (subst (IsKeptAtHome i) (sym c.here) (come_kept i f k q.good q.fresh q.owes)))
+          (kept_on m i v after q.kept (λ p ne. same_alike (v.kept p) (after.kept p) (c.elsewhere p ne)) refl
+          (subst (λ a. StaysTrue a (at_home m i after)) (sym was) (subst (StaysTrue k) (sym c.here) q.stays_true))
+          (subst (IsKeptAtHome i) (sym c.here) (come_kept i f k q.good q.fresh q.owes)))
           (record {
             listed = λ p r. same_or_apart ((after.kept p).listed r ≡ []) p (home m i)
                 (λ h. ap (λ p. (after.kept p).listed r) h ∙ ap (λ (k : Kept). k.listed r) c.here ∙ sym (ap (λ (k : Kept). k.listed r) was)
@@ -157,12 +313,8 @@ pub comes_quiet : (m : Machine) (cpu i : ℕ) (s : Scene) (w : World) (x : Work)
     Goes m cpu s w [] (x ▷ tells step ▷ does (comes_to i f))
 comes_quiet m cpu i s w x step f g here e q possible =
     let c = comes m cpu i [] s e.now x f g here e.relates in
-    record {
-      starts = e.starts;
-      now = change e.now i g;
-      reaches = one_more_told m w e.now (change e.now i g) x.steps step e.reaches possible;
-      relates = takes_in m i [] (amid cpu s (x ▷ does (comes_to i f))) (change e.now i g) c.relates (quiet_matches m cpu i [] s e.now x f g here c q);
-    }
+    told_on e (change e.now i g) step possible refl
+    (takes_in m i [] (amid cpu s (x ▷ does (comes_to i f))) (change e.now i g) c.relates (quiet_matches m cpu i [] s e.now x f g here c q))
 
 -- An event begins: the stamp alone changes.
 
@@ -180,12 +332,7 @@ pub opened_relates : (m : Machine) (cpu stamp : ℕ) (except : List ℕ) (s : Sc
     RelatesExcept m (Matches m) except (amid cpu s (opened stamp (s.locals cpu))) w
 opened_relates m cpu stamp except s w rel =
     local_changes m cpu except s w (record { local = s.locals cpu; steps = []; letters = [] }) (λ l. (opened stamp l).local)
-    (record {
-      sized = λ z. z;
-      clock = refl;
-      owed = refl;
-      kept = λ j out. refl;
-    }) refl
+    (assumption) refl
     (subst (λ s. RelatesExcept m (Matches m) except s w) (opened_scene cpu s) rel)
 
 pub opened_goes : (m : Machine) (cpu stamp : ℕ) (except : List ℕ) (s : Scene) (w : World) → IsReached m w → RelatesExcept m (Matches m) except s w →

@@ -1,11 +1,10 @@
 -- Each letter that an event posts is about a declared thread, and goes to a processor of the machine.
-use Rattle.std.proofs.Common.{◌≡◌, ℕ, ◌<◌, true, Option, Some, None, length, refl, ap, subst}
-use Rattle.std.specs.Prelude.{is_some}
+use Rattle.std.proofs.Common.{◌≡◌, ℕ, ◌<◌, true, Option, Some, None, length, refl, ap, subst, is_some}
 use Rattle.std.specs.List.{AllByRecursion}
 use Rattle.l4_model.specs.Words.{GlobalId}
 use Rattle.l4_model.specs.Machine.{Machine, OrderKind, place_of, is_declared, is_place}
 use Rattle.l4_model.specs.World.{Send, PendingOrder, Message, is_deleted, Owed}
-use Rattle.l4_model.specs.Rules.{Act, RunsAlone, Sends, Receives, Orders, received_tag, is_cross, owed_by}
+use Rattle.l4_model.specs.Rules.{Act, Sends, Orders, received_tag, is_cross, owed_by}
 use Rattle.l4_model.specs.Steps.{Begin, Queue, Obey, Order}
 use Rattle.l4_model.specs.Effects.{begins, orders, decided}
 use Rattle.l4_model.proofs.Chains.{cond_keeps, some_is}
@@ -144,7 +143,6 @@ order_addressed m cpu i order x t a = by (place_of m order.target) refl
 
 -- Instructions
 pub acts_addressed : (m : Machine) (cpu i : ℕ) (act : Act) (x : Work) → IsThread m i → IsAddressed m x → IsAddressed m (acts m cpu i act x)
-acts_addressed m cpu i RunsAlone x t a = a
 acts_addressed m cpu i (Sends send) x t a = begins_addressed m cpu i send x t a
-acts_addressed m cpu i (Receives receive) x t a = a
 acts_addressed m cpu i (Orders order) x t a = order_addressed m cpu i order x t a
+acts_addressed m cpu i _ x t a = a

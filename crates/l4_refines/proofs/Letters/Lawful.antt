@@ -1,37 +1,51 @@
 -- Every letter under way can be handled where it goes.
 use Rattle.std.proofs.lemmas.Bool.{not-true}
-use Rattle.l4_refines.proofs.Sends.Free.{home_at}
-use Rattle.l4_refines.proofs.Retargets.Owes.{letters_stand}
-use Rattle.l4_refines.proofs.Retargets.Others.{among_all}
+use Rattle.l4_refines.proofs.Sends.Finding.{home_at}
+use Rattle.l4_refines.proofs.Retargets.Others.{among_all, letters_stand}
 use Rattle.l4_refines.proofs.Relation.Owing.{retarget_in, retarget_of, retargets_in, home_of, is_at_one, goes_away, IsRouted, Owing}
-use Rattle.std.proofs.Common.{◌≡◌, ℕ, ◌<◌, true, Some, None, length, refl, ap, sym, ◌∙◌, subst, arith, Bool, false, Option, List, [], ◌∷◌, ◌++◌, filter, append_assoc}
-use Rattle.std.specs.Prelude.{◌||◌, is_some, IfSome, slice_index, slice_index_or, not, slice_get, IsSomeAnd, ◌==◌}
+use Rattle.std.proofs.Common.{◌≡◌, ℕ, ◌<◌, true, Some, None, length, refl, ap, sym, ◌∙◌, subst, arith, Bool, false, Option, List, [], ◌∷◌, ◌++◌, filter}
+use Rattle.std.proofs.Common.{append_assoc, ◌||◌, is_some, IfSome, slice_index, slice_index_or, not, slice_get, IsSomeAnd, ◌==◌, find, is_none}
 use Rattle.std.proofs.lemmas.Option.{slice_get-get_or}
 use Rattle.l4_model.specs.Words.{GlobalId, same_id}
 use Rattle.l4_model.specs.Machine.{Machine, place_of, is_declared}
-use Rattle.l4_model.specs.World.{Thread, World, Send, PendingOrder, Phase, Ready, Sending, Receiving, Ordering, Ended, Deleted, opening_thread, is_deleted, Owed}
+use Rattle.l4_model.specs.World.{Thread, World, Send, PendingOrder, Phase, Receiving, Ordering, Deleted, opening_thread, is_deleted}
+use Rattle.l4_model.specs.World.{Owed, receive_now}
 use Rattle.l4_model.specs.Reached.{Suits, IsSendOf, WorldFacts, IsOwedAmong}
 use Rattle.l4_core_model.specs.Letters.{DoneLetter, OrderDoneLetter, Content, SendLetter, WithdrawLetter, GoneLetter, OrderLetter, Letter, RetargetLetter}
-use Rattle.l4_core_model.specs.Local.{declared, undeclared, thread, Local}
-use Rattle.l4_core_model.specs.Acts.{Work, split_place}
-use Rattle.l4_core_model.specs.Mail.{own_place, foreign_place, is_ordering, handled, handle}
+use Rattle.l4_core_model.specs.Letters.{Nobody, TimedOut, Cancelled, Dropped, ByTimeout, refusal_of}
+use Rattle.l4_core_model.specs.Local.{declared, undeclared, thread, Local, held, relists, changes, stand_in, stands_in, keeps_beside}
+use Rattle.l4_core_model.specs.Acts.{Work, split_place, ◌▷◌, does, first_of_list, first_acceptable, obeys, retargets}
+use Rattle.l4_core_model.specs.Mail.{own_place, foreign_place, is_ordering, handled, handle, waits_here}
 use Rattle.l4_core_model.specs.Runs.{Posted, IsMachine, System, letters}
 use Rattle.l4_core_model.proofs.Changed.{same_nat, same_ids}
 use Rattle.l4_core_model.proofs.Standing.{destination_within, place_within}
 use Rattle.l4_refines.proofs.Lists.{other_is, one_of}
 use Rattle.l4_refines.proofs.Relation.Views.{Scene, view, world_thread, home, Kept, View, nowhere, scene, subject, is_locator, notices, is_about, locators}
 use Rattle.l4_refines.proofs.Relation.Rows.{seats, IsSent, IsDecided, IsOrdered, IsObeyed, Matches, Agrees, learns, learned, Row, RowOf, IsNotice, IsNoticeOf}
-use Rattle.l4_refines.proofs.Frames.Moves.{at_home}
+use Rattle.l4_refines.proofs.Frames.Locals.{at_home}
 use Rattle.l4_refines.specs.Laws.{IsLawfulLetter}
 use Rattle.l4_model.specs.Still.{late}
 use Rattle.l4_refines.proofs.Events.{local_at}
 use Rattle.l4_model.proofs.Rows.Writing.{id, send}
-use Rattle.l4_refines.proofs.Letters.Addressed.{IsAddressedTo}
+use Rattle.l4_refines.proofs.Letters.Addressed.{IsAddressedTo, IsAddressed, IsThread, is_known, posts_addressed, refuses_addressed, delivers_addressed}
+use Rattle.l4_refines.proofs.Letters.Addressed.{withdraws_addressed, acts_addressed, arrives_addressed, home_below, obeys_addressed, thread_at}
 use Rattle.std.specs.List.{AllByRecursion}
-use Rattle.l4_core_model.specs.Turns.{opened}
-use Rattle.l4_refines.proofs.Relation.Relates.{RelatesExcept, Relates, beside}
+use Rattle.l4_core_model.specs.Turns.{opened, Duty, DropsOwn, RefusesFirst, TellsGone, CancelsOwn, DeliversFirst, RefusesZero}
+use Rattle.l4_core_model.specs.Turns.{does_duty, has_told, times_out, Choice, ByDuty, ByDue, ByReady, does_choice, turn, Retargets}
+use Rattle.l4_refines.proofs.Relation.Relates.{RelatesExcept, Relates, beside, IsSized}
 use Rattle.l4_refines.proofs.Frames.Mail.{about_place, keeps_one, first_letter}
 use Rattle.l4_refines.proofs.Sends.Waiting.{agrees_send}
+use Rattle.l4_model.specs.Options.{if_some}
+use Rattle.l4_core_model.specs.Plain.{Waiting, armed, popped_due}
+use Rattle.std.specs.Option.{option_map}
+use Rattle.l4_model.specs.Rules.{takes}
+use Rattle.l4_model.specs.Conditions.{act_of}
+use Rattle.l4_model.proofs.Chains.{some_is, cond_keeps, bind_then, guard_then}
+use Rattle.l4_core_model.proofs.Lists.{all_find}
+use Rattle.l4_core_model.proofs.Choosing.{next_elsewhere}
+use Rattle.l4_refines.proofs.Turns.Choices.{IsDuty, StandsIn, entry_of_all, IsChoice, turn_then}
+use Rattle.l4_refines.proofs.Letters.Receiving.{own_place_is, foreign_place_is}
+use Rattle.l4_core_model.specs.Plain as plain
 
 -- Looking a thread up where a letter is handled
 
@@ -102,12 +116,9 @@ calls : (t : Thread) (order : PendingOrder) → t.order ≡ Some order → t.sen
 calls t order has none suits = by t.phase suits
   where
     by : (q : Phase) → Suits q t.send t.order → (is_deleted q || is_ordering q) ≡ true
-    by Ready s = let no = s.1 in cc
-    by Sending s = let no = s.1 in cc
-    by (Receiving receive since) s = let no = s.1 in cc
     by Ordering s = refl
-    by Ended s = let no = s.1 in cc
     by Deleted s = refl
+    by _ s = let no = s.1 in cc
 
 -- The answer to an order comes home, where its caller still waits or is deleted.
 obeyed_lawful : (m : Machine) (i : ℕ) (s : Scene) (w : World) (p : Posted) (x : Work) (caller : GlobalId) → p.letter.content ≡ OrderDoneLetter caller →
@@ -288,3 +299,116 @@ first_lawful m g w from cpu letter l machine rel facts addressed first at =
     let handled_there = under_way_lawful m (scene g) w
     (record { from = from; to = cpu; letter = letter }) f.before f.after letter.stamp machine rel facts about.0 f.is in
     subst (λ k. is_some (handle m cpu k letter) ≡ true) (local_at g.locals cpu l at).1 handled_there
+
+-- All that turns and letters bring about is addressed: it is done to places of the machine.
+
+-- The sender of an entry of a list, and of the first that is accepted
+
+entry_thread : (m : Machine) (l : Local) (r i : ℕ) (e : plain.Waiting) → IsMachine m → IsSized m l → StandsIn e (plain.list_of l.lists r) → e.block ≡ i →
+    IsThread m i
+entry_thread m l r i e machine z at same = assumption (
+    subst (λ i. i < length m.threads) same (entry_of_all (λ (e : plain.Waiting). e.block < length m.threads) e (plain.list_of l.lists r) at (z.listed r)))
+
+first_within : (m : Machine) (p : plain.Waiting → Bool) (es : List plain.Waiting) (i : ℕ) →
+    AllByRecursion (λ (e : plain.Waiting). e.block < length m.threads) es → option_map (λ (e : plain.Waiting). e.block) (find p es) ≡ Some i →
+    i < length m.threads
+first_within m p es i all h = by (find p es) refl h
+  where
+    by : (o : Option plain.Waiting) → find p es ≡ o → option_map (λ (e : plain.Waiting). e.block) o ≡ Some i → i < length m.threads
+    by None is h = cc
+    by (Some e) is h = subst (λ j. j < length m.threads) (some_is e.block i h) (all_find (λ (e : plain.Waiting). e.block < length m.threads) p es e all is).0
+
+first_sender : (m : Machine) (l : Local) (r i : ℕ) → IsSized m l → first_acceptable l r ≡ Some i → i < length m.threads
+first_sender m l r i z h = by (thread l r).phase h
+  where
+    by : (p : Phase) → first_of_list l.lists r p ≡ Some i → i < length m.threads
+    by (Receiving receive since) h = first_within m (λ (e : plain.Waiting). takes receive.from e.shown e.local) (plain.list_of l.lists r) i (z.listed r) h
+    by _ h = cc
+
+duty_addressed : (m : Machine) (cpu i : ℕ) (x : Work) (duty : Duty) → IsMachine m → IsSized m x.local → i < length m.threads → IsAddressed m x →
+    IsDuty m cpu x.local i duty → IsAddressed m (does_duty m cpu i duty x)
+duty_addressed m cpu i x (Retargets o) machine z lt a d = by (place_of m o.originator)
+  where
+    by : (q : Option ℕ) → IsAddressed m (x ▷ does (keeps_beside i None) ▷ if_some (retargets o) q)
+    by None = a
+    by (Some j) = a
+duty_addressed m cpu i x DropsOwn machine z lt a d = refuses_addressed m cpu i Dropped x (record { machine = machine; within = lt }) a
+duty_addressed m cpu i x (RefusesFirst sender) machine z lt a d =
+    refuses_addressed m cpu sender Nobody x (entry_thread m x.local i sender d.1.0 machine z d.1.1.0 d.1.1.1) a
+duty_addressed m cpu i x (TellsGone to) machine z lt a d =
+    posts_addressed m to (GoneLetter (declared m i).id) (x ▷ does (has_told to i)) (is_known m i (record { machine = machine; within = lt }))
+    (next_elsewhere m cpu (slice_index_or x.local.told i 0) to d.1).0 a
+duty_addressed m cpu i x CancelsOwn machine z lt a d = refuses_addressed m cpu i Cancelled x (record { machine = machine; within = lt }) a
+duty_addressed m cpu i x (DeliversFirst sender) machine z lt a d =
+    delivers_addressed m cpu i sender x (record { machine = machine; within = first_sender m x.local i sender z d }) a
+duty_addressed m cpu i x (RefusesZero sender) machine z lt a d =
+    refuses_addressed m cpu sender TimedOut x (entry_thread m x.local i sender d.0 machine z d.1.0 d.1.1.0) a
+duty_addressed m cpu i x _ machine z lt a d = a
+
+-- A turn
+
+due_addressed : (m : Machine) (cpu i : ℕ) (x : Work) → IsThread m i → IsAddressed m x → IsAddressed m (times_out m cpu i x)
+due_addressed m cpu i x t a = cond_keeps (IsAddressed m) (is_some (receive_now (thread x.local i).phase)) _ _ (λ receiving. a)
+    (λ sending. cond_keeps (IsAddressed m) (plain.is_queued x.local.lists i) _ _ (λ queued. refuses_addressed m cpu i TimedOut x t a)
+    (λ other. withdraws_addressed m cpu ByTimeout i x t a))
+
+choice_addressed : (m : Machine) (cpu : ℕ) (l : Local) (c : Choice) → IsMachine m → IsSized m l → IsChoice m cpu l c →
+    IsAddressed m (does_choice m cpu c (opened 0 l))
+choice_addressed m cpu l (ByDuty i duty) machine z c =
+    duty_addressed m cpu i (opened 0 l) duty machine
+    (z) c.0.within tt c.1
+choice_addressed m cpu l (ByDue i) machine z c =
+    due_addressed m cpu i (opened 0 l ▷ does (relists plain.popped_due))
+    (record { machine = machine; within = (subst (AllByRecursion (λ (e : ℕ × ℕ). e.1 < length m.threads)) c.1.1.0 z.armed).0 }) tt
+choice_addressed m cpu l (ByReady i) machine z c =
+    acts_addressed m cpu i (act_of m (held m l i)) (opened 0 l ▷ does (relists plain.popped))
+    (record { machine = machine; within = (subst (AllByRecursion (λ i. i < length m.threads)) c.1.0 z.ready).0 }) tt
+
+-- All that a turn posts is so addressed.
+pub turn_addressed : (m : Machine) (cpu : ℕ) (l : Local) (x : Work) → IsMachine m → IsSized m l → turn m cpu l ≡ Some x → IsAddressed m x
+turn_addressed m cpu l x machine z h = turn_then m cpu l x (IsAddressed m) h λ c is. choice_addressed m cpu l c machine z is
+
+-- A letter
+
+pub handled_addressed : (m : Machine) (cpu : ℕ) (c : Content) (x y : Work) → IsMachine m → IsAddressed m x → handled m cpu c x ≡ Some y → IsAddressed m y
+handled_addressed m cpu (SendLetter s receiver message zero_timeout) x y machine a h =
+    bind_then (own_place m cpu receiver) _ y h λ r own rest.
+    bind_then (foreign_place m cpu s.thread) _ y rest λ i foreign rest.
+    guard_then (is_none (thread x.local i).send) _ y rest λ none rest.
+    guard_then (same_id message.actual s.thread) _ y rest λ actual rest.
+    guard_then (is_declared m message.shown) _ y rest λ shown rest.
+    subst (IsAddressed m) (some_is _ y rest)
+    (arrives_addressed m cpu r i (x ▷ does (changes i (stands_in s.k (stand_in receiver message zero_timeout))))
+    (thread_at m s.thread i machine (foreign_place_is m cpu s.thread i foreign).0) a)
+handled_addressed m cpu (DoneLetter s result) x y machine a h =
+    bind_then (own_place m cpu s.thread) _ y h λ i own rest.
+    guard_then (is_some (split_place m cpu x.local i)) _ y rest λ split rest.
+    guard_then ((thread x.local i).context.begun == s.k) _ y rest λ number rest.
+    subst (IsAddressed m) (some_is _ y rest) a
+handled_addressed m cpu (WithdrawLetter s receiver cause) x y machine a h =
+    bind_then (own_place m cpu receiver) _ y h λ r own rest.
+    bind_then (foreign_place m cpu s.thread) _ y rest λ i foreign rest.
+    subst (IsAddressed m) (some_is _ y rest)
+    (cond_keeps (IsAddressed m) (waits_here x.local i s.k) _ x
+    (λ waits. refuses_addressed m cpu i (refusal_of cause) x (thread_at m s.thread i machine (foreign_place_is m cpu s.thread i foreign).0) a) (λ late. a))
+handled_addressed m cpu (GoneLetter id) x y machine a h =
+    bind_then (foreign_place m cpu id) _ y h λ i foreign rest.
+    subst (IsAddressed m) (some_is _ y rest) a
+handled_addressed m cpu (OrderLetter caller target what) x y machine a h =
+    bind_then (own_place m cpu target) _ y h λ j own rest.
+    bind_then (foreign_place m cpu caller) _ y rest λ i foreign rest.
+    let at = (foreign_place_is m cpu caller i foreign).0 in
+    subst (IsAddressed m) (some_is _ y rest)
+    (posts_addressed m (declared m i).cpu (OrderDoneLetter caller) (x ▷ obeys m cpu caller what j) (ap (λ o. is_some o) at)
+    (home_below m i (thread_at m caller i machine at))
+    (obeys_addressed m cpu caller what j x (thread_at m target j machine (own_place_is m cpu target j own).0) a))
+handled_addressed m cpu (OrderDoneLetter caller) x y machine a h =
+    bind_then (own_place m cpu caller) _ y h λ i own rest.
+    guard_then (is_deleted (thread x.local i).phase || is_ordering (thread x.local i).phase) _ y rest λ calls rest.
+    subst (IsAddressed m) (some_is _ y rest) a
+handled_addressed m cpu (RetargetLetter o) x y machine a h =
+    guard_then m.retargeting _ y h λ profile rest.
+    bind_then (own_place m cpu o.originator) _ y rest λ j own rest.
+    guard_then (is_declared m o.old_partner) _ y rest λ old rest.
+    guard_then (is_some (foreign_place m cpu o.new_partner)) _ y rest λ foreign rest.
+    subst (IsAddressed m) (some_is _ y rest) a

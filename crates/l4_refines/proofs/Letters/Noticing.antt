@@ -18,10 +18,9 @@ use Rattle.l4_refines.proofs.Relation.Views.{Scene, View, kept, view, home, amid
 use Rattle.l4_refines.proofs.Relation.Rows.{seats, Agrees, learned, Row, IsCause, IsWithdrawal, IsNotice, Matches}
 use Rattle.l4_refines.proofs.Relation.Relates.{RelatesExcept, beside}
 use Rattle.l4_refines.proofs.Relation.Owing.{Owing, retarget_in}
-use Rattle.l4_refines.proofs.Frames.Places.{first_about, leaves_out, takes_in}
 use Rattle.l4_refines.proofs.Frames.Mail.{any_posted, still_owed, mail_here}
-use Rattle.l4_refines.proofs.Frames.Moves.{at_home}
-use Rattle.l4_refines.proofs.Frames.Going.{Goes, IsHere, home_is}
+use Rattle.l4_refines.proofs.Frames.Locals.{at_home}
+use Rattle.l4_refines.proofs.Frames.Going.{goes_on, Goes, IsHere, home_is, first_about, leaves_out, takes_in}
 
 -- A true notice may be posted.
 pub notice_relates : (m : Machine) (cpu to i : ℕ) (content : Content) (except : List ℕ) (s : Scene) (w : World) (x : Work) →
@@ -100,12 +99,8 @@ pub notice_goes : (m : Machine) (cpu to i : ℕ) (content : Content) (s : Scene)
     place_of m (subject content) ≡ Some i → is_locator content ≡ false → retarget_in content ≡ None →
     IsNotice m i (at_home m i (view m (amid cpu s x) e.now i)) (posted cpu (to, record { stamp = x.local.stamp; content = content })) →
     Goes m cpu s w [] (posts to content x)
-notice_goes m cpu to i content s w x e lt about late other notice = record {
-  starts = e.starts;
-  now = e.now;
-  reaches = e.reaches;
-  relates = notice_relates m cpu to i content [] s e.now x e.relates tt lt about late e.now.owed (still_owed m cpu to content [] s e.now x other e.relates) notice;
-}
+notice_goes m cpu to i content s w x e lt about late other notice = goes_on e refl
+    (notice_relates m cpu to i content [] s e.now x e.relates tt lt about late e.now.owed (still_owed m cpu to content [] s e.now x other e.relates) notice)
 
 -- So an event may withdraw a send whose cause is true.
 pub withdraws_goes : (m : Machine) (cpu i : ℕ) (cause : Cause) (s : Scene) (w : World) (x : Work) → IsHere m cpu i → Goes m cpu s w [] x →

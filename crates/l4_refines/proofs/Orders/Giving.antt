@@ -1,13 +1,10 @@
 -- An instruction gives an order.
 use Rattle.l4_model.proofs.Keeping.{order-asked}
-use Rattle.std.proofs.Common.{◌≡◌, ℕ, ◌<◌, Bool, true, false, cond, Option, Some, None, [], ◌∷◌, ◌++◌, length, refl, ap, sym, ◌∙◌, subst, arith}
-use Rattle.std.specs.Prelude.{◌==◌, not}
+use Rattle.std.proofs.Common.{◌≡◌, ℕ, ◌<◌, Bool, true, false, cond, Option, Some, None, [], ◌∷◌, ◌++◌, length, refl, ap, sym, ◌∙◌, subst, arith, ◌==◌, not}
 use Rattle.std.proofs.lemmas.Bool.{eqb-true}
-use Rattle.l4_model.specs.Machine.{Machine, OrderKind, CancelSend, CancelReceive, CancelBoth, Delete, place_of}
+use Rattle.l4_model.specs.Machine.{Machine, OrderKind, Delete, place_of}
 use Rattle.l4_model.specs.World.{Thread, World, PendingOrder, Ordering, change, is_deleted, opening_thread}
-use Rattle.l4_refines.proofs.Frames.Owes.{none_owed}
 use Rattle.l4_model.specs.Effects.{asked, orders, obeyed}
-use Rattle.l4_model.specs.History.{run}
 use Rattle.l4_model.specs.Rules.{Orders}
 use Rattle.l4_model.specs.Conditions.{act_of}
 use Rattle.l4_model.specs.Steps.{Order, Obey, order_kind_code, order_of, next}
@@ -25,20 +22,17 @@ use Rattle.l4_core_model.proofs.Orders.{target_declared}
 use Rattle.l4_core_model.proofs.Good.{orders_good}
 use Rattle.l4_refines.proofs.Lists.{filter_last, filter_last_other}
 use Rattle.l4_refines.proofs.Relation.Views.{Scene, Kept, View, kept, view, world_thread, home, amid, is_locator, notices, locators}
-use Rattle.l4_refines.proofs.Relation.Rows.{seats, Agrees, IsOrdered, IsKeptAtHome, Matches}
+use Rattle.l4_refines.proofs.Relation.Rows.{seats, Agrees, IsOrdered, IsKeptAtHome, Matches, same_agrees}
 use Rattle.l4_refines.proofs.Relation.Relates.{RelatesExcept}
-use Rattle.l4_refines.proofs.Frames.Places.{first_about, takes_in, put_same, world_changes, local_changes}
 use Rattle.l4_refines.proofs.Frames.Mail.{letter_posted, mail_here}
-use Rattle.l4_refines.proofs.Relation.Agreement.{same_agrees}
-use Rattle.l4_refines.proofs.Frames.Moves.{at_home, StaysTrue, same_alike, Moves, moves_kept, located_known, come_kept, of_none, ready_is_alive}
-use Rattle.l4_refines.proofs.Frames.Going.{Goes, one_more_told, IsHere, home_is, comes, sized_here, put_other}
+use Rattle.l4_refines.proofs.Frames.Locals.{at_home, StaysTrue, same_alike, kept_on, kept_same, located_known, come_kept, of_none, ready_is_alive, none_owed}
+use Rattle.l4_refines.proofs.Frames.Going.{goes_on, told_on, Goes, IsHere, home_is, comes, sized_here, put_other, first_about, takes_in}
+use Rattle.l4_refines.proofs.Frames.Going.{put_same, world_changes, local_changes}
 use Rattle.l4_refines.proofs.Turns.Instructions.{IsPicked, running_is, running_found}
 use Rattle.l4_refines.proofs.Sends.Finding.{found_is}
-use Rattle.l4_refines.proofs.Orders.Asked.{agrees_order, send_asked, asked_agrees}
-use Rattle.l4_refines.proofs.Orders.Obeyed.{caller_unready, IsCalling, obeyed_here}
-use Rattle.l4_refines.proofs.Orders.Asking.{asks_other, asked_kept, asked_thread, asked_at_home, asked_stays_true, asks_here, asks_sized, asks_clock, asks_owed, asks_lists, kept_lists}
-use Rattle.l4_refines.proofs.Orders.Obeying.{obeys_relates, obeys_steps}
-use Rattle.l4_refines.proofs.Orders.Ordered.{obeys_local, obeys_mail}
+use Rattle.l4_refines.proofs.Orders.Asked.{agrees_order, send_asked, asked_agrees, asks_other, asked_kept, asked_thread, asked_at_home, asked_stays_true}
+use Rattle.l4_refines.proofs.Orders.Asked.{asks_here, asks_sized, asks_clock, asks_owed, asks_lists, kept_lists}
+use Rattle.l4_refines.proofs.Orders.Obeyed.{caller_unready, IsCalling, obeyed_here, obeys_local, obeys_mail, obeys_relates, obeys_steps}
 
 abbrev given : Machine → ℕ → PendingOrder → Work → Work
 given m i order x = x ▷ does (comes_to i (orders order)) ▷ tells (Order (declared m i).id order.target order.what)
@@ -69,25 +63,17 @@ calls_goes m cpu i order s w x e r act_is =
     let t1 = same_nat (order_kind_code order.what) in
     let possible : next m now (Order (declared m i).id order.target order.what) ≡ Some u = rw (found_now, ready, asks_it, t0, t1) refl in
     let good = orders_good x.local.clock order (thread x.local i) ready running.good in
-    let moves : Moves m i v after = record {
-      elsewhere = λ p ne. same_alike (v.kept p) (after.kept p) (c.elsewhere p ne);
-      notices = refl;
-      stays_true = subst (λ a. StaysTrue a (at_home m i after)) (sym was) (subst (StaysTrue k) (sym c.here) (record {
-        deleted = λ gone. ready_is_alive (thread x.local i).phase gone ready;
-        begun = omega arith;
-        causes = λ cause same old. of_none _ (thread x.local i).send running.send;
-      }));
-    } in
     record {
       here = r.here;
-      goes = record {
-        starts = e.starts;
-        now = u;
-        reaches = one_more_told m w now u x.steps (Order (declared m i).id order.target order.what) e.reaches possible;
-        relates = c.relates;
-      };
+      goes = told_on e u (Order (declared m i).id order.target order.what) possible refl c.relates;
       calls = record {
-        kept = moves_kept m i v after r.known.kept moves (subst (IsKeptAtHome i) (sym c.here) (come_kept i f k good tt (none_owed Ordering (owed_beside x.local i) r.nothing_owed)));
+        kept = kept_on m i v after r.known.kept (λ p ne. same_alike (v.kept p) (after.kept p) (c.elsewhere p ne)) refl
+            (subst (λ a. StaysTrue a (at_home m i after)) (sym was) (subst (StaysTrue k) (sym c.here) (record {
+              deleted = λ gone. ready_is_alive (thread x.local i).phase gone ready;
+              begun = omega arith;
+              causes = λ cause same old. of_none _ (thread x.local i).send running.send;
+            })))
+            (subst (IsKeptAtHome i) (sym c.here) (come_kept i f k good tt (none_owed Ordering (owed_beside x.local i) r.nothing_owed)));
         out = ap (λ (k : Kept). k.ready) c.here ∙ r.out;
         send = ap (λ (k : Kept). k.thread.send) c.here ∙ running.send;
         has = ap (λ (k : Kept). k.thread.order) c.here;
@@ -118,12 +104,7 @@ foreign_goes m cpu i j order s w y h at away =
     let locator : locators after.mail ≡ p ∷ [] =
     ap locators mail ∙ filter_last (λ (q : Posted). is_locator q.letter.content) v.mail p refl ∙ ap (λ ps. ps ++ p ∷ []) c.quiet in
     let others : notices after.mail ≡ notices v.mail = ap notices mail ∙ filter_last_other (λ (q : Posted). not (is_locator q.letter.content)) v.mail p refl in
-    let moves : Moves m i v after = record {
-      elsewhere = λ q ne. same_alike (v.kept q) (after.kept q) refl;
-      notices = others;
-      stays_true = record { deleted = λ gone. gone; begun = omega arith; causes = λ cause same old. old };
-    } in
-    let keeps = moves_kept m i v after c.kept moves c.kept.at_home in
+    let keeps = kept_same m i v after c.kept (λ q ne. same_alike (v.kept q) (after.kept q) refl) others refl in
     let suits : Suits (at_home m i v).thread.phase (at_home m i v).thread.send (Some order) =
     subst (Suits (at_home m i v).thread.phase (at_home m i v).thread.send) c.has c.kept.at_home.good.suits in
     let row : IsOrdered m i (seats m i after) p = record {
@@ -140,17 +121,12 @@ foreign_goes m cpu i j order s w y h at away =
       from = sym h.here.home;
       to = refl;
     } in
-    record {
-      starts = e.starts;
-      now = e.now;
-      reaches = e.reaches;
-      relates = takes_in m i [] (amid cpu s a) e.now
-          (letter_posted m cpu (home m j) i (OrderLetter (declared m i).id order.target order.what) (i ∷ []) s e.now y placed refl (first_about i []) e.relates)
-          (record {
-            known = located_known m i after p keeps locator row c.agrees;
-            ready = c.out ∙ sym (caller_unready i (at_home m i v).thread.phase (at_home m i v).thread.send order suits);
-          });
-    }
+    goes_on e refl (takes_in m i [] (amid cpu s a) e.now
+    (letter_posted m cpu (home m j) i (OrderLetter (declared m i).id order.target order.what) (i ∷ []) s e.now y placed refl (first_about i []) e.relates)
+    (record {
+      known = located_known m i after p keeps locator row c.agrees;
+      ready = c.out ∙ sym (caller_unready i (at_home m i v).thread.phase (at_home m i v).thread.send order suits);
+    }))
 
 -- To a thread of this processor
 
@@ -171,12 +147,7 @@ own_goes m cpu i j order s w y h at o =
     let ordering : (world_thread now i).order ≡ Some order = agrees_order v.world (at_home m i v).thread h.calls.agrees ∙ h.calls.has in
     let possible : next m now (Obey (declared m i).id) ≡ Some u = rw (found_now, ordering, at) refl in
     let steps = obeys_steps m cpu j (declared m i).id order.what y in
-    record {
-      starts = h.goes.starts;
-      now = u;
-      reaches = ap (run m w) steps ∙ one_more_told m w now u y.steps (Obey (declared m i).id) h.goes.reaches possible;
-      relates = obeyed_here m cpu i order s (change now j (asked order.what)) z h.here o.calls o.relates;
-    }
+    told_on h.goes u (Obey (declared m i).id) possible steps (obeyed_here m cpu i order s (change now j (asked order.what)) z h.here o.calls o.relates)
 
 other_obeyed : (m : Machine) (cpu i j : ℕ) (order : PendingOrder) (s : Scene) (w : World) (y : Work) → (h : HasCalled m cpu i order s w y) → IsHere m cpu j →
     (j ≡ i → ⊥) → HasObeyed m cpu i j order s h.goes.now y
@@ -211,10 +182,8 @@ self_work m cpu i what y none =
     for z (Some cause) none = ap (λ o. withdraws m cause i (split_receiver m cpu o) z) none
 
 asked_out : (what : OrderKind) (i : ℕ) (k : Kept) → k.ready ≡ [] → (asked_kept what i k).ready ≡ []
-asked_out CancelSend i k h = h
-asked_out CancelReceive i k h = h
-asked_out CancelBoth i k h = h
 asked_out Delete i k h = refl
+asked_out _ i k h = h
 
 self_obeyed : (m : Machine) (cpu i : ℕ) (order : PendingOrder) (s : Scene) (w : World) (y : Work) → (h : HasCalled m cpu i order s w y) →
     HasObeyed m cpu i i order s h.goes.now y
@@ -246,16 +215,13 @@ self_obeyed m cpu i order s w y h =
       owed = asks_owed what y.local i;
       kept = λ j out. asks_other what y.local i j (λ e. out.0 (sym e));
     }) (asks_lists what y.local i) rel) in
-    let moves : Moves m i v after = record {
-      elsewhere = λ p ne. same_alike (v.kept p) (after.kept p) (other p ne);
-      notices = refl;
-      stays_true = subst (StaysTrue (at_home m i v)) (sym is) (asked_stays_true what i (at_home m i v));
-    } in
     let none : (thread z.local i).send ≡ None =
     sym (ap (λ (k : Kept). k.thread.send) (home_is m cpu i s z u h.here.home)) ∙ ap (λ (t : Thread). t.send) thread_is
     ∙ send_asked what (at_home m i v).thread ∙ c.send in
     let calls : IsCalling m i order after = record {
-      kept = moves_kept m i v after c.kept moves (subst (IsKeptAtHome i) (sym is) (asked_at_home what i (at_home m i v) c.kept.at_home));
+      kept = kept_on m i v after c.kept (λ p ne. same_alike (v.kept p) (after.kept p) (other p ne)) refl
+          (subst (StaysTrue (at_home m i v)) (sym is) (asked_stays_true what i (at_home m i v)))
+          (subst (IsKeptAtHome i) (sym is) (asked_at_home what i (at_home m i v) c.kept.at_home));
       out = ap (λ (k : Kept). k.ready) is ∙ asked_out what i (at_home m i v) c.out;
       send = ap (λ (t : Thread). t.send) thread_is ∙ send_asked what (at_home m i v).thread ∙ c.send;
       has = ap (λ (t : Thread). t.order) thread_is ∙ order-asked what (at_home m i v).thread ∙ c.has;

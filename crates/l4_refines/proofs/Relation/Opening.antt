@@ -1,6 +1,6 @@
 -- At the opening all is related, and all is promised.
 use Rattle.l4_refines.proofs.Turns.Choices.{own_entry}
-use Rattle.l4_core_model.specs.Runs.{processors}
+use Rattle.l4_core_model.specs.Runs.{processors, opening_system, IsMachine}
 use Rattle.std.proofs.lemmas.List.FromFn.{get_or-map-range_with_len, length-map-range_with_len}
 use Rattle.l4_core_model.proofs.Lists.{range_below, get-same, all-map, all-filter}
 use Rattle.l4_core_model.proofs.Apart.{same_or_apart}
@@ -11,17 +11,15 @@ use Rattle.std.proofs.lemmas.List.{length-map, get_or-replicate, length-replicat
 use Rattle.std.proofs.lemmas.Bool.{eqb-true, cases_lt}
 use Rattle.l4_model.specs.Machine.{Machine}
 use Rattle.l4_model.specs.World.{opening, opening_thread, Send, list_at}
-use Rattle.l4_core_model.specs.Plain as plain
 use Rattle.l4_core_model.specs.Local.{Local, is_own, own_places, opening_local}
-use Rattle.l4_core_model.specs.Runs.{opening_system, IsMachine}
 use Rattle.l4_core_model.proofs.Changed.{blocks}
 use Rattle.l4_refines.proofs.Lists.{filter_out, other_is}
 use Rattle.l4_refines.proofs.Relation.Views.{Kept, View, kept, view, home, nowhere, scene}
-use Rattle.l4_refines.proofs.Relation.Rows.{Matches}
-use Rattle.l4_refines.proofs.Relation.Agreement.{same_agrees}
+use Rattle.l4_refines.proofs.Relation.Rows.{Matches, same_agrees}
 use Rattle.l4_refines.proofs.Relation.Relates.{IsSized, Relates, senders, beside}
 use Rattle.l4_refines.proofs.Relation.Owing.{Owing}
 use Rattle.l4_refines.proofs.Promises.Promised.{IsArmedUnlessSplit, IsCalm, IsAnswered, Promised}
+use Rattle.l4_core_model.specs.Plain as plain
 
 -- What is kept of a thread where nothing has happened yet.
 

@@ -1,18 +1,21 @@
 -- What the world, the processors and the letters say of one thread, and how they agree.
-use Rattle.std.specs.Prelude.{ℕ, ◌≤◌, ◌≡◌, ◌⊎◌, true, false, Option, Some, None, IfSome, List, [], ◌∷◌}
+use Rattle.std.proofs.Common.{ℕ, ◌≤◌, ◌≡◌, ◌⊎◌, true, false, Option, Some, None, IfSome, List, [], ◌∷◌, Bool, cond, refl, ap, sym, ◌∙◌, subst, arith}
 use Rattle.std.specs.List.{AllByRecursion}
 use Rattle.l4_model.specs.Words.{GlobalId}
 use Rattle.l4_model.specs.Machine.{Machine, place_of}
-use Rattle.l4_model.specs.World.{Name, Receive, Send, PendingOrder, Owed, Phase, Ready, Receiving, Deleted, Thread, is_deleted}
+use Rattle.l4_model.specs.World.{Name, Receive, Send, PendingOrder, Owed, Phase, Ready, Receiving, Deleted, Thread, is_deleted, Message, Sending}
+use Rattle.l4_model.specs.World.{is_ready, is_alive}
 use Rattle.l4_model.specs.Conditions.{is_zero, has_passed}
-use Rattle.l4_model.specs.Effects.{obeyed}
-use Rattle.l4_core_model.specs.Plain as plain
-use Rattle.l4_core_model.specs.Letters.{Cause, ByTimeout, ByCancel, ByDeletion, Content, SendLetter, DoneLetter, WithdrawLetter, GoneLetter, OrderLetter, OrderDoneLetter, RetargetLetter}
-use Rattle.l4_core_model.specs.Local.{declared, destination_place, armed_period, armed_for, readied, after_decision, stand_in}
+use Rattle.l4_model.specs.Effects.{obeyed, fails, decided, receives, goes_on}
+use Rattle.l4_core_model.specs.Letters.{Cause, ByTimeout, ByCancel, ByDeletion, Content, SendLetter, DoneLetter, WithdrawLetter, GoneLetter, OrderLetter}
+use Rattle.l4_core_model.specs.Letters.{OrderDoneLetter, RetargetLetter, Result, Delivered, Refused, TimedOut}
+use Rattle.l4_core_model.specs.Local.{declared, destination_place, armed_period, armed_for, readied, after_decision, stand_in, was_delivered}
 use Rattle.l4_core_model.specs.Acts.{entry}
 use Rattle.l4_core_model.specs.Runs.{Posted}
 use Rattle.l4_core_model.proofs.Fit.{IsGood}
 use Rattle.l4_refines.proofs.Relation.Views.{Kept, View, home, notices, locators}
+use Rattle.l4_model.specs.Reached.{Suits}
+use Rattle.l4_core_model.specs.Plain as plain
 
 -- The thread in the world
 
@@ -48,6 +51,17 @@ AreTogether m = (i j : ℕ) → home m i ≡ home m j
 pub record Agrees (m : Machine) (world t : Thread) : Type 0 where
   pub by_phase : AgreesByPhase world t
   pub together : AreTogether m → world ≡ t
+
+-- A part that a receive phase leaves and that is alike where the thread is deleted is the same.
+pub agrees_part : {A : Type 0} {m : Machine} (g : Thread → A) →
+    ((t : Thread) (receive : Receive) (since : ℕ) → g (record t { phase = Receiving receive since }) ≡ g t) →
+    ((world t : Thread) → IsLeft world t → g world ≡ g t) → (world t : Thread) → Agrees m world t → g world ≡ g t
+agrees_part g same left world t a = by t.phase a.by_phase
+  where
+    by : (p : Phase) → AgreesIn p world t → g world ≡ g t
+    by (Receiving receive since) a = ap g a.same ∙ same t receive a.began
+    by Deleted a = left world t a
+    by _ a = ap g a
 
 -- The thread as its home will have it once the letter that is under way to it is handled, with the clock that home has now.
 abbrev pub learns : Content → (clock : ℕ) → Thread → Thread
@@ -269,3 +283,108 @@ pub record Known (m : Machine) (i : ℕ) (v : View) : Type 0 where
 pub record Matches (m : Machine) (i : ℕ) (v : View) : Type 0 where
   pub known : Known m i v
   pub ready : (v.kept (home m i)).ready ≡ readied (v.kept (home m i)).thread.phase i []
+
+-- What a step does to a thread of the world, home does to its own, and they agree again.
+
+-- Where they are one
+
+agrees_in : (p : Phase) (t : Thread) → t.phase ≡ p → AgreesIn p t t
+agrees_in (Receiving receive since) t is = record { began = since; no_later = omega arith; same = ap (λ p. record t { phase = p }) is }
+agrees_in Deleted t is = record { deleted = is; begun = refl; send = refl; order = refl; cancel_send = refl }
+agrees_in _ t is = refl
+
+pub same_by_phase : (world t : Thread) → world ≡ t → AgreesByPhase world t
+same_by_phase world t e = subst (λ u. AgreesByPhase u t) (sym e) (agrees_in t.phase t refl)
+
+pub same_agrees : {m : Machine} (world t : Thread) → world ≡ t → Agrees m world t
+same_agrees world t e = record { by_phase = same_by_phase world t e; together = λ one. e }
+
+-- Where there is a thread of another processor, nothing is to be shown of machines that have but one.
+pub split_agrees : {m : Machine} (world t : Thread) → (AreTogether m → ⊥) → AgreesByPhase world t → Agrees m world t
+split_agrees world t split a = record { by_phase = a; together = λ one. absurd (split one) }
+
+-- In these phases they are one, or differ in `since` alone.
+
+pub ready_is : {m : Machine} (world t : Thread) → is_ready t.phase ≡ true → Agrees m world t → world ≡ t
+ready_is world t ready a = by t.phase ready a.by_phase
+  where
+    by : (p : Phase) → is_ready p ≡ true → AgreesIn p world t → world ≡ t
+    by Ready h a = a
+    by _ h a = cc
+
+pub receiving_is : {m : Machine} (receive : Receive) (since : ℕ) (world t : Thread) → t.phase ≡ Receiving receive since → Agrees m world t →
+    IsEarlier receive since world t
+receiving_is receive since world t is a = subst (λ p. AgreesIn p world t) is a.by_phase
+
+pub receives_agrees : {m : Machine} (message : Message) (tag : ℕ) (receive : Receive) (since : ℕ) (world t : Thread) → t.phase ≡ Receiving receive since → Agrees m world t →
+    receives message tag world ≡ receives message tag t
+receives_agrees message tag receive since world t is a = ap (receives message tag) (receiving_is receive since world t is a).same
+
+pub fails_agrees : {m : Machine} (code : ℕ) (receive : Receive) (since : ℕ) (world t : Thread) → t.phase ≡ Receiving receive since → Agrees m world t →
+    fails code world ≡ fails code t
+fails_agrees code receive since world t is a = ap (fails code) (receiving_is receive since world t is a).same ∙ rw is refl
+
+-- A send is decided
+
+-- A deleted thread only loses its send.
+pub ended_deleted : (result : Result) (clock : ℕ) (t : Thread) (send : Send) → t.phase ≡ Deleted → t.send ≡ Some send → after_decision result clock t ≡ decided t
+ended_deleted Delivered clock t send gone has = rw (has, gone) refl
+ended_deleted (Refused TimedOut) clock t send gone has = rw gone refl
+ended_deleted _ clock t send gone has = rw gone refl
+
+decided_left : (world t : Thread) → t.phase ≡ Deleted → IsLeft world t → IsLeft (decided world) (decided t)
+decided_left world t gone a = record { deleted = a.deleted; begun = a.begun; send = refl; order = a.order; cancel_send = refl }
+
+ended_by_phase : (result : Result) (clock : ℕ) (world t : Thread) (send : Send) → t.send ≡ Some send → Suits t.phase (Some send) t.order →
+    AgreesByPhase world t → AgreesByPhase (after_decision result clock world) (after_decision result clock t)
+ended_by_phase result clock world t send has suits a = by t.phase refl suits a
+  where
+    by : (p : Phase) → t.phase ≡ p → Suits p (Some send) t.order → AgreesIn p world t →
+        AgreesByPhase (after_decision result clock world) (after_decision result clock t)
+    by Sending is s a = same_by_phase (after_decision result clock world) (after_decision result clock t) (ap (after_decision result clock) a)
+    by Deleted is s a =
+        let left : AgreesIn Deleted (decided world) (decided t) = decided_left world t is a in
+        let here : AgreesByPhase (decided world) (decided t) = subst (λ p. AgreesIn p (decided world) (decided t)) (sym is) left in
+        let at = ended_deleted result clock t send is has in
+        let there = ended_deleted result clock world send a.deleted (a.send ∙ has) in
+        subst (λ u. AgreesByPhase u (after_decision result clock t)) (sym there) (subst (AgreesByPhase (decided world)) (sym at) here)
+    by _ is s a = cc
+
+pub ended_agrees : {m : Machine} (result : Result) (clock : ℕ) (world t : Thread) (send : Send) → t.send ≡ Some send → Suits t.phase (Some send) t.order →
+    Agrees m world t → Agrees m (after_decision result clock world) (after_decision result clock t)
+ended_agrees result clock world t send has suits a = record {
+  by_phase = ended_by_phase result clock world t send has suits a.by_phase;
+  together = λ one. ap (after_decision result clock) (a.together one);
+}
+
+-- Home hears of it later
+
+goes_on_later : (receive : Option Receive) (now later : ℕ) (world t : Thread) → now ≤ later → AgreesByPhase world (goes_on receive now t) →
+    AgreesByPhase world (goes_on receive later t)
+goes_on_later None now later world t le a = a
+goes_on_later (Some receive) now later world t le a = record { began = a.began; no_later = omega (arith, a.no_later); same = a.same }
+
+was_delivered_later : (o : Option Send) (now later : ℕ) (world t : Thread) → now ≤ later → AgreesByPhase world (was_delivered o now t) →
+    AgreesByPhase world (was_delivered o later t)
+was_delivered_later None now later world t le a = a
+was_delivered_later (Some send) now later world t le a = by (is_alive t.phase) a
+  where
+    by : (b : Bool) → AgreesByPhase world (cond b (goes_on send.receive now t) (decided t)) → AgreesByPhase world (cond b (goes_on send.receive later t) (decided t))
+    by true a = goes_on_later send.receive now later world t le a
+    by false a = a
+
+ended_later : (result : Result) (now later : ℕ) (world t : Thread) → now ≤ later → AgreesByPhase world (after_decision result now t) → AgreesByPhase world (after_decision result later t)
+ended_later Delivered now later world t le a = was_delivered_later t.send now later world t le a
+ended_later (Refused TimedOut) now later world t le a = a
+ended_later _ now later world t le a = a
+
+learns_later : (c : Content) (now later : ℕ) (world t : Thread) → now ≤ later → AgreesByPhase world (learns c now t) → AgreesByPhase world (learns c later t)
+learns_later (DoneLetter s result) now later world t le a = ended_later result now later world t le a
+learns_later _ now later world t le a = a
+
+-- On one processor there is no letter to hear of.
+pub learned_later : {m : Machine} (ps : List Posted) (now later : ℕ) (world t : Thread) → now ≤ later → (AreTogether m → ps ≡ []) →
+    Agrees m world (learned ps now t) → Agrees m world (learned ps later t)
+learned_later [] now later world t le quiet a = a
+learned_later (p ∷ ps) now later world t le quiet a =
+    split_agrees world (learned (p ∷ ps) later t) (λ one. let none = quiet one in cc) (learns_later p.letter.content now later world t le a.by_phase)

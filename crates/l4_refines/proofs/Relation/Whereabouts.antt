@@ -9,7 +9,7 @@ use Rattle.l4_model.proofs.Places.{known}
 use Rattle.l4_refines.proofs.Relation.Rows.{Agrees, AreTogether, IsDecided, IsObeyed, IsOrdered, IsPlain, IsSent, IsWaiting, Known, Row, RowOf, learned, learns, seats}
 use Rattle.l4_model.specs.Effects.{decided, obeyed, waits}
 use Rattle.std.proofs.Common.{List, None, Option, Some, [], ap, refl, sym, ℕ, ◌∙◌, ◌∷◌, ◌≡◌}
-use Rattle.l4_core_model.specs.Letters.{Content, DoneLetter, GoneLetter, OrderDoneLetter, OrderLetter, RetargetLetter, Result, SendLetter, WithdrawLetter}
+use Rattle.l4_core_model.specs.Letters.{Content, DoneLetter, OrderDoneLetter, OrderLetter, Result, SendLetter}
 use Rattle.l4_refines.proofs.Relation.Views.{View, home, locators}
 
 -- It has neither; its send waits; it is under way; it is decided; its order is under way; it is done.
@@ -34,11 +34,9 @@ where_then {G = G} m i v known plain waits sent decided ordered done = by (locat
     letter : (p : Posted) (c : Content) → locators v.mail ≡ p ∷ [] → p.letter.content ≡ c → RowOf m i (seats m i v) p c → Agrees m v.world (learns c clock t) → G
     letter p (SendLetter s receiver message zero_timeout) is content row a = sent p is row a
     letter p (DoneLetter s result) is content row a = decided p s result is content row a
-    letter p (WithdrawLetter s receiver cause) is content row a = absurd row
-    letter p (GoneLetter id) is content row a = absurd row
     letter p (OrderLetter caller target what) is content row a = ordered p is row a
     letter p (OrderDoneLetter caller) is content row a = done p caller is content row a
-    letter p (RetargetLetter o) is content row a = absurd row
+    letter p _ is content row a = absurd row
 
     by : (ps : List Posted) → locators v.mail ≡ ps → (o : Option Send) → t.send ≡ o → Row m i (seats m i v) ps o → Agrees m v.world (learned ps clock t) → G
     by [] is None has row a = plain is has row a

@@ -1,12 +1,11 @@
 -- What the world shows of a thread that its home knows all of.
-use Rattle.std.proofs.Common.{◌≡◌, ℕ, true, Option, Some, None, refl, ap, sym, ◌∙◌, subst}
-use Rattle.std.specs.Prelude.{not}
-use Rattle.l4_model.specs.Words.{Id, NilThread, AnyThread, AnyLocalThread, LocalThread, GlobalThread}
+use Rattle.std.proofs.Common.{◌≡◌, ℕ, true, Option, Some, None, refl, ap, sym, ◌∙◌, subst, not}
+use Rattle.l4_model.specs.Words.{Id, LocalThread}
 use Rattle.l4_model.specs.Machine.{Machine}
-use Rattle.l4_model.specs.World.{Thread, Receive, Send, Phase, Ready, Sending, Receiving, Ordering, Ended, Deleted, is_ready, is_deleted, receive_now}
+use Rattle.l4_model.specs.World.{Thread, Receive, Send, Phase, Sending, Receiving, Deleted, is_ready, is_deleted, receive_now}
 use Rattle.l4_model.specs.Conditions.{is_refusable, call_accepts}
 use Rattle.l4_refines.proofs.Relation.Rows.{Agrees, AgreesIn}
-use Rattle.l4_refines.proofs.Sends.Refusable.{seen}
+use Rattle.l4_refines.proofs.Sends.Queueing.{seen}
 
 -- The world shows a thread as home has it, in all that steps ask of it.
 pub record IsShown (world t : Thread) : Type 0 where
@@ -33,8 +32,6 @@ pub is_shown : {m : Machine} (world t : Thread) → Agrees m world t → IsShown
 is_shown world t a = by t.phase refl a.by_phase
   where
     by : (p : Phase) → t.phase ≡ p → AgreesIn p world t → IsShown world t
-    by Ready is a = same_shown world t a
-    by Sending is a = same_shown world t a
     by (Receiving receive since) is a = record {
       ready = ap (λ (t : Thread). is_ready t.phase) a.same ∙ sym (ap is_ready is);
       deleted = ap (λ (t : Thread). is_deleted t.phase) a.same ∙ sym (ap is_deleted is);
@@ -44,8 +41,6 @@ is_shown world t a = by t.phase refl a.by_phase
       cancel_send = ap (λ (t : Thread). t.cancel_send) a.same;
       cancel_receive = λ r h. ap (λ (t : Thread). t.cancel_receive) a.same;
     }
-    by Ordering is a = same_shown world t a
-    by Ended is a = same_shown world t a
     by Deleted is a = record {
       ready = ap is_ready a.deleted ∙ sym (ap is_ready is);
       deleted = ap is_deleted a.deleted ∙ sym (ap is_deleted is);
@@ -55,6 +50,7 @@ is_shown world t a = by t.phase refl a.by_phase
       cancel_send = a.cancel_send;
       cancel_receive = λ r h. let none = ap receive_now a.deleted in cc;
     }
+    by _ is a = same_shown world t a
 
 -- Whether a send may be refused is no matter of clocks.
 clock_free : (m : Machine) (r clock other : ℕ) (send : Send) (t : Thread) →
@@ -64,23 +60,16 @@ clock_free m r clock other send t = by t.phase refl
     call : (s : Send) (to : Id) →
         call_accepts m (seen m r clock t) (Some (record s { to = to })) send.message.shown ≡ call_accepts m (seen m r other t)
         (Some (record s { to = to })) send.message.shown
-    call s NilThread = refl
-    call s AnyThread = refl
-    call s AnyLocalThread = refl
     call s (LocalThread word) = refl
-    call s (GlobalThread id) = refl
+    call s _ = refl
 
     calls : (o : Option Send) → call_accepts m (seen m r clock t) o send.message.shown ≡ call_accepts m (seen m r other t) o send.message.shown
     calls None = refl
     calls (Some s) = call s s.to
 
     by : (p : Phase) → t.phase ≡ p → is_refusable m send (Some (seen m r clock t)) ≡ is_refusable m send (Some (seen m r other t))
-    by Ready is = rw is refl
     by Sending is = let same = calls t.send in rw is (ap not same)
-    by (Receiving receive since) is = rw is refl
-    by Ordering is = rw is refl
-    by Ended is = rw is refl
-    by Deleted is = rw is refl
+    by _ is = rw is refl
 
 -- What the world may refuse, home may.
 pub refusable_at_home : (m : Machine) (r clock other : ℕ) (send : Send) (world t : Thread) → Agrees m world t →
@@ -91,9 +80,6 @@ refusable_at_home m r clock other send world t a h = sym (clock_free m r clock o
     one e = subst (λ u. is_refusable m send (Some (seen m r clock u)) ≡ true) e h
 
     by : (p : Phase) → t.phase ≡ p → AgreesIn p world t → is_refusable m send (Some (seen m r clock t)) ≡ true
-    by Ready is a = one a
-    by Sending is a = one a
     by (Receiving receive since) is a = let same = a.same in let there = rw same at h in rw is there
-    by Ordering is a = one a
-    by Ended is a = one a
     by Deleted is a = let gone = a.deleted in let never = rw gone at h in cc
+    by _ is a = one a

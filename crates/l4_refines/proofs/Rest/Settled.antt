@@ -5,10 +5,10 @@ use Rattle.std.proofs.Common.{◌≡◌, ℕ, ◌<◌, Bool, true, false, cond, 
 use Rattle.std.specs.Prelude.{◌==◌, not, slice_index, slice_set}
 use Rattle.std.specs.Option.{option_map}
 use Rattle.std.proofs.lemmas.Option.{slice_get-get_or}
-use Rattle.l4_model.specs.Words.{GlobalId, Id, NilThread, AnyThread, AnyLocalThread, LocalThread, GlobalThread}
+use Rattle.l4_model.specs.Words.{GlobalId, Id, GlobalThread}
 use Rattle.l4_model.specs.Machine.{Machine, place_of}
-use Rattle.l4_model.specs.World.{World, Send, Receive, Phase, Ready, Sending, Receiving, Ordering, Ended, Deleted, Name, is_queued, is_ready, is_deleted, receive_now, opening_thread, owed_of}
-use Rattle.l4_model.specs.Steps.{may_fail, may_refuse, receive_passed, Step, Local as RanLocal, Deliver, Order, Tick, next, OfThread, OfSend, Runs, Waits, Fails, Obeys, Begun, Queued, Failed, Dropped, Retargeted}
+use Rattle.l4_model.specs.World.{World, Send, Receive, Phase, Receiving, Name, is_queued, is_ready, is_deleted, receive_now, opening_thread, owed_of}
+use Rattle.l4_model.specs.Steps.{may_fail, may_refuse, receive_passed, Step, Deliver, Order, Tick, next, OfThread, OfSend, Runs, Waits, Fails, Obeys, Begun, Queued, Failed, Dropped, Retargeted}
 use Rattle.l4_model.specs.Rules.{Failure, TimeOver, NobodyThere, CancelAsked}
 use Rattle.l4_model.specs.Conditions.{Found, Pending, found, found_at, found_by, undecided, receiver_of, is_waiting, first_accepted, is_nobody, is_no_destination, is_zero, is_timed_out, is_refusable, has_passed}
 use Rattle.l4_model.proofs.Chains.{bind_then, guard_then, some_is}
@@ -81,16 +81,13 @@ is_found m w clocks id t settled h =
 
 found_to : (m : Machine) (w : World) (clocks : List ℕ) (to : Id) → length w.threads ≡ length m.threads →
     found_by m (at_clocks w clocks) to ≡ option_map (there m w clocks) (destination_place m to)
-found_to m w clocks NilThread size = refl
-found_to m w clocks AnyThread size = refl
-found_to m w clocks AnyLocalThread size = refl
-found_to m w clocks (LocalThread word) size = refl
 found_to m w clocks (GlobalThread t) size = by (place_of m t) refl
   where
     by : (o : Option ℕ) → place_of m t ≡ o →
         found_by m (at_clocks w clocks) (GlobalThread t) ≡ option_map (there m w clocks) (destination_place m (GlobalThread t))
     by None is = rw is refl
     by (Some i) is = let at = found_there m w clocks i size (place_within m t i is) in rw is at
+found_to m w clocks _ size = refl
 
 -- An undecided send is that of some place, and settled.
 pub record IsPending (m : Machine) (w : World) (clocks : List ℕ) (p : Pending) : Type 0 where
@@ -140,11 +137,8 @@ no_timeout m w clocks p settled it due =
 
 gone : (m : Machine) (w : World) (clocks : List ℕ) (to : Id) (r : ℕ) → destination_place m to ≡ Some r →
     is_no_destination to (Some (there m w clocks r)) ≡ true → is_deleted (world_thread w r).phase ≡ true
-gone m w clocks NilThread r to h = cc
-gone m w clocks AnyThread r to h = cc
-gone m w clocks AnyLocalThread r to h = cc
-gone m w clocks (LocalThread word) r to h = cc
 gone m w clocks (GlobalThread t) r to h = h
+gone m w clocks _ r to h = cc
 
 no_nobody : (m : Machine) (w : World) (clocks : List ℕ) (p : Pending) → IsSettled m w → IsPending m w clocks p →
     is_no_destination p.send.to (receiver_of m (at_clocks w clocks) p) ≡ true → ⊥
@@ -171,13 +165,9 @@ passed_finite : (m : Machine) (w : World) (t : Found) (receive : Receive) → re
 passed_finite m w t receive receiving passed endless = by t.now.phase receiving passed
   where
     by : (p : Phase) → receive_now p ≡ Some receive → receive_passed t p ≡ true → ⊥
-    by Ready r h = cc
-    by Sending r h = cc
     by (Receiving other since) r h = let same : other ≡ receive = some_is other receive r in
         passed_is_finite ⊥ other.period since t.clock h (λ n period. endless n (sym (ap (λ (r : Receive). r.period) same) ∙ period))
-    by Ordering r h = cc
-    by Ended r h = cc
-    by Deleted r h = cc
+    by _ r h = cc
 
 no_ready : (m : Machine) (w : World) (clocks : List ℕ) (id : GlobalId) (t : Found) → IsSettled m w → found m (at_clocks w clocks) id ≡ Some t →
     is_ready t.now.phase ≡ true → ⊥

@@ -8,14 +8,12 @@ use Rattle.l4_model.specs.Steps.{Local as RanLocal, Wait, runs_alone, receive_of
 use Rattle.l4_model.specs.Conditions.{instruction, act_of, found}
 use Rattle.l4_model.specs.Effects.{runs, waits, phase_after, receives}
 use Rattle.l4_core_model.specs.Local.{declared, thread, held, owed_beside}
-use Rattle.l4_refines.proofs.Frames.Owes.{none_owed}
 use Rattle.l4_core_model.specs.Acts.{Work, runs_alone_at, waits_at}
 use Rattle.l4_core_model.proofs.Fit.{IsGood}
 use Rattle.l4_core_model.proofs.Good.{ready_has_none, runs_good, waits_good}
 use Rattle.l4_refines.proofs.Relation.Views.{Scene, Kept, View, kept, view, world_thread, amid, locators}
-use Rattle.l4_refines.proofs.Relation.Rows.{seats, Agrees, IsUnplaced, Known}
-use Rattle.l4_refines.proofs.Relation.Agreement.{same_agrees, ready_is}
-use Rattle.l4_refines.proofs.Frames.Moves.{at_home, IsFresh, of_none, ready_is_alive}
+use Rattle.l4_refines.proofs.Relation.Rows.{seats, Agrees, IsUnplaced, Known, same_agrees, ready_is}
+use Rattle.l4_refines.proofs.Frames.Locals.{at_home, IsFresh, of_none, ready_is_alive, none_owed}
 use Rattle.l4_refines.proofs.Frames.Going.{Goes, IsHere, IsQuiet, home_is, found_here, comes_quiet}
 
 -- Of a thread that has neither send nor order no letter is under way, and the world has it as home does.
@@ -59,13 +57,7 @@ running_is m cpu i s x w r =
     let good = subst (λ (k : Kept). IsGood k.clock k.thread) was r.known.kept.at_home.good in
     let none = ready_has_none (thread x.local i).phase (thread x.local i).send (thread x.local i).order r.ready good.suits in
     let free = free_is m i v r.known (ap (λ (k : Kept). k.thread.send) was ∙ none.0) (ap (λ (k : Kept). k.thread.order) was ∙ none.1) in
-    record {
-      good = good;
-      send = none.0;
-      order = none.1;
-      free = free;
-      same = ready_is (world_thread w i) (thread x.local i) r.ready (subst (λ (k : Kept). Agrees m v.world k.thread) was free.agrees);
-    }
+    assumption (ready_is (world_thread w i) (thread x.local i) r.ready (subst (λ (k : Kept). Agrees m v.world k.thread) was free.agrees))
 
 -- The world finds a running thread as its home has it.
 pub running_found : (m : Machine) (cpu i : ℕ) (s : Scene) (w : World) (x : Work) → (e : Goes m cpu s w (i ∷ []) x) → IsPicked m cpu i s x e.now →

@@ -4,7 +4,7 @@ ghost use Rattle.std.specs.Prelude.{length};
 ghost use Rattle.std.specs.Option.{option_map};
 ghost use Rattle.l4_model.specs.Words.{GlobalId as ModelGlobalId, word_of_tag, register_count};
 ghost use Rattle.l4_model.specs.Machine.{Machine};
-ghost use Rattle.l4_model.specs.World.{Name};
+ghost use Rattle.l4_model.specs.World.{Name, Send as ModelSend};
 ghost use Rattle.l4_model.specs.Rules.{act, id_from, receive_phase};
 ghost use Rattle.l4_model.specs.Effects.{runs, fails, receives, refused, decided, delivered};
 ghost use Rattle.l4_model.specs.Effects.{goes_on, asked, asked_send, asked_receive};
@@ -78,6 +78,18 @@ impl Tcb {
         self.thread.begin_at(k);
         put_words(&mut self.apart, message.words());
         self.send = Some(Send::new(receiver.id(), Head::apart(&message), period, 0, None));
+    }
+
+    /// Notes that this foreign thread has begun so many sends, of which the last has arrived and was
+    /// taken at once: its stand-in is decided before it was ever made.
+    #[inline(always)]
+    pub fn note_taken(&mut self, begun: u64)
+        ensures { (send : ModelSend) → self.new ≡ record self.old {
+          thread = decided (stands_in begun send self.old.thread);
+        } }
+    {
+        self.thread.begin_at(begun);
+        self.decide();
     }
 
     /// Notes that this foreign thread was deleted.

@@ -11,7 +11,7 @@ pub attempt-requires-clause-can : goal.attempt-requires-clause-can
 attempt-requires-clause-can c =
     let run = c.requires.run in
     let p = c.args.self.now in
-    let entry = entry_from c.args.entry in
+    let entry = entry_from c.args.entry.now in
     let n = c.index_mut.result.now in
     let here = entry_here run.0 run.1.0 p entry c.from.result n run.1.1 c.requires.lawful
     (c.from.ensures ∙ c.processor-cpu.ensures) c.index_mut.ensures.value in
@@ -20,7 +20,7 @@ attempt-requires-clause-can c =
 pub attempt-requires-clause-poster : goal.attempt-requires-clause-poster
 attempt-requires-clause-poster c =
     let run = c.requires.run in
-    (entry_here run.0 run.1.0 c.args.self.now (entry_from c.args.entry) c.from.result c.index_mut.result.now run.1.1
+    (entry_here run.0 run.1.0 c.args.self.now (entry_from c.args.entry.now) c.from.result c.index_mut.result.now run.1.1
     c.requires.lawful (c.from.ensures ∙ c.processor-cpu.ensures) c.index_mut.ensures.value).poster
 
 pub end_event-requires-clause-posted : goal.end_event-requires-clause-posted
@@ -28,7 +28,7 @@ end_event-requires-clause-posted c =
     let run = c.requires.run in
     let p = c.args.self.now in
     let b = c.args.buffer.now in
-    let entry = entry_from c.args.entry in
+    let entry = entry_from c.args.entry.now in
     let n = c.index_mut.result.now in
     let same = c.from.ensures ∙ c.processor-cpu.ensures in
     can_deliver run.0 run.1.0 p entry c.processor-cpu.result c.from.result n c.attempt.new.self b c.attempt.new.buffer
@@ -40,7 +40,7 @@ pub returns-then-attempt-clause-goes : goal.returns-then-attempt-clause-goes
 returns-then-attempt-clause-goes c =
     let p = c.args.self.now in
     let b = c.args.buffer.now in
-    let entry = entry_from c.args.entry in
+    let entry = entry_from c.args.entry.now in
     let n = c.index_mut.result.now in
     let same = c.from.ensures ∙ c.processor-cpu.ensures in
     let mid : Processors = record p { nodes = with_item p.nodes c.from.result c.attempt.new.self } in
@@ -58,7 +58,7 @@ returns-then-attempt-clause-told c =
     let run = c.requires.run in
     let p = c.args.self.now in
     let b = c.args.buffer.now in
-    let entry = entry_from c.args.entry in
+    let entry = entry_from c.args.entry.now in
     let n = c.index_mut.result.now in
     let same = c.from.ensures ∙ c.processor-cpu.ensures in
     let tried = subst (λ d. HasTried entry d n c.attempt.new.self b c.attempt.new.buffer) c.if-attempt.true
@@ -83,7 +83,7 @@ pub returns-else-attempt-clause-goes : goal.returns-else-attempt-clause-goes
 returns-else-attempt-clause-goes c = λ m r is.
     let p = c.args.self.now in
     let b = c.args.buffer.now in
-    let entry = entry_from c.args.entry in
+    let entry = entry_from c.args.entry.now in
     let n = c.index_mut.result.now in
     let same = c.from.ensures ∙ c.processor-cpu.ensures in
     (stays_gone m r p (record p { nodes = with_item p.nodes c.from.result c.attempt.new.self }) entry c.from.result n
@@ -98,7 +98,7 @@ returns-else-attempt-clause-told c =
     let run = c.requires.run in
     let p = c.args.self.now in
     let b = c.args.buffer.now in
-    let entry = entry_from c.args.entry in
+    let entry = entry_from c.args.entry.now in
     let n = c.index_mut.result.now in
     let same = c.from.ensures ∙ c.processor-cpu.ensures in
     let tried = subst (λ d. HasTried entry d n c.attempt.new.self b c.attempt.new.buffer) c.if-attempt.false

@@ -18,16 +18,16 @@ take-requires-clause-few g c =
 
 pub take-requires-clause-lawful : goal.take-requires-clause-lawful
 take-requires-clause-lawful g c =
-    subst (λ (p : Processors). is_entry p.machine.now (entry_from c.args.entry) ≡ true)
+    subst (λ (p : Processors). is_entry p.machine.now (entry_from c.args.entry.now) ≡ true)
     (sym c.make_room.ensures.processors) c.requires.lawful
 
 pub returns : goal.returns
 returns g c =
     on_both c.take.result c.take.ensures.goes c.take.ensures.told
     (λ goes added. told_and (λ steps. g.L.Listener.hears c.args.listener.now steps c.make_room.new.listener)
-    (after_entry (entry_from c.args.entry)) c.args.self.now c.make_room.new.self
+    (after_entry (entry_from c.args.entry.now)) c.args.self.now c.make_room.new.self
     (record { processors = c.take.new.self; kept = record c.make_room.new.self.kept { buffer = c.take.new.buffer } })
     c.in_ok-make_room.ensures.told
-    (taken_come (entry_from c.args.entry) c.make_room.new.self
+    (taken_come (entry_from c.args.entry.now) c.make_room.new.self
     (record { processors = c.take.new.self; kept = record c.make_room.new.self.kept { buffer = c.take.new.buffer } })
     refl goes added))
